@@ -1,0 +1,4 @@
+pub mod Lists
+pub mod Row
+pub mod Validity
+pub mod Distance
