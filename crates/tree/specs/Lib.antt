@@ -1,0 +1,4 @@
+pub mod Sorting
+pub mod Layout
+pub mod Range
+pub mod Nearest
