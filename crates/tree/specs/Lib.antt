@@ -1,4 +1,5 @@
 pub mod Sorting
 pub mod Layout
+pub mod Guided
 pub mod Range
 pub mod Nearest
