@@ -13,7 +13,7 @@ use Rattle.bucket.specs.Refusals.{badTag, badMeasure, tagLive, tableFull
 use Rattle.bucket.specs.Geometry.{room, workRows}
 use Rattle.bucket.specs.Table.{Table, orderOf, inUse, liveTotal, cleared}
 use Rattle.bucket.specs.Checks.{changeRefusal}
-use Rattle.bucket.specs.Rebuild.{Rebuilt, liveIn, rebuilt}
+use Rattle.bucket.specs.Rebuild.{Rebuilt, liveHead, rebuilt}
 use Rattle.bucket.specs.LookUp.{isLiveTag}
 
 -- after 23 and 24: 1, 2, 20, 22
@@ -50,8 +50,8 @@ lowestEmpty t = emptyFrom t 0 (suc (orderOf t))
 
 -- the new head, then the live head of buckets 0 to k - 1 in slot order
 unfoldable pub gathered : Table → ℕ → Profile → List Row
-unfolding rowOf liveIn countFrom lowestEmpty
-gathered t tag p = rowOf tag p 0 0 ∷ liveIn t (countFrom 0 (lowestEmpty t))
+unfolding rowOf liveHead countFrom lowestEmpty
+gathered t tag p = rowOf tag p 0 0 ∷ liveHead t (countFrom 0 (lowestEmpty t))
 
 -- n head go to bucket k if they are more than 2^(k-1), else to k - 1
 unfoldable pub addBucket : ℕ → ℕ → ℕ

@@ -14,9 +14,9 @@ pub record Rebuilt : Type 0 where
   pub distances : ℕ
 
 -- the live head of the buckets listed, each bucket's in slot order
-unfoldable pub liveIn : Table → List ℕ → List Row
+unfoldable pub liveHead : Table → List ℕ → List Row
 unfolding concat liveSlots
-liveIn t ks = concat (map (liveSlots t) ks)
+liveHead t ks = concat (map (liveSlots t) ks)
 
 -- the buckets listed become empty, and bucket k is built of these rows: c(n) distances
 unfoldable pub rebuilt : Table → List ℕ → ℕ → List Row → Rebuilt

@@ -12,7 +12,7 @@ use Rattle.bucket.specs.Refusals.{badTag, tagNotLive}
 use Rattle.bucket.specs.Geometry.{room, firstSlot, workRows}
 use Rattle.bucket.specs.Table.{Table, orderOf, builtOf, liveOf, inUse, putSizes, emptied, cleared}
 use Rattle.bucket.specs.Checks.{changeRefusal}
-use Rattle.bucket.specs.Rebuild.{Rebuilt, liveIn, rebuilt}
+use Rattle.bucket.specs.Rebuild.{Rebuilt, liveHead, rebuilt}
 use Rattle.bucket.specs.LookUp.{Place, find, isLiveTag}
 
 -- after 23 and 24: 1, 21
@@ -37,8 +37,8 @@ marked t place =
 
 -- the head of the buckets listed, bucket k's first, built in one bucket
 unfoldable pub united : Table → List ℕ → ℕ → Rebuilt
-unfolding rebuilt liveIn
-united t ks k = rebuilt t ks k (liveIn t ks)
+unfolding rebuilt liveHead
+united t ks k = rebuilt t ks k (liveHead t ks)
 
 -- bucket k has 2^(k-2) live, k ≥ 2: with k - 1 in use the two unite, in k if k - 1 had more than 2^(k-2) live, else in k - 1;
 -- else with k - 2 in use those two, in k - 1; else bucket k alone, in k - 2
