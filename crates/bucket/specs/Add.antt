@@ -18,7 +18,6 @@ use Rattle.bucket.specs.LookUp.{isLiveTag}
 
 -- after 23 and 24: 1, 2, 20, 22
 unfoldable pub addRefusal : Table → List Row → ℕ → Profile → ℕ
-unfolding changeRefusal validTag validMeasures isLiveTag room orderOf liveTotal
 addRefusal t work tag p =
     elim (changeRefusal work t) [
       | suc n ↦ suc n
@@ -39,36 +38,29 @@ addRefusal t work tag p =
 
 -- the lowest empty bucket of the n from k on, or the one after them
 unfoldable pub emptyFrom : Table → ℕ → ℕ → ℕ
-unfolding inUse
 emptyFrom t k zero = k
 emptyFrom t k (suc n) = elim (inUse t k) [ true ↦ emptyFrom t (suc k) n | false ↦ k ]
 
 -- the lowest empty bucket, or T + 1 if none is
 unfoldable pub lowestEmpty : Table → ℕ
-unfolding emptyFrom orderOf
 lowestEmpty t = emptyFrom t 0 (suc (orderOf t))
 
 -- the new head, then the live head of buckets 0 to k - 1 in slot order
 unfoldable pub gathered : Table → ℕ → Profile → List Row
-unfolding rowOf liveHead countFrom lowestEmpty
 gathered t tag p = rowOf tag p 0 0 ∷ liveHead t (countFrom 0 (lowestEmpty t))
 
 -- n head go to bucket k if they are more than 2^(k-1), else to k - 1
 unfoldable pub addBucket : ℕ → ℕ → ℕ
-unfolding room
 addBucket k n = elim (ltb (room k) (2 * n)) [ true ↦ k | false ↦ k - 1 ]
 
 unfoldable pub addTarget : Table → ℕ → Profile → ℕ
-unfolding addBucket lowestEmpty gathered
 addTarget t tag p = addBucket (lowestEmpty t) (length (gathered t tag p))
 
 unfoldable pub added : Table → ℕ → Profile → Rebuilt
-unfolding rebuilt countFrom lowestEmpty addTarget gathered
 added t tag p = rebuilt t (countFrom 0 (lowestEmpty t)) (addTarget t tag p) (gathered t tag p)
 
 -- the reply and the areas after the call
 unfoldable pub addReply : Table → List Row → ℕ → Profile → Added
-unfolding addRefusal addTarget added
 addReply t work tag p =
     elim (addRefusal t work tag p) [
       | zero ↦ record { refusal = 0; bucket = addTarget t tag p; distances = added t tag p .distances }
@@ -76,9 +68,7 @@ addReply t work tag p =
     ]
 
 unfoldable pub tableAfterAdd : Table → List Row → ℕ → Profile → Table
-unfolding addRefusal added
 tableAfterAdd t work tag p = elim (addRefusal t work tag p) [ zero ↦ added t tag p .table | suc n ↦ t ]
 
 unfoldable pub workAfterAdd : Table → List Row → ℕ → Profile → List Row
-unfolding addRefusal cleared zeroRow workRows orderOf
 workAfterAdd t work tag p = elim (addRefusal t work tag p) [ zero ↦ cleared zeroRow (workRows (orderOf t)) work | suc n ↦ work ]

@@ -12,7 +12,6 @@ use Rattle.bucket.specs.Table.{Table, pairRow}
 
 -- 3, 4, 23; nothing of the table is read but its length
 unfoldable pub freshRefusal : ℕ → ℕ → ℕ → ℕ
-unfolding validOrder lastMetric tableRows
 freshRefusal rows order metric =
     elim (validOrder order) [
       | false ↦ badOrder
@@ -25,9 +24,7 @@ freshRefusal rows order metric =
 
 -- the header, then zeros in every size and slot; rows past the table keep their content
 unfoldable pub freshTable : ℕ → ℕ → Table → Table
-unfolding pairRow tableRows zeroRow
 freshTable order metric t = pairRow order metric ∷ replicate (tableRows order - 1) zeroRow ++ drop (tableRows order) t
 
 unfoldable pub tableAfterFresh : ℕ → ℕ → Table → Table
-unfolding freshRefusal freshTable
 tableAfterFresh order metric t = elim (freshRefusal (length t) order metric) [ zero ↦ freshTable order metric t | suc n ↦ t ]

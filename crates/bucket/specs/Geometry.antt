@@ -13,7 +13,6 @@ unfoldable pub mostOrder : ℕ
 mostOrder = 12
 
 unfoldable pub validOrder : ℕ → Bool
-unfolding leastOrder mostOrder
 validOrder order = leb leastOrder order && leb order mostOrder
 
 -- bucket k has 2^k slots; at most 2^T head are live, and the work area is as many rows
@@ -22,7 +21,6 @@ room k = 2 ^ k
 
 -- buckets are 0 to T
 unfoldable pub bucketsOf : ℕ → List ℕ
-unfolding countFrom
 bucketsOf order = countFrom 0 (suc order)
 
 -- row 0 is the header, row 1 + k has the sizes of bucket k, and T + 1 + 2^k is the row of its first slot
@@ -33,14 +31,11 @@ unfoldable pub sizesRow : ℕ → ℕ
 sizesRow k = 1 + k
 
 unfoldable pub firstSlot : ℕ → ℕ → ℕ
-unfolding room
 firstSlot order k = order + 1 + room k
 
 -- a table's rows in all, and the rows of the work area
 unfoldable pub tableRows : ℕ → ℕ
-unfolding firstSlot
 tableRows order = firstSlot order (suc order)
 
 unfoldable pub workRows : ℕ → ℕ
-unfolding room
 workRows order = room order

@@ -24,29 +24,24 @@ pub record Place : Type 0 where
 
 -- the first live slot with the tag among the slots of bucket k from slot i on
 unfoldable pub placeFrom : ℕ → ℕ → ℕ → List Row → Option Place
-unfolding isLive tagOf
 placeFrom tag k i [] = none
 placeFrom tag k i (r ∷ rs) =
     elim (isLive r && eqb (tagOf r) tag) [ true ↦ some (record { bucket = k; slot = i; row = r }) | false ↦ placeFrom tag k (suc i) rs ]
 
 -- the first of the buckets listed that has one
 unfoldable pub placeIn : Table → ℕ → List ℕ → Option Place
-unfolding placeFrom slotsOf
 placeIn t tag [] = none
 placeIn t tag (k ∷ ks) = elim (placeFrom tag k 0 (slotsOf t k)) [ some place ↦ some place | none ↦ placeIn t tag ks ]
 
 -- the live head with a tag: lowest bucket first, then lowest slot
 unfoldable pub find : Table → ℕ → Option Place
-unfolding placeIn bucketsOf orderOf
 find t tag = placeIn t tag (bucketsOf (orderOf t))
 
 unfoldable pub isLiveTag : Table → ℕ → Bool
-unfolding find
 isLiveTag t tag = elim (find t tag) [ some place ↦ true | none ↦ false ]
 
 -- after 23 and 24: 1, 21
 unfoldable pub lookUpRefusal : Table → ℕ → ℕ
-unfolding readRefusal validTag isLiveTag
 lookUpRefusal t tag =
     elim (readRefusal t) [
       | suc n ↦ suc n
@@ -62,11 +57,9 @@ unfoldable pub noProfile : Profile
 noProfile = record { measures = pos 0 ∷ pos 0 ∷ pos 0 ∷ pos 0 ∷ []; code = 0 ∷ 0 ∷ [] }
 
 unfoldable pub notFound : ℕ → LookedUp
-unfolding noProfile
 notFound n = record { refusal = n; bucket = 0; profile = noProfile }
 
 unfoldable pub lookUpReply : Table → ℕ → LookedUp
-unfolding lookUpRefusal find notFound profileOf
 lookUpReply t tag =
     elim (lookUpRefusal t tag) [
       | suc n ↦ notFound (suc n)

@@ -15,11 +15,9 @@ pub record Rebuilt : Type 0 where
 
 -- the live head of the buckets listed, each bucket's in slot order
 unfoldable pub liveHead : Table → List ℕ → List Row
-unfolding concat liveSlots
 liveHead t ks = concat (map (liveSlots t) ks)
 
 -- the buckets listed become empty, and bucket k is built of these rows: c(n) distances
 unfoldable pub rebuilt : Table → List ℕ → ℕ → List Row → Rebuilt
-unfolding putBucket layout distance metricOf emptied cost
 rebuilt t ks k rows =
     record { table = putBucket k (layout (distance (metricOf t)) rows) (length rows) (emptied ks t); distances = cost (length rows) }

@@ -17,7 +17,6 @@ use Rattle.bucket.specs.LookUp.{Place, find, isLiveTag}
 
 -- after 23 and 24: 1, 21
 unfoldable pub removeRefusal : Table → List Row → ℕ → ℕ
-unfolding changeRefusal validTag isLiveTag
 removeRefusal t work tag =
     elim (changeRefusal work t) [
       | suc n ↦ suc n
@@ -30,20 +29,17 @@ removeRefusal t work tag =
 
 -- the slot marked dead, and its bucket's live size one less
 unfoldable pub marked : Table → Place → Table
-unfolding putSizes builtOf liveOf firstSlot orderOf withMark
 marked t place =
     let k = place .bucket in
     putSizes k (builtOf t k) (liveOf t k - 1) (set t (firstSlot (orderOf t) k + place .slot) (withMark 1 (place .row)))
 
 -- the head of the buckets listed, bucket k's first, built in one bucket
 unfoldable pub united : Table → List ℕ → ℕ → Rebuilt
-unfolding rebuilt liveHead
 united t ks k = rebuilt t ks k (liveHead t ks)
 
 -- bucket k has 2^(k-2) live, k ≥ 2: with k - 1 in use the two unite, in k if k - 1 had more than 2^(k-2) live, else in k - 1;
 -- else with k - 2 in use those two, in k - 1; else bucket k alone, in k - 2
 unfoldable pub thinned : Table → ℕ → Rebuilt
-unfolding united inUse room liveOf
 thinned t k =
     elim (inUse t (k - 1)) [
       | true ↦ united t (k ∷ (k - 1) ∷ []) (elim (ltb (room (k - 2)) (liveOf t (k - 1))) [ true ↦ k | false ↦ k - 1 ])
@@ -52,7 +48,6 @@ thinned t k =
 
 -- after the marking: no live head empties the bucket, enough of them is the end, else it is too thin
 unfoldable pub settled : Table → ℕ → Rebuilt
-unfolding liveOf emptied room thinned
 settled t k =
     elim (eqb (liveOf t k) 0) [
       | true ↦ record { table = emptied (k ∷ []) t; distances = 0 }
@@ -60,12 +55,10 @@ settled t k =
     ]
 
 unfoldable pub removed : Table → ℕ → Rebuilt
-unfolding find settled marked
 removed t tag = elim (find t tag) [ some place ↦ settled (marked t place) (place .bucket) | none ↦ record { table = t; distances = 0 } ]
 
 -- the reply and the areas after the call
 unfoldable pub removeReply : Table → List Row → ℕ → Removed
-unfolding removeRefusal removed
 removeReply t work tag =
     elim (removeRefusal t work tag) [
       | zero ↦ record { refusal = 0; distances = removed t tag .distances }
@@ -73,9 +66,7 @@ removeReply t work tag =
     ]
 
 unfoldable pub tableAfterRemove : Table → List Row → ℕ → Table
-unfolding removeRefusal removed
 tableAfterRemove t work tag = elim (removeRefusal t work tag) [ zero ↦ removed t tag .table | suc n ↦ t ]
 
 unfoldable pub workAfterRemove : Table → List Row → ℕ → List Row
-unfolding removeRefusal cleared zeroRow workRows orderOf
 workAfterRemove t work tag = elim (removeRefusal t work tag) [ zero ↦ cleared zeroRow (workRows (orderOf t)) work | suc n ↦ work ]

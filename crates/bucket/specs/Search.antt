@@ -21,26 +21,21 @@ pub record Answer : Type 0 where
   pub count : ℕ
 
 unfoldable pub bucketsDown : Table → List ℕ
-unfolding bucketsOf orderOf
 bucketsDown t = reverse (bucketsOf (orderOf t))
 
 unfoldable pub rangeMet : Table → Profile → ℕ → Met
-unfolding both rangeTree distance metricOf slotsOf nothing bucketsDown
 rangeMet t query radius =
     foldr (λ k met. both (rangeTree (distance (metricOf t)) query radius (slotsOf t k)) met) nothing (bucketsDown t)
 
 unfoldable pub rangeAnswer : Table → Profile → ℕ → Answer
-unfolding rangeMet ordered
 rangeAnswer t query radius = let met = rangeMet t query radius in record { entries = ordered (met .hits); count = met .count }
 
 -- the kept entries and the count pass through every bucket
 unfoldable pub nearestTally : Table → Profile → ℕ → Tally
-unfolding nearestTree distance metricOf slotsOf bucketsDown
 nearestTally t query k =
     foldl (λ tally b. nearestTree (distance (metricOf t)) query k tally (slotsOf t b)) (record { kept = []; count = 0 }) (bucketsDown t)
 
 unfoldable pub nearestAnswer : Table → Profile → ℕ → Answer
-unfolding nearestTally
 nearestAnswer t query k = let tally = nearestTally t query k in record { entries = tally .kept; count = tally .count }
 
 -- 6: fewer entries in the area than in the reply
@@ -49,7 +44,6 @@ fitRefusal area a = elim (leb (length (a .entries)) (length area)) [ true ↦ 0 
 
 -- after 23 and 24: 2, 6
 unfoldable pub rangeRefusal : Table → List Entry → Profile → ℕ → ℕ
-unfolding readRefusal validMeasures fitRefusal rangeAnswer
 rangeRefusal t area query radius =
     elim (readRefusal t) [
       | suc n ↦ suc n
@@ -58,7 +52,6 @@ rangeRefusal t area query radius =
 
 -- after 23 and 24: 2, 5, 6
 unfoldable pub nearestRefusal : Table → List Entry → Profile → ℕ → ℕ
-unfolding readRefusal validMeasures fitRefusal nearestAnswer
 nearestRefusal t area query k =
     elim (readRefusal t) [
       | suc n ↦ suc n
@@ -75,27 +68,21 @@ searchReply zero a = record { refusal = 0; found = length (a .entries); distance
 searchReply (suc n) a = record { refusal = suc n; found = 0; distances = 0 }
 
 unfoldable pub zeroEntry : Entry
-unfolding entry
 zeroEntry = entry 0 0
 
 -- the result area by the refusal: the entries and zeros; all zero at 6; else as it was
 unfoldable pub resultAfter : ℕ → List Entry → Answer → List Entry
-unfolding zeroEntry
 resultAfter zero area a = a .entries ++ replicate (length area - length (a .entries)) zeroEntry
 resultAfter (suc n) area a = elim (eqb (suc n) resultShort) [ true ↦ replicate (length area) zeroEntry | false ↦ area ]
 
 unfoldable pub rangeReply : Table → List Entry → Profile → ℕ → Searched
-unfolding searchReply rangeRefusal rangeAnswer
 rangeReply t area query radius = let a = rangeAnswer t query radius in searchReply (rangeRefusal t area query radius) a
 
 unfoldable pub resultAfterRange : Table → List Entry → Profile → ℕ → List Entry
-unfolding resultAfter rangeRefusal rangeAnswer
 resultAfterRange t area query radius = let a = rangeAnswer t query radius in resultAfter (rangeRefusal t area query radius) area a
 
 unfoldable pub nearestReply : Table → List Entry → Profile → ℕ → Searched
-unfolding searchReply nearestRefusal nearestAnswer
 nearestReply t area query k = let a = nearestAnswer t query k in searchReply (nearestRefusal t area query k) a
 
 unfoldable pub resultAfterNearest : Table → List Entry → Profile → ℕ → List Entry
-unfolding resultAfter nearestRefusal nearestAnswer
 resultAfterNearest t area query k = let a = nearestAnswer t query k in resultAfter (nearestRefusal t area query k) area a

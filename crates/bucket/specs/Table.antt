@@ -19,60 +19,48 @@ unfoldable pub rowAt : Table → ℕ → Row
 rowAt t i = getD t i []
 
 unfoldable pub orderOf : Table → ℕ
-unfolding rowAt word headerRow
 orderOf t = word (rowAt t headerRow) 0
 
 unfoldable pub metricOf : Table → ℕ
-unfolding rowAt word headerRow
 metricOf t = word (rowAt t headerRow) 1
 
 -- the slots filled at the bucket's last build, dead ones included, and those that are live
 unfoldable pub builtOf : Table → ℕ → ℕ
-unfolding rowAt word sizesRow
 builtOf t k = word (rowAt t (sizesRow k)) 0
 
 unfoldable pub liveOf : Table → ℕ → ℕ
-unfolding rowAt word sizesRow
 liveOf t k = word (rowAt t (sizesRow k)) 1
 
 -- a bucket is in use when its built size is not 0
 unfoldable pub inUse : Table → ℕ → Bool
-unfolding builtOf
 inUse t k = not (eqb (builtOf t k) 0)
 
 unfoldable pub liveTotal : Table → ℕ
-unfolding total liveOf bucketsOf orderOf
 liveTotal t = total (map (liveOf t) (bucketsOf (orderOf t)))
 
 -- the built slots of bucket k, and those of them that are live
 unfoldable pub slotsOf : Table → ℕ → List Row
-unfolding builtOf firstSlot orderOf
 slotsOf t k = take (builtOf t k) (drop (firstSlot (orderOf t) k) t)
 
 unfoldable pub liveSlots : Table → ℕ → List Row
-unfolding select isLive slotsOf
 liveSlots t k = select isLive (slotsOf t k)
 
 -- a header or sizes row: two words and zeros
 unfoldable pub pairRow : ℕ → ℕ → Row
-unfolding zeroRow
 pairRow a b = set (set zeroRow 0 a) 1 b
 
 -- the sizes of bucket k, their row written whole
 unfoldable pub putSizes : ℕ → ℕ → ℕ → Table → Table
-unfolding sizesRow pairRow
 putSizes k built live t = set t (sizesRow k) (pairRow built live)
 
 -- bucket k with these slots, `live` of them live, and zeros in the rest of its room
 unfoldable pub putBucket : ℕ → List Row → ℕ → Table → Table
-unfolding putSizes firstSlot orderOf room zeroRow
 putBucket k slots live t =
     putSizes k (length slots) live
     (paste t (firstSlot (orderOf t) k) (slots ++ replicate (room k - length slots) zeroRow) (room k))
 
 -- the buckets listed, emptied
 unfoldable pub emptied : List ℕ → Table → Table
-unfolding putBucket
 emptied ks t = foldl (λ u k. putBucket k [] 0 u) t ks
 
 -- the first n elements of an area zeroed, and the rest kept

@@ -47,12 +47,10 @@ pub record History : Type 0 where
 
 -- the table, its ledger and the book after the list. The book starts with nothing in it, and the first call sets its order and metric
 unfoldable pub held : History → Held
-unfolding heldAfter before
 held h = heldAfter (before (h .found)) (h .first ∷ h .rest)
 
 unfoldable pub blankBook : Book
 blankBook = record { order = 0; metric = 0; head = [] }
 
 unfoldable pub book : History → Book
-unfolding bookAfter blankBook
 book h = bookAfter blankBook (h .first ∷ h .rest)

@@ -28,7 +28,6 @@ pub record Head : Type 0 where
   pub profile : Profile
 
 unfoldable pub headOf : Row → Head
-unfolding tagOf profileOf
 headOf row = record { tag = tagOf row; profile = profileOf row }
 
 pub record Book : Type 0 where
@@ -47,11 +46,9 @@ lengthsOf lent = record { table = length (lent .table); work = length (lent .wor
 
 -- the head with a tag; it is live where there is one
 unfoldable pub withTag : ℕ → List Head → List Head
-unfolding select
 withTag tag head = select (λ h. eqb (h .tag) tag) head
 
 unfoldable pub profileIn : List Head → Profile
-unfolding noProfile
 profileIn [] = noProfile
 profileIn (h ∷ hs) = h .profile
 
@@ -62,11 +59,9 @@ enough true rest = rest
 
 -- 1, then 20 or 21 by whether the tag is live
 unfoldable pub tagRefusal : Book → ℕ → ℕ
-unfolding validTag withTag
 tagRefusal b tag = elim (validTag tag) [ false ↦ badTag | true ↦ elim (withTag tag (b .head)) [ [] ↦ tagNotLive | h ∷ hs ↦ 0 ] ]
 
 unfoldable pub addRefused : Book → ℕ → Profile → ℕ
-unfolding validTag validMeasures withTag room
 addRefused b tag p =
     elim (validTag tag) [
       | false ↦ badTag
@@ -83,15 +78,12 @@ addRefused b tag p =
 
 -- the scan: the entry of every head, of those within a radius, of the first k
 unfoldable pub scanned : Book → Profile → List Entry
-unfolding entry distance
 scanned b q = map (λ h. entry (h .tag) (distance (b .metric) (h .profile) q)) (b .head)
 
 unfoldable pub bookRange : Book → Profile → ℕ → List Entry
-unfolding ordered select entryDistance scanned
 bookRange b q r = ordered (select (λ e. leb (entryDistance e) r) (scanned b q))
 
 unfoldable pub bookNearest : Book → Profile → ℕ → List Entry
-unfolding keep scanned
 bookNearest b q k = keep k (scanned b q)
 
 -- 6: fewer entries in the area than in the reply
@@ -100,7 +92,6 @@ fits area entries = elim (leb (length entries) area) [ true ↦ 0 | false ↦ re
 
 -- the refusal of a call, the first number that applies
 unfoldable pub bookRefusal : Book → Call → Lengths → ℕ
-unfolding freshRefusal loadRefusal enough tableRows workRows addRefused tagRefusal validMeasures fits bookRange bookNearest
 bookRefusal b (fresh order metric) n = freshRefusal (n .table) order metric
 bookRefusal b (load image) n = loadRefusal (n .table) image
 bookRefusal b (add tag p) n =
@@ -121,7 +112,6 @@ bookRefusal b write n = 0
 
 -- the book after an accepted call
 unfoldable pub entered : Book → Call → Book
-unfolding orderIn metricIn headOf liveRows select
 entered b (fresh order metric) = record { order = order; metric = metric; head = [] }
 entered b (load image) = record { order = orderIn image; metric = metricIn image; head = map headOf (liveRows image) }
 entered b (add tag p) = record { order = b .order; metric = b .metric; head = record { tag = tag; profile = p } ∷ b .head }
@@ -133,7 +123,6 @@ entered b write = b
 
 -- what the book shows at an accepted call
 unfoldable pub bookShows : Book → Call → Shown
-unfolding showsRefusal showsProfile showsEntries profileIn withTag bookRange bookNearest
 bookShows b (fresh order metric) = showsRefusal 0
 bookShows b (load image) = showsRefusal 0
 bookShows b (add tag p) = showsRefusal 0
@@ -145,20 +134,16 @@ bookShows b write = showsRefusal 0
 
 -- one call: a refused one leaves the book as it was
 unfoldable pub bookStep : Book → Call → Lengths → Book
-unfolding bookRefusal entered
 bookStep b c n = elim (bookRefusal b c n) [ zero ↦ entered b c | suc m ↦ b ]
 
 unfoldable pub bookShown : Book → Call → Lengths → Shown
-unfolding bookRefusal bookShows showsRefusal
 bookShown b c n = elim (bookRefusal b c n) [ zero ↦ bookShows b c | suc m ↦ showsRefusal (suc m) ]
 
 -- the whole list
 unfoldable pub bookAfter : Book → List Step → Book
-unfolding bookStep lengthsOf
 bookAfter b [] = b
 bookAfter b (s ∷ ss) = bookAfter (bookStep b (s .call) (lengthsOf (s .lent))) ss
 
 unfoldable pub bookShowsAll : Book → List Step → List Shown
-unfolding bookStep bookShown lengthsOf
 bookShowsAll b [] = []
 bookShowsAll b (s ∷ ss) = bookShown b (s .call) (lengthsOf (s .lent)) ∷ bookShowsAll (bookStep b (s .call) (lengthsOf (s .lent))) ss

@@ -56,8 +56,6 @@ unfoldable pub withTable : Table → Lent → Lent
 withTable t lent = record { table = t; work = lent .work; result = lent .result; image = lent .image }
 
 unfoldable pub outcome : Call → Lent → Outcome
-unfolding withTable freshRefusal tableAfterFresh loadRefusal tableAfterLoad addReply tableAfterAdd workAfterAdd removeReply tableAfterRemove
-    workAfterRemove lookUpReply rangeReply resultAfterRange nearestReply resultAfterNearest writeReply imageAfterWrite
 outcome (fresh order metric) lent =
     record {
       reply = number (freshRefusal (length (lent .table)) order metric);

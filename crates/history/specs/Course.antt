@@ -26,7 +26,6 @@ unfoldable pub leftBy : Table → Table → Table
 leftBy left area = area ++ drop (length area) left
 
 unfoldable pub stepOutcome : Table → Step → Outcome
-unfolding outcome withTable overlaid
 stepOutcome left s = outcome (s .call) (withTable (overlaid left (s .lent .table)) (s .lent))
 
 -- what is compared of a call: its refusal, look up's profile, and the number found with the entries; zeros where the call has none of these.
@@ -38,19 +37,16 @@ pub record Shown : Type 0 where
   pub entries : List Entry
 
 unfoldable pub showsRefusal : ℕ → Shown
-unfolding noProfile
 showsRefusal n = record { refusal = n; profile = noProfile; found = 0; entries = [] }
 
 unfoldable pub showsProfile : ℕ → Profile → Shown
 showsProfile n p = record { refusal = n; profile = p; found = 0; entries = [] }
 
 unfoldable pub showsEntries : ℕ → ℕ → List Entry → Shown
-unfolding noProfile
 showsEntries n found entries = record { refusal = n; profile = noProfile; found = found; entries = entries }
 
 -- of a reply, with the result area after the call
 unfoldable pub shown : Reply → List Entry → Shown
-unfolding showsRefusal showsProfile showsEntries
 shown (number n) area = showsRefusal n
 shown (added a) area = showsRefusal (a .refusal)
 shown (removed r) area = showsRefusal (r .refusal)
@@ -76,7 +72,6 @@ rebuilds (written w) = 0
 -- an accepted call in the ledger, by its refusal and its distances. A load starts the sums afresh, its live head as adds and its dead ones as
 -- removals; so does fresh. A refused call is in no sum
 unfoldable pub noted : Call → ℕ → ℕ → Ledger → Ledger
-unfolding liveRows slotsIn
 noted call (suc n) d l = l
 noted (fresh order metric) zero d l = record { adds = 0; removals = 0; distances = 0 }
 noted (load image) zero d l =
@@ -96,7 +91,6 @@ pub record Held : Type 0 where
 
 -- one call, and what it shows
 unfoldable pub stepped : Held → Step → Held
-unfolding stepOutcome leftBy noted shown rebuilds
 stepped h s =
     let o = stepOutcome (h .left) s in
     record {
@@ -105,16 +99,13 @@ stepped h s =
     }
 
 unfoldable pub shownAt : Held → Step → Shown
-unfolding stepOutcome shown
 shownAt h s = let o = stepOutcome (h .left) s in shown (o .reply) (o .areas .result)
 
 -- the whole list: what is held after it, and what each call showed
 unfoldable pub heldAfter : Held → List Step → Held
-unfolding stepped
 heldAfter h [] = h
 heldAfter h (s ∷ ss) = heldAfter (stepped h s) ss
 
 unfoldable pub shownBy : Held → List Step → List Shown
-unfolding stepped shownAt
 shownBy h [] = []
 shownBy h (s ∷ ss) = shownAt h s ∷ shownBy (stepped h s) ss

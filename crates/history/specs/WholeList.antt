@@ -19,17 +19,14 @@ use Rattle.history.specs.Begun.{History, before, held, blankBook, book}
 
 -- every bucket in use was built more than half full
 unfoldable pub moreThanHalfFull : Table → Bool
-unfolding every inUse room builtOf bucketsOf orderOf
 moreThanHalfFull t = every (λ k. not (inUse t k) || ltb (room k) (2 * builtOf t k)) (bucketsOf (orderOf t))
 
 -- the buckets in which a live slot has the tag
 unfoldable pub bucketsWith : Table → ℕ → List ℕ
-unfolding select every tagOf liveSlots bucketsOf orderOf
 bucketsWith t tag = select (λ k. not (every (λ row. not (eqb (tagOf row) tag)) (liveSlots t k))) (bucketsOf (orderOf t))
 
 -- the live head in the table's built slots
 unfoldable pub headIn : Table → List Head
-unfolding headOf liveHead bucketsOf orderOf
 headIn t = map headOf (liveHead t (bucketsOf (orderOf t)))
 
 -- the bound on all rebuilds together: 4·T·(T+1)·A + 11·T·R

@@ -18,7 +18,6 @@ unfoldable pub wordBytes : ℕ
 wordBytes = 4
 
 unfoldable pub bytesOfWords : List ℕ → List ℕ
-unfolding concat bytesOf wordBytes
 bytesOfWords ws = concat (map (bytesOf wordBytes) ws)
 
 -- order, metric and two zero bytes come first, then a pair of 16-bit sizes for each bucket
@@ -29,11 +28,9 @@ unfoldable pub sizeBytes : ℕ
 sizeBytes = 2
 
 unfoldable pub pairBytes : ℕ
-unfolding sizeBytes
 pairBytes = 2 * sizeBytes
 
 unfoldable pub sizesEnd : ℕ → ℕ
-unfolding headBytes pairBytes
 sizesEnd order = headBytes + pairBytes * suc order
 
 -- a row's first two words are the tag, and the others make its record of 40 bytes
@@ -41,10 +38,8 @@ unfoldable pub tagWords : ℕ
 tagWords = 2
 
 unfoldable pub slotBytes : ℕ
-unfolding wordBytes rowWidth
 slotBytes = wordBytes * rowWidth
 
 -- the whole image, of n built slots in all
 unfoldable pub imageLength : ℕ → ℕ → ℕ
-unfolding sizesEnd slotBytes
 imageLength order n = sizesEnd order + slotBytes * n

@@ -20,36 +20,30 @@ use Rattle.image.specs.Read.{orderIn, metricIn, builtIn, liveIn, slotsIn
 
 -- no number occurs twice
 unfoldable pub distinct : List ℕ → Bool
-unfolding every
 distinct [] = true
 distinct (n ∷ ns) = every (λ m. not (eqb m n)) ns && distinct ns
 
 -- a slot's own fields: tag, measures, and a mark that is 0 or 1
 unfoldable pub fieldsPass : Row → Bool
-unfolding validTag tagOf validMeasures profileOf markOf
 fieldsPass row = validTag (tagOf row) && validMeasures (profileOf row) && leb (markOf row) 1
 
 -- a bucket: its slots' fields, its 0 marks number its live size, no tag twice, and its slots are a tree's layout, marks aside
 unfoldable pub bucketPasses : ℕ → ℕ → List Row → Bool
-unfolding every fieldsPass select isLive distinct tagOf isLayout distance
 bucketPasses metric live slots =
     every fieldsPass slots && eqb (length (select isLive slots)) live && distinct (map tagOf slots) && isLayout (distance metric) slots
 
 -- the live head of the whole image, bucket by bucket
 unfoldable pub liveRows : List ℕ → List Row
-unfolding concat select isLive bucketIn bucketsOf orderIn
 liveRows image = concat (map (λ k. select isLive (bucketIn image k)) (bucketsOf (orderIn image)))
 
 -- every bucket passes, and no live tag occurs twice at all
 unfoldable pub slotsPass : List ℕ → Bool
-unfolding every bucketPasses metricIn liveIn bucketIn bucketsOf orderIn distinct tagOf liveRows
 slotsPass image =
     every (λ k. bucketPasses (metricIn image) (liveIn image k) (bucketIn image k)) (bucketsOf (orderIn image))
     && distinct (map tagOf (liveRows image))
 
 -- once the order is known: size pairs cut 7, sizes 24, total length 7, the table's room 23, then 8
 unfoldable pub bodyRefusal : ℕ → List ℕ → ℕ
-unfolding sizesEnd sizesPass orderIn builtIn liveIn imageLength slotsIn tableRows slotsPass
 bodyRefusal rows image =
     elim (leb (sizesEnd (orderIn image)) (length image)) [
       | false ↦ imageLengthWrong
@@ -70,7 +64,6 @@ bodyRefusal rows image =
 
 -- under 4 bytes 7; order 3; metric 4; the two zero bytes 8; then the body. Of the table only its number of rows is read
 unfoldable pub loadRefusal : ℕ → List ℕ → ℕ
-unfolding headBytes validOrder orderIn metricIn lastMetric bodyRefusal
 loadRefusal rows image =
     elim (ltb (length image) headBytes) [
       | true ↦ imageLengthWrong
@@ -88,10 +81,8 @@ loadRefusal rows image =
 
 -- a fresh table of the image's order and metric, with each bucket put in its place
 unfoldable pub loadedTable : List ℕ → Table → Table
-unfolding putBucket bucketIn liveIn freshTable orderIn metricIn bucketsOf
 loadedTable image t =
     foldl (λ u k. putBucket k (bucketIn image k) (liveIn image k) u) (freshTable (orderIn image) (metricIn image) t) (bucketsOf (orderIn image))
 
 unfoldable pub tableAfterLoad : List ℕ → Table → Table
-unfolding loadRefusal loadedTable
 tableAfterLoad image t = elim (loadRefusal (length t) image) [ zero ↦ loadedTable image t | suc n ↦ t ]

@@ -9,11 +9,9 @@ use Rattle.image.specs.Bytes.{numberOf, wordBytes, headBytes, sizeBytes,
 
 -- the w bytes at a place as a number, and n words from a place on
 unfoldable pub numberAt : List ℕ → ℕ → ℕ → ℕ
-unfolding numberOf
 numberAt image w at = numberOf (take w (drop at image))
 
 unfoldable pub wordsAt : List ℕ → ℕ → ℕ → List ℕ
-unfolding numberAt wordBytes
 wordsAt image zero at = []
 wordsAt image (suc n) at = numberAt image wordBytes at ∷ wordsAt image n (at + wordBytes)
 
@@ -24,26 +22,21 @@ unfoldable pub metricIn : List ℕ → ℕ
 metricIn image = getD image 1 0
 
 unfoldable pub builtIn : List ℕ → ℕ → ℕ
-unfolding numberAt sizeBytes headBytes pairBytes
 builtIn image k = numberAt image sizeBytes (headBytes + pairBytes * k)
 
 unfoldable pub liveIn : List ℕ → ℕ → ℕ
-unfolding numberAt sizeBytes headBytes pairBytes
 liveIn image k = numberAt image sizeBytes (headBytes + pairBytes * k + sizeBytes)
 
 -- the number of built slots before bucket k
 unfoldable pub slotsBefore : List ℕ → ℕ → ℕ
-unfolding total builtIn countFrom
 slotsBefore image k = total (map (builtIn image) (countFrom 0 k))
 
 -- N, the built slots of all buckets
 unfoldable pub slotsIn : List ℕ → ℕ
-unfolding slotsBefore orderIn
 slotsIn image = slotsBefore image (suc (orderIn image))
 
 -- slot i of the image: its tag among the tags, then the rest of its row among the records
 unfoldable pub rowIn : List ℕ → ℕ → Row
-unfolding wordsAt sizesEnd orderIn slotsIn wordBytes tagWords rowWidth
 rowIn image i =
     let tags = sizesEnd (orderIn image) in
     let recordWords = rowWidth - tagWords in
@@ -52,5 +45,4 @@ rowIn image i =
 
 -- the slots of bucket k
 unfoldable pub bucketIn : List ℕ → ℕ → List Row
-unfolding rowIn countFrom slotsBefore builtIn
 bucketIn image k = map (rowIn image) (countFrom (slotsBefore image k) (builtIn image k))

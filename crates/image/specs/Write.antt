@@ -19,35 +19,28 @@ headOf order metric = order ∷ metric ∷ 0 ∷ 0 ∷ []
 
 -- built and live of each bucket from 0 up
 unfoldable pub sizesOf : ℕ → (ℕ → ℕ) → (ℕ → ℕ) → List ℕ
-unfolding concat bytesOf sizeBytes bucketsOf
 sizesOf order built live = concat (map (λ k. bytesOf sizeBytes (built k) ++ bytesOf sizeBytes (live k)) (bucketsOf order))
 
 -- the tags of some rows, and their records
 unfoldable pub tagsOf : List Row → List ℕ
-unfolding concat bytesOfWords tagWords
 tagsOf rows = concat (map (λ row. bytesOfWords (take tagWords row)) rows)
 
 unfoldable pub recordsOf : List Row → List ℕ
-unfolding concat bytesOfWords tagWords
 recordsOf rows = concat (map (λ row. bytesOfWords (drop tagWords row)) rows)
 
 -- the built slots of all buckets, from bucket 0 up
 unfoldable pub allSlots : Table → List Row
-unfolding concat slotsOf bucketsOf orderOf
 allSlots t = concat (map (slotsOf t) (bucketsOf (orderOf t)))
 
 unfoldable pub imageOf : Table → List ℕ
-unfolding headOf sizesOf tagsOf recordsOf orderOf metricOf builtOf liveOf allSlots
 imageOf t = headOf (orderOf t) (metricOf t) ++ sizesOf (orderOf t) (builtOf t) (liveOf t) ++ tagsOf (allSlots t) ++ recordsOf (allSlots t)
 
 -- after 23 and 24: 6, fewer bytes in the area than in the image
 unfoldable pub writeRefusal : Table → List ℕ → ℕ
-unfolding readRefusal imageOf
 writeRefusal t area =
     elim (readRefusal t) [ suc n ↦ suc n | zero ↦ elim (leb (length (imageOf t)) (length area)) [ true ↦ 0 | false ↦ resultShort ] ]
 
 unfoldable pub writeReply : Table → List ℕ → Written
-unfolding writeRefusal imageOf
 writeReply t area =
     elim (writeRefusal t area) [
       | zero ↦ record { refusal = 0; length = length (imageOf t) }
@@ -56,5 +49,4 @@ writeReply t area =
 
 -- the bytes after the image are unchanged
 unfoldable pub imageAfterWrite : Table → List ℕ → List ℕ
-unfolding writeRefusal imageOf
 imageAfterWrite t area = elim (writeRefusal t area) [ zero ↦ imageOf t ++ drop (length (imageOf t)) area | suc n ↦ area ]
