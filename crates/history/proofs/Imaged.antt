@@ -9,6 +9,7 @@ use Rattle.image.specs.Write.{imageOf, imageAfterWrite}
 use Rattle.image.specs.Load.{loadRefusal, tableAfterLoad}
 use Rattle.history.specs.Calls.{Call}
 use Rattle.history.specs.Calls.Call.{fresh, add}
+use Rattle.history.proofs.Computing.{performed}
 use Rattle.history.proofs.Running.{tag, valued, scratch, after, removing, table}
 
 -- 36,000,000,000,000 in bytes, lowest first, is 0, 64, 54, 231, 189, 32, 0, 0, and n below 256 goes into the first
@@ -72,7 +73,7 @@ loadedBack = refl
 -- the byte of slot 2's tag is at 24; tags 3 twice; 1 and 2 changed over; the first threshold (byte 80) 4; 4 live (byte 204); a measure of
 -- 16,777,216 (byte 51); mark 2 (byte 204); a byte too many
 spoiled : List ℕ
-unfolding loadRefusal deadImage
+unfolding performed deadImage
 spoiled =
     loadRefusal 21 deadImage
     ∷ loadRefusal 21 (set deadImage 24 3)

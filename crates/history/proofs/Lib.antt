@@ -1,4 +1,5 @@
 -- The definitions of 01's rules, run on small herds.
+pub mod Computing
 pub mod Running
 pub mod Starred
 pub mod Removals

@@ -9,8 +9,9 @@ use Rattle.metric.specs.Row.{tagOf, thresholdOf, markOf}
 use Rattle.metric.specs.Validity.{nationals}
 use Rattle.tree.specs.Range.{Entry}
 use Rattle.bucket.specs.Table.{Table, slotsOf, builtOf, liveOf}
-use Rattle.history.specs.Calls.{Call, Lent, Reply, Outcome, outcome}
+use Rattle.history.specs.Calls.{Call, Lent, Reply, Outcome}
 use Rattle.history.specs.Calls.Call.{fresh, add, remove}
+use Rattle.history.proofs.Computing.{performed}
 use Rattle.history.specs.Calls.Reply.{number, added, removed, lookedUp, searched, written}
 
 -- country 36, and the first measure only
@@ -39,16 +40,16 @@ replyNumbers (written w) area = w .refusal ∷ w .length ∷ []
 
 -- the replies of some calls in a row, as numbers, and the table after them
 unfoldable pub replies : Table → List Call → List (List ℕ)
-unfolding outcome areas replyNumbers
+unfolding performed areas replyNumbers
 replies t [] = []
 replies t (c ∷ cs) =
-    let o = outcome c (areas t) in
+    let o = performed c (areas t) in
     replyNumbers (o .reply) (o .areas .result) ∷ replies (o .areas .table) cs
 
 unfoldable pub after : Table → List Call → Table
-unfolding outcome areas
+unfolding performed areas
 after t [] = t
-after t (c ∷ cs) = after (outcome c (areas t) .areas .table) cs
+after t (c ∷ cs) = after (performed c (areas t) .areas .table) cs
 
 -- of a bucket: its sizes, then tag, threshold and mark of each built slot
 unfoldable pub contents : Table → ℕ → List (List ℕ)
