@@ -13,11 +13,11 @@ use Rattle.history.proofs.Computing.{performed}
 use Rattle.history.proofs.Running.{tag, valued, scratch, after, removing, table}
 
 -- 36,000,000,000,000 in bytes, lowest first, is 0, 64, 54, 231, 189, 32, 0, 0, and n below 256 goes into the first
-tagBytes : ℕ → List ℕ
+unfoldable pub tagBytes : ℕ → List ℕ
 tagBytes n = n ∷ 64 ∷ 54 ∷ 231 ∷ 189 ∷ 32 ∷ 0 ∷ 0 ∷ []
 
 -- a record: the first measure, three measures and the code of zeros, the threshold, the mark
-recordBytes : ℕ → ℕ → ℕ → List ℕ
+unfoldable pub recordBytes : ℕ → ℕ → ℕ → List ℕ
 recordBytes value threshold mark =
     (value ∷ 0 ∷ 0 ∷ 0 ∷ []) ++ replicate 28 0 ++ (threshold ∷ 0 ∷ 0 ∷ 0 ∷ []) ++ (mark ∷ 0 ∷ 0 ∷ 0 ∷ [])
 
@@ -34,7 +34,7 @@ dead : Table
 unfolding after table removing
 dead = after table (removing (4 ∷ []))
 
-deadImage : List ℕ
+unfoldable pub deadImage : List ℕ
 unfolding tagBytes recordBytes
 deadImage =
     (2 ∷ 0 ∷ 0 ∷ 0 ∷ [])

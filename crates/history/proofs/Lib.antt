@@ -6,3 +6,4 @@ pub mod Removals
 pub mod Searches
 pub mod Refused
 pub mod Imaged
+pub mod Alike
