@@ -1,5 +1,5 @@
 -- 01, "Stopped by the state", 23 and 24: which lent tables and work areas a call goes on with. The interface's point 2 has the order.
-use Prim.Native.Nat.{ℕ, zero, suc, _*_}
+use Prim.Native.Nat.{ℕ, _*_}
 use mathlib.Core.Bool.{Bool, true, false, _&&_, _||_}
 use mathlib.Core.List.{List, [], _∷_, map}
 use lib.ListN.{length}

@@ -1,7 +1,7 @@
 -- 01, "Order, buckets, trees" and "Stopped by the input", fresh: an order and a metric set, and every bucket empty.
 use Prim.Native.Nat.{ℕ, zero, suc, _-_}
-use mathlib.Core.Bool.{Bool, true, false}
-use mathlib.Core.List.{List, _∷_, _++_}
+use mathlib.Core.Bool.{true, false}
+use mathlib.Core.List.{_∷_, _++_}
 use lib.ListN.{length, drop, replicate}
 use lib.Dec.{leb}
 use Rattle.metric.specs.Row.{zeroRow}

@@ -1,8 +1,7 @@
 -- 01, "Add" and "Remove": head gathered from some buckets, the buckets emptied, and the head built in one.
 use Prim.Native.Nat.{ℕ}
-use mathlib.Core.List.{List, map}
+use mathlib.Core.List.{List, map, flatten}
 use lib.ListN.{length}
-use Rattle.metric.specs.Lists.{concat}
 use Rattle.metric.specs.Row.{Row}
 use Rattle.metric.specs.Distance.{distance}
 use Rattle.tree.specs.Layout.{layout, cost}
@@ -15,7 +14,7 @@ pub record Rebuilt : Type 0 where
 
 -- the live head of the buckets listed, each bucket's in slot order
 unfoldable pub liveHead : Table → List ℕ → List Row
-liveHead t ks = concat (map (liveSlots t) ks)
+liveHead t ks = flatten (map (liveSlots t) ks)
 
 -- the buckets listed become empty, and bucket k is built of these rows: c(n) distances
 unfoldable pub rebuilt : Table → List ℕ → ℕ → List Row → Rebuilt

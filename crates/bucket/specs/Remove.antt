@@ -1,8 +1,8 @@
 -- 01, "Remove": the refusals, the four cases in their order, and every area after the call.
 use Prim.Native.Nat.{ℕ, zero, suc, _+_, _-_, _*_}
-use mathlib.Core.Bool.{Bool, true, false}
+use mathlib.Core.Bool.{true, false}
 use mathlib.Core.List.{List, [], _∷_}
-use mathlib.Core.Option.{Option, none, some}
+use mathlib.Core.Option.{none, some}
 use lib.ListN.{set}
 use lib.Dec.{ltb, eqb}
 use Rattle.metric.specs.Row.{Row, withMark, zeroRow}

@@ -1,6 +1,6 @@
 -- 01, "Searching", over a table: buckets from T down to 0, the reply, the refusals and the result area after the call.
 use Prim.Native.Nat.{ℕ, zero, suc, _-_}
-use mathlib.Core.Bool.{Bool, true, false}
+use mathlib.Core.Bool.{true, false}
 use mathlib.Core.List.{List, [], _++_, foldl, foldr, reverse}
 use lib.ListN.{length, replicate}
 use lib.Dec.{leb, eqb}

@@ -1,8 +1,8 @@
 -- A table as its rows: what the header, the sizes and the slots show, and a bucket put in its place.
 -- The table, built and live sizes are 01's terms ("Order, buckets, trees"); where they stand is the interface's "A table of order T".
-use Prim.Native.Nat.{ℕ, _+_, _-_}
+use Prim.Native.Nat.{ℕ, _-_}
 use mathlib.Core.Bool.{Bool, not}
-use mathlib.Core.List.{List, [], _∷_, _++_, map, foldl}
+use mathlib.Core.List.{List, [], _++_, map, foldl}
 use lib.ListN.{length, getD, take, drop, set, replicate}
 use lib.Dec.{eqb}
 use lib.Seq.{paste}

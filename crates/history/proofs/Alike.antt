@@ -4,11 +4,10 @@ use Prim.Native.Nat.{ℕ}
 use mathlib.Core.Path.{_≡_, refl}
 use mathlib.Core.List.{List, [], _∷_, _++_, map}
 use lib.ListN.{replicate}
-use Rattle.bucket.specs.Table.{Table}
-use Rattle.history.specs.Calls.{Call, Lent}
+use Rattle.history.specs.Calls.{Call}
 use Rattle.history.specs.Calls.Call.{fresh, load, add, remove, lookUp, range, nearest, write}
-use Rattle.history.specs.Course.{Step, Ledger, Held, Shown, overlaid, leftBy, stepOutcome, showsRefusal, showsProfile, showsEntries, shown, rebuilds, noted, stepped, shownAt, heldAfter, shownBy}
-use Rattle.history.specs.Book.{Book, Head, headOf, lengthsOf, withTag, profileIn, enough, tagRefusal, addRefused, scanned, bookRange, bookNearest, fits, bookRefusal, entered, bookShows, bookStep, bookShown, bookAfter, bookShowsAll}
+use Rattle.history.specs.Course.{Step, Shown, overlaid, leftBy, stepOutcome, showsRefusal, showsProfile, showsEntries, shown, rebuilds, noted, stepped, shownAt, heldAfter, shownBy}
+use Rattle.history.specs.Book.{headOf, lengthsOf, withTag, profileIn, enough, tagRefusal, addRefused, scanned, bookRange, bookNearest, fits, bookRefusal, entered, bookShows, bookStep, bookShown, bookAfter, bookShowsAll}
 use Rattle.history.specs.Begun.{before, blankBook}
 use Rattle.history.proofs.Computing.{performed}
 use Rattle.history.proofs.Running.{tag, valued, areas, scratch, adding, removing}

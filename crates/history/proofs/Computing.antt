@@ -1,6 +1,7 @@
 -- A call's outcome with every definition that it goes by opened, so that antt computes it. Proofs about the definitions open one at a time;
 -- the worked lines, which are runs, open them all, and this is the one place that lists them.
-use Rattle.metric.specs.Lists.{countFrom, total, select, every, concat, alike, sameNumbers}
+use mathlib.Core.List.{flatten}
+use Rattle.metric.specs.Lists.{countFrom, total, select, every, alike, sameNumbers}
 use Rattle.metric.specs.Row.{rowWidth, thresholdAt, markAt, zeroRow, word, wide, words, tagOf, profileOf, thresholdOf, markOf, measure, codeWord, rowOf, withThreshold, withMark}
 use Rattle.metric.specs.Validity.{nationals, lastCountry, validTag, measureLimit, validMeasure, validMeasures}
 use Rattle.metric.specs.Distance.{mostDistance, saturated, gap, measureDistance, differing, codeDistance, distance, lastMetric}
@@ -25,7 +26,7 @@ use Rattle.history.specs.Calls.{Call, Lent, Outcome, withTable, outcome}
 
 unfoldable pub performed : Call → Lent → Outcome
 unfolding
-    countFrom total select every concat alike sameNumbers rowWidth thresholdAt markAt zeroRow word wide words tagOf
+    countFrom total select every flatten alike sameNumbers rowWidth thresholdAt markAt zeroRow word wide words tagOf
     profileOf thresholdOf markOf measure codeWord rowOf withThreshold withMark nationals lastCountry validTag
     measureLimit validMeasure validMeasures mostDistance saturated gap measureDistance differing codeDistance distance
     lastMetric keyLe insertBy sortBy leftSize costWithin cost rankedFrom tagKey placed fromPivot nearKey lastDistance

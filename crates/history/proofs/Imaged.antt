@@ -7,7 +7,6 @@ use lib.ListN.{take, drop, set, replicate}
 use Rattle.bucket.specs.Table.{Table}
 use Rattle.image.specs.Write.{imageOf, imageAfterWrite}
 use Rattle.image.specs.Load.{loadRefusal, tableAfterLoad}
-use Rattle.history.specs.Calls.{Call}
 use Rattle.history.specs.Calls.Call.{fresh, add}
 use Rattle.history.proofs.Computing.{performed}
 use Rattle.history.proofs.Running.{tag, valued, scratch, after, removing, table}

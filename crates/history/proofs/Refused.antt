@@ -2,7 +2,7 @@
 -- was, but 6 on range and nearest leaves the result area all zero. Each is a run that antt computes.
 use Prim.Native.Nat.{ℕ, _+_, _^_}
 use mathlib.Core.Path.{_≡_, refl}
-use mathlib.Core.List.{List, [], _∷_, _++_}
+use mathlib.Core.List.{List, [], _∷_}
 use lib.IntN.{pos, negsuc}
 use lib.ListN.{set, take, replicate}
 use Rattle.metric.specs.declared.Profile.{Profile}

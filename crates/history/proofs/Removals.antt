@@ -4,7 +4,6 @@ use Prim.Native.Nat.{ℕ}
 use mathlib.Core.Path.{_≡_, refl}
 use mathlib.Core.List.{List, [], _∷_, _++_}
 use Rattle.bucket.specs.Table.{Table}
-use Rattle.history.specs.Calls.{Call}
 use Rattle.history.specs.Calls.Call.{fresh}
 use Rattle.history.proofs.Running.{tag, scratch, replies, after, contents, adding, removing, table}
 

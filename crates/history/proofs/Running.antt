@@ -1,15 +1,14 @@
 -- How a worked line is run: calls on one table in roomy areas, each with its reply as numbers, and what a bucket holds afterwards.
 use Prim.Native.Nat.{ℕ, _+_, _*_}
-use mathlib.Core.List.{List, [], _∷_, map}
+use mathlib.Core.List.{List, [], _∷_, map, flatten}
 use lib.IntN.{pos}
 use lib.ListN.{replicate, take}
 use Rattle.metric.specs.declared.Profile.{Profile}
-use Rattle.metric.specs.Lists.{concat}
 use Rattle.metric.specs.Row.{tagOf, thresholdOf, markOf}
 use Rattle.metric.specs.Validity.{nationals}
 use Rattle.tree.specs.Range.{Entry}
 use Rattle.bucket.specs.Table.{Table, slotsOf, builtOf, liveOf}
-use Rattle.history.specs.Calls.{Call, Lent, Reply, Outcome}
+use Rattle.history.specs.Calls.{Call, Lent, Reply}
 use Rattle.history.specs.Calls.Call.{fresh, add, remove}
 use Rattle.history.proofs.Computing.{performed}
 use Rattle.history.specs.Calls.Reply.{number, added, removed, lookedUp, searched, written}
@@ -30,12 +29,12 @@ unfoldable pub scratch : Table
 scratch = replicate 21 (replicate 12 6)
 
 unfoldable pub replyNumbers : Reply → List Entry → List ℕ
-unfolding concat
+unfolding flatten
 replyNumbers (number n) area = n ∷ []
 replyNumbers (added a) area = a .refusal ∷ a .bucket ∷ a .distances ∷ []
 replyNumbers (removed r) area = r .refusal ∷ r .distances ∷ []
 replyNumbers (lookedUp l) area = l .refusal ∷ l .bucket ∷ []
-replyNumbers (searched s) area = s .refusal ∷ s .found ∷ s .distances ∷ concat (take (s .found) area)
+replyNumbers (searched s) area = s .refusal ∷ s .found ∷ s .distances ∷ flatten (take (s .found) area)
 replyNumbers (written w) area = w .refusal ∷ w .length ∷ []
 
 -- the replies of some calls in a row, as numbers, and the table after them

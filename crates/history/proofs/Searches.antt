@@ -11,7 +11,6 @@ use Rattle.metric.specs.Distance.{distance, measureDistance}
 use Rattle.tree.specs.Layout.{layout}
 use Rattle.bucket.specs.Geometry.{firstSlot}
 use Rattle.bucket.specs.Table.{Table, rowAt}
-use Rattle.history.specs.Calls.{Call}
 use Rattle.history.specs.Calls.Call.{fresh, add, lookUp, range, nearest}
 use Rattle.history.proofs.Running.{tag, valued, scratch, replies, after, removing, table}
 

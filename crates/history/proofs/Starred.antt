@@ -1,10 +1,9 @@
 -- The starred lines of 01's "Small herds, worked", of the definitions, together as one list. Each line is a run that antt computes.
-use Prim.Native.Nat.{ℕ, _*_}
+use Prim.Native.Nat.{ℕ}
 use mathlib.Core.Path.{_≡_, refl}
 use mathlib.Core.List.{List, [], _∷_, _++_}
 use Rattle.bucket.specs.Table.{Table}
 use Rattle.tree.specs.Layout.{cost}
-use Rattle.history.specs.Calls.{Call}
 use Rattle.history.specs.Calls.Call.{fresh, add, remove, range, nearest}
 use Rattle.history.proofs.Running.{tag, valued, scratch, replies, after, contents, adding, removing, herd, table}
 

@@ -1,5 +1,5 @@
 -- 01, "Stopped by the state" (its end) and "The plain book": a table from fresh or load, changed since by these calls only.
-use Prim.Native.Nat.{ℕ, _^_, _<_}
+use Prim.Native.Nat.{_^_, _<_}
 use mathlib.Core.Path.{_≡_}
 use mathlib.Core.List.{List, [], _∷_}
 use Rattle.metric.specs.Row.{IsProfile}
@@ -7,7 +7,7 @@ use Rattle.tree.specs.Guided.{All}
 use Rattle.bucket.specs.Table.{Table}
 use Rattle.history.specs.Calls.{Call}
 use Rattle.history.specs.Calls.Call.{fresh, load, add, remove, lookUp, range, nearest, write}
-use Rattle.history.specs.Course.{Step, Ledger, Held, Shown, shownAt, heldAfter}
+use Rattle.history.specs.Course.{Step, Held, shownAt, heldAfter}
 use Rattle.history.specs.Book.{Book, bookAfter}
 
 -- the arguments are values of their machine types; nothing is asked of the content of lent areas

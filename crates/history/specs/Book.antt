@@ -1,6 +1,6 @@
 -- 01, "The plain book": the reference model. It is fed the calls' arguments (a load's image too) and the lengths of the lent areas, and
 -- never an answer or what the table holds.
-use Prim.Native.Nat.{ℕ, zero, suc, _*_}
+use Prim.Native.Nat.{ℕ, zero, suc}
 use mathlib.Core.Bool.{Bool, true, false, not, _&&_}
 use mathlib.Core.List.{List, [], _∷_, map}
 use lib.ListN.{length}

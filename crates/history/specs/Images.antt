@@ -9,7 +9,6 @@ use Rattle.bucket.specs.Geometry.{tableRows}
 use Rattle.bucket.specs.Table.{Table, orderOf}
 use Rattle.image.specs.Write.{imageOf}
 use Rattle.image.specs.Load.{loadRefusal, tableAfterLoad}
-use Rattle.history.specs.Course.{Held}
 use Rattle.history.specs.Begun.{History, held}
 
 -- for every list of calls: the image of the table after it is accepted into any area that is long enough, and the table's rows are all back

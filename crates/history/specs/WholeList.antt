@@ -1,19 +1,19 @@
 -- DEMAND 3, one claim over a whole list of calls on one table, refused ones too.
-use Prim.Native.Nat.{ℕ, _+_, _*_, _^_, _≤_, _<_}
+use Prim.Native.Nat.{ℕ, _+_, _*_, _≤_}
 use mathlib.Core.Path.{_≡_}
 use mathlib.Core.Bool.{Bool, not, _||_}
-use mathlib.Core.List.{List, [], _∷_, map, List·Permᴰ}
+use mathlib.Core.List.{List, _∷_, map, List·Permᴰ}
 use lib.ListN.{length}
 use lib.Dec.{T, ltb, eqb}
 use Rattle.metric.specs.declared.Profile.{Profile}
-use Rattle.metric.specs.Lists.{every, select, concat}
-use Rattle.metric.specs.Row.{Row, IsProfile, tagOf}
+use Rattle.metric.specs.Lists.{every, select}
+use Rattle.metric.specs.Row.{IsProfile, tagOf}
 use Rattle.bucket.specs.Geometry.{room, bucketsOf}
 use Rattle.bucket.specs.Table.{Table, orderOf, builtOf, inUse, liveSlots}
 use Rattle.bucket.specs.Rebuild.{liveHead}
 use Rattle.bucket.specs.Search.{rangeAnswer, nearestAnswer}
 use Rattle.image.specs.Load.{distinct}
-use Rattle.history.specs.Course.{Held, Ledger, shownBy}
+use Rattle.history.specs.Course.{Ledger, shownBy}
 use Rattle.history.specs.Book.{Book, Head, headOf, bookRange, bookNearest, bookShowsAll}
 use Rattle.history.specs.Begun.{History, before, held, blankBook, book}
 

@@ -2,12 +2,12 @@
 -- Each goes by induction on what stands before the place.
 use Prim.Native.Nat.{ℕ, zero, suc, _+_, _*_, _^_, _≤_, _<_}
 use mathlib.Core.Path.{_≡_, refl, sym, ap, ap₂, _∙_}
-use mathlib.Core.List.{List, [], _∷_, _++_, map, append-assoc}
+use mathlib.Core.List.{List, [], _∷_, _++_, map, append-assoc, flatten}
 use native.Mathlib.Nat.{mul-suc, le-of-suc-le-suc, not-suc-le-zero}
 use native.Mathlib.Omega.{arith}
 use lib.ListN.{length, getD, take, drop, length-append}
 use lib.Seq.{getD-at}
-use Rattle.metric.specs.Lists.{concat, total, countFrom}
+use Rattle.metric.specs.Lists.{total, countFrom}
 use Rattle.metric.specs.Row.{word}
 use Rattle.tree.specs.Guided.{All}
 
@@ -25,11 +25,11 @@ module _ {A : Type 0} (P : A → Type 0) where
   all-append [] ys h g = g
   all-append (x ∷ xs) ys h g = (h .0, all-append xs ys (h .1) g)
 
-  pub all-concat : (s : ℕ → List A) (a n : ℕ) → ((k : ℕ) → k < a + n → All P (s k)) → All P (concat (map s (countFrom a n)))
-  unfolding concat countFrom
-  all-concat s a zero h = tt
-  all-concat s a (suc n) h =
-      all-append (s a) (concat (map s (countFrom (suc a) n))) (h a (omega arith)) (all-concat s (suc a) n (λ k l. h k (omega arith)))
+  pub all-flatten : (s : ℕ → List A) (a n : ℕ) → ((k : ℕ) → k < a + n → All P (s k)) → All P (flatten (map s (countFrom a n)))
+  unfolding flatten countFrom
+  all-flatten s a zero h = tt
+  all-flatten s a (suc n) h =
+      all-append (s a) (flatten (map s (countFrom (suc a) n))) (h a (omega arith)) (all-flatten s (suc a) n (λ k l. h k (omega arith)))
 
   pub all-at : (xs : List A) (i : ℕ) (d : A) → All P xs → i < length xs → P (getD xs i d)
   all-at [] i d h l = absurd (not-suc-le-zero l)
@@ -57,13 +57,13 @@ module _ {A : Type 0} (f : A → List ℕ) (w : ℕ) where
   pub record Block (xs : List A) (i : ℕ) (x : A) : Type 0 where
     pub front : List ℕ
     pub back : List ℕ
-    pub split : concat (map f xs) ≡ front ++ (f x ++ back)
+    pub split : flatten (map f xs) ≡ front ++ (f x ++ back)
     pub long : length front ≡ w * i
 
   pub block-at : (xs : List A) (i : ℕ) (d : A) → All (λ x. length (f x) ≡ w) xs → i < length xs → Block xs i (getD xs i d)
-  unfolding concat
+  unfolding flatten
   block-at [] i d h l = absurd (not-suc-le-zero l)
-  block-at (x ∷ xs) zero d h l = record { front = []; back = concat (map f xs); split = refl; long = omega arith }
+  block-at (x ∷ xs) zero d h l = record { front = []; back = flatten (map f xs); split = refl; long = omega arith }
   block-at (x ∷ xs) (suc i) d h l =
       let b = block-at xs i d (h .1) (le-of-suc-le-suc l) in
       record {
@@ -73,11 +73,11 @@ module _ {A : Type 0} (f : A → List ℕ) (w : ℕ) where
         long = length-append (f x) (b .front) ∙ omega (arith, h .0, b .long, mul-suc w i);
       }
 
-  pub length-blocks : (xs : List A) → All (λ x. length (f x) ≡ w) xs → length (concat (map f xs)) ≡ w * length xs
-  unfolding concat
+  pub length-blocks : (xs : List A) → All (λ x. length (f x) ≡ w) xs → length (flatten (map f xs)) ≡ w * length xs
+  unfolding flatten
   length-blocks [] h = omega arith
   length-blocks (x ∷ xs) h =
-      length-append (f x) (concat (map f xs)) ∙ omega (arith, h .0, length-blocks xs (h .1), mul-suc w (length xs))
+      length-append (f x) (flatten (map f xs)) ∙ omega (arith, h .0, length-blocks xs (h .1), mul-suc w (length xs))
 
 pub length-count : (a n : ℕ) → length (countFrom a n) ≡ n
 unfolding countFrom
@@ -95,15 +95,15 @@ module _ {A : Type 0} (s : ℕ → List A) where
   pub record Part (a k n : ℕ) : Type 0 where
     pub front : List A
     pub back : List A
-    pub split : concat (map s (countFrom a n)) ≡ front ++ (s (a + k) ++ back)
+    pub split : flatten (map s (countFrom a n)) ≡ front ++ (s (a + k) ++ back)
     pub long : length front ≡ total (map (λ j. length (s j)) (countFrom a k))
 
   pub part-at : (a k n : ℕ) → k < n → Part a k n
-  unfolding concat countFrom total
+  unfolding flatten countFrom total
   part-at a k zero h = absurd (not-suc-le-zero h)
   part-at a zero (suc n) h =
       let e : a + 0 ≡ a = omega arith in
-      record { front = []; back = concat (map s (countFrom (suc a) n)); split = rw e; long = refl }
+      record { front = []; back = flatten (map s (countFrom (suc a) n)); split = rw e; long = refl }
   part-at a (suc k) (suc n) h =
       let p = part-at (suc a) k n (le-of-suc-le-suc h) in
       let e : a + suc k ≡ suc a + k = omega arith in
@@ -114,11 +114,11 @@ module _ {A : Type 0} (s : ℕ → List A) where
         long = length-append (s a) (p .front) ∙ ap (λ (r : ℕ). length (s a) + r) (p .long);
       }
 
-  pub length-concat : (a n : ℕ) → length (concat (map s (countFrom a n))) ≡ total (map (λ j. length (s j)) (countFrom a n))
-  unfolding concat countFrom total
-  length-concat a zero = refl
-  length-concat a (suc n) =
-      length-append (s a) (concat (map s (countFrom (suc a) n))) ∙ ap (λ (r : ℕ). length (s a) + r) (length-concat (suc a) n)
+  pub length-flatten : (a n : ℕ) → length (flatten (map s (countFrom a n))) ≡ total (map (λ j. length (s j)) (countFrom a n))
+  unfolding flatten countFrom total
+  length-flatten a zero = refl
+  length-flatten a (suc n) =
+      length-append (s a) (flatten (map s (countFrom (suc a) n))) ∙ ap (λ (r : ℕ). length (s a) + r) (length-flatten (suc a) n)
 
 -- functions that agree on the n numbers from a on map them alike
 pub map-count : {A : Type 0} (f g : ℕ → A) (a n : ℕ) → ((j : ℕ) → a ≤ j → j < a + n → f j ≡ g j) → map f (countFrom a n) ≡ map g (countFrom a n)

@@ -1,13 +1,12 @@
 -- Little-endian bytes and blocks of equal length: a number's bytes read back as the number, and element i of a run of blocks of w bytes
 -- stands at w · i.
-use Prim.Native.Nat.{ℕ, zero, suc, _+_, _*_, _/_, _%_, _^_, _≤_, _<_}
-use mathlib.Core.Path.{_≡_, refl, sym, ap, ap₂, _∙_}
-use mathlib.Core.List.{List, [], _∷_, _++_, map, append-assoc}
+use Prim.Native.Nat.{ℕ, zero, suc, _+_, _*_, _/_, _^_, _<_}
+use mathlib.Core.Path.{_≡_, refl, ap, ap₂, _∙_}
+use mathlib.Core.List.{List, [], _∷_, _++_, map, append-assoc, flatten}
 use native.Mathlib.Nat.{pow-suc}
 use native.Mathlib.Omega.{arith}
-use lib.ListN.{length, getD, take, drop, length-append}
+use lib.ListN.{length, length-append}
 use lib.Seq.{take-at, drop-at}
-use Rattle.metric.specs.Lists.{concat}
 use Rattle.tree.specs.Guided.{All}
 use Rattle.image.proofs.Blocks.{all-of, length-blocks}
 use Rattle.image.specs.Bytes.{bytesOf, numberOf, bytesOfWords, wordBytes}
@@ -36,11 +35,11 @@ number-at a w n c at e h = rw (drop-at a (bytesOf w n ++ c) at e, take-at (bytes
 
 pub words-at : (a ws c : List ℕ) (at : ℕ) → length a ≡ at → All (λ x. x < 2 ^ 32) ws
     → wordsAt (a ++ (bytesOfWords ws ++ c)) (length ws) at ≡ ws
-unfolding wordsAt bytesOfWords concat wordBytes
+unfolding wordsAt bytesOfWords flatten wordBytes
 words-at a [] c at e h = refl
 words-at a (x ∷ ws) c at e h =
     let bx = bytesOf 4 x in
-    let rest = concat (map (bytesOf 4) ws) in
+    let rest = flatten (map (bytesOf 4) ws) in
     let regroup : (a ++ ((bx ++ rest) ++ c)) ≡ (a ++ bx) ++ (rest ++ c) = simp append-assoc in
     let here : numberAt (a ++ ((bx ++ rest) ++ c)) 4 at ≡ x =
     rw (append-assoc bx rest c) (number-at a 4 x (rest ++ c) at e (h .0)) in

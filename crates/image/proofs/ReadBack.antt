@@ -1,21 +1,21 @@
 -- The bytes of a table whose fields fit, read back, give its order, its metric, its sizes and every bucket's slots.
 -- Each field is a block of a run of equal blocks, so it stands after what has just its offset's length, and reads back as it was written.
-use Prim.Native.Nat.{ℕ, zero, suc, _+_, _-_, _*_, _^_, _≤_, _<_}
+use Prim.Native.Nat.{ℕ, suc, _+_, _*_, _^_, _≤_, _<_}
 use mathlib.Core.Path.{_≡_, refl, sym, ap, ap₂, _∙_, subst}
-use mathlib.Core.List.{List, [], _∷_, _++_, map, append-assoc}
+use mathlib.Core.List.{List, [], _++_, map, append-assoc, flatten}
 use native.Mathlib.Nat.{zero-add}
 use native.Mathlib.Omega.{arith}
 use lib.ListN.{length, getD, take, drop, length-append, length-take, length-drop, take-append-drop}
-use Rattle.metric.specs.Lists.{concat, total, countFrom}
-use Rattle.metric.specs.Row.{Row, IsRow, word, rowWidth}
+use Rattle.metric.specs.Lists.{total, countFrom}
+use Rattle.metric.specs.Row.{Row, IsRow, rowWidth}
 use Rattle.tree.specs.Guided.{All}
 use Rattle.bucket.specs.Geometry.{bucketsOf}
 use Rattle.bucket.specs.Table.{Table, orderOf, metricOf, builtOf, liveOf, slotsOf}
 use Rattle.image.specs.Bytes.{bytesOf, bytesOfWords, wordBytes, headBytes, sizeBytes, pairBytes, sizesEnd, tagWords}
 use Rattle.image.specs.Write.{headOf, sizesOf, tagsOf, recordsOf, allSlots, imageOf}
-use Rattle.image.specs.Read.{numberAt, wordsAt, orderIn, metricIn, builtIn, liveIn, slotsBefore, slotsIn, rowIn, bucketIn}
+use Rattle.image.specs.Read.{wordsAt, orderIn, metricIn, builtIn, liveIn, slotsBefore, slotsIn, rowIn, bucketIn}
 use Rattle.image.proofs.Bytes.{length-bytes, length-words, number-at, words-in}
-use Rattle.image.proofs.Blocks.{all-of, all-map, all-concat, all-at, all-words, all-take, all-drop, Block, block-at, length-blocks, length-count, getD-count, Part, part-at, length-concat, map-count, picked}
+use Rattle.image.proofs.Blocks.{all-of, all-map, all-flatten, all-at, all-words, all-take, all-drop, Block, block-at, length-blocks, length-count, getD-count, part-at, length-flatten, map-count, picked}
 
 -- the fields fit: sizes of 16 bits, as many rows in each bucket as its built size, and rows of twelve 32-bit words
 pub record FitsImage (t : Table) : Type 0 where
@@ -47,7 +47,7 @@ module _ (t : Table) (fit : FitsImage t) where
   head : List ℕ
   head = headOf (orderOf t) (metricOf t)
 
-  image-is : imageOf t ≡ head ++ (concat (map pair (countFrom 0 (suc (orderOf t)))) ++ after-sizes)
+  image-is : imageOf t ≡ head ++ (flatten (map pair (countFrom 0 (suc (orderOf t)))) ++ after-sizes)
   unfolding imageOf head after-sizes pair sizesOf bucketsOf sizeBytes
   image-is = simp append-assoc
 
@@ -93,12 +93,12 @@ module _ (t : Table) (fit : FitsImage t) where
   rows : List Row
   rows = allSlots t
 
-  rows-are : rows ≡ concat (map (slotsOf t) (countFrom 0 (suc (orderOf t))))
+  rows-are : rows ≡ flatten (map (slotsOf t) (countFrom 0 (suc (orderOf t))))
   unfolding rows allSlots bucketsOf
   rows-are = refl
 
   all-rows : All IsRow rows
-  all-rows = rw rows-are (all-concat IsRow (slotsOf t) 0 (suc (orderOf t)) (λ k l. fit .rows k (omega arith)))
+  all-rows = rw rows-are (all-flatten IsRow (slotsOf t) 0 (suc (orderOf t)) (λ k l. fit .rows k (omega arith)))
 
   order-back : orderIn (imageOf t) ≡ orderOf t
   unfolding orderIn imageOf headOf
@@ -108,7 +108,7 @@ module _ (t : Table) (fit : FitsImage t) where
   unfolding slotsIn
   slots-back =
       rw order-back
-      (before-back (suc (orderOf t)) (omega arith) ∙ sym (length-concat (slotsOf t) 0 (suc (orderOf t))) ∙ ap length (sym rows-are))
+      (before-back (suc (orderOf t)) (omega arith) ∙ sym (length-flatten (slotsOf t) 0 (suc (orderOf t))) ∙ ap length (sym rows-are))
 
   -- a row's tag is a block of 8 bytes, its record one of 40
   tagBlock : Row → List ℕ
@@ -133,7 +133,7 @@ module _ (t : Table) (fit : FitsImage t) where
 
   -- what stands before the tags, and its length
   sizes : List ℕ
-  sizes = head ++ concat (map pair (countFrom 0 (suc (orderOf t))))
+  sizes = head ++ flatten (map pair (countFrom 0 (suc (orderOf t))))
 
   length-sizes : length sizes ≡ sizesEnd (orderOf t)
   unfolding sizes head headOf sizesEnd headBytes pairBytes sizeBytes
@@ -141,9 +141,9 @@ module _ (t : Table) (fit : FitsImage t) where
       let n = countFrom 0 (suc (orderOf t)) in
       omega (arith, length-blocks pair 4 n (all-of (λ x. length (pair x) ≡ 4) length-pair n), length-count 0 (suc (orderOf t)))
 
-  image-parts : imageOf t ≡ sizes ++ (concat (map tagBlock rows) ++ concat (map recordBlock rows))
+  image-parts : imageOf t ≡ sizes ++ (flatten (map tagBlock rows) ++ flatten (map recordBlock rows))
   unfolding sizes after-sizes tagBlock recordBlock rows tagsOf recordsOf tagWords
-  image-parts = image-is ∙ sym (append-assoc head (concat (map pair (countFrom 0 (suc (orderOf t))))) after-sizes)
+  image-parts = image-is ∙ sym (append-assoc head (flatten (map pair (countFrom 0 (suc (orderOf t))))) after-sizes)
 
   -- the words of row i's tag, and those of its record
   tag-back : (i : ℕ) → i < length rows → wordsAt (imageOf t) 2 (sizesEnd (orderOf t) + 8 * i) ≡ take 2 (getD rows i [])
@@ -152,8 +152,8 @@ module _ (t : Table) (fit : FitsImage t) where
       let row = getD rows i [] in
       let ok = all-at IsRow rows i [] all-rows l in
       let b = block-at tagBlock 8 rows i [] tag-blocks l in
-      words-in (imageOf t) (sizes ++ b .front) (take 2 row) (b .back ++ concat (map recordBlock rows)) 2 (sizesEnd (orderOf t) + 8 * i)
-      (image-parts ∙ ap (λ (r : List ℕ). sizes ++ (r ++ concat (map recordBlock rows))) (b .split) ∙ simp append-assoc)
+      words-in (imageOf t) (sizes ++ b .front) (take 2 row) (b .back ++ flatten (map recordBlock rows)) 2 (sizesEnd (orderOf t) + 8 * i)
+      (image-parts ∙ ap (λ (r : List ℕ). sizes ++ (r ++ flatten (map recordBlock rows))) (b .split) ∙ simp append-assoc)
       (length-append sizes (b .front) ∙ ap₂ _+_ length-sizes (b .long))
       (omega (arith, length-take 2 row, ok .width))
       (all-take (λ x. x < 2 ^ 32) 2 row (all-words row (ok .fits)))
@@ -165,11 +165,11 @@ module _ (t : Table) (fit : FitsImage t) where
       let row = getD rows i [] in
       let ok = all-at IsRow rows i [] all-rows l in
       let b = block-at recordBlock 40 rows i [] record-blocks l in
-      let before = sizes ++ concat (map tagBlock rows) in
+      let before = sizes ++ flatten (map tagBlock rows) in
       words-in (imageOf t) (before ++ b .front) (drop 2 row) (b .back) 10 (sizesEnd (orderOf t) + 8 * length rows + 40 * i)
-      (image-parts ∙ ap (λ (r : List ℕ). sizes ++ (concat (map tagBlock rows) ++ r)) (b .split) ∙ simp append-assoc)
+      (image-parts ∙ ap (λ (r : List ℕ). sizes ++ (flatten (map tagBlock rows) ++ r)) (b .split) ∙ simp append-assoc)
       (length-append before (b .front)
-      ∙ ap₂ _+_ (length-append sizes (concat (map tagBlock rows)) ∙ ap₂ _+_ length-sizes (length-blocks tagBlock 8 rows tag-blocks)) (b .long))
+      ∙ ap₂ _+_ (length-append sizes (flatten (map tagBlock rows)) ∙ ap₂ _+_ length-sizes (length-blocks tagBlock 8 rows tag-blocks)) (b .long))
       (omega (arith, length-drop 2 row, ok .width))
       (all-drop (λ x. x < 2 ^ 32) 2 row (all-words row (ok .fits)))
 

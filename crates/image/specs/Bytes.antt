@@ -1,7 +1,6 @@
 -- 01, "The image": little-endian numbers, and the lengths of the image's parts.
 use Prim.Native.Nat.{ℕ, zero, suc, _+_, _*_, _/_, _%_}
-use mathlib.Core.List.{List, [], _∷_, map}
-use Rattle.metric.specs.Lists.{concat}
+use mathlib.Core.List.{List, [], _∷_, map, flatten}
 use Rattle.metric.specs.Row.{rowWidth}
 
 -- the w bytes of a number, lowest first, and the number of some bytes
@@ -18,7 +17,7 @@ unfoldable pub wordBytes : ℕ
 wordBytes = 4
 
 unfoldable pub bytesOfWords : List ℕ → List ℕ
-bytesOfWords ws = concat (map (bytesOf wordBytes) ws)
+bytesOfWords ws = flatten (map (bytesOf wordBytes) ws)
 
 -- order, metric and two zero bytes come first, then a pair of 16-bit sizes for each bucket
 unfoldable pub headBytes : ℕ

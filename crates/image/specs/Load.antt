@@ -1,10 +1,10 @@
 -- 01, "The image", load: the checks in their order, each with its number, and the table after the call.
 use Prim.Native.Nat.{ℕ, zero, suc}
 use mathlib.Core.Bool.{Bool, true, false, not, _&&_}
-use mathlib.Core.List.{List, [], _∷_, map, foldl}
+use mathlib.Core.List.{List, [], _∷_, map, foldl, flatten}
 use lib.ListN.{length, getD}
 use lib.Dec.{leb, ltb, eqb}
-use Rattle.metric.specs.Lists.{every, select, concat}
+use Rattle.metric.specs.Lists.{every, select}
 use Rattle.metric.specs.Row.{Row, tagOf, profileOf, markOf}
 use Rattle.metric.specs.Validity.{validTag, validMeasures}
 use Rattle.metric.specs.Distance.{distance, lastMetric}
@@ -34,7 +34,7 @@ bucketPasses metric live slots =
 
 -- the live head of the whole image, bucket by bucket
 unfoldable pub liveRows : List ℕ → List Row
-liveRows image = concat (map (λ k. select isLive (bucketIn image k)) (bucketsOf (orderIn image)))
+liveRows image = flatten (map (λ k. select isLive (bucketIn image k)) (bucketsOf (orderIn image)))
 
 -- every bucket passes, and no live tag occurs twice at all
 unfoldable pub slotsPass : List ℕ → Bool

@@ -4,7 +4,6 @@ use mathlib.Core.List.{List, [], _∷_, _++_, map}
 use lib.ListN.{getD, take, drop}
 use Rattle.metric.specs.Lists.{total, countFrom}
 use Rattle.metric.specs.Row.{Row, rowWidth}
-use Rattle.bucket.specs.Geometry.{bucketsOf}
 use Rattle.image.specs.Bytes.{numberOf, wordBytes, headBytes, sizeBytes, pairBytes, sizesEnd, tagWords}
 
 -- the w bytes at a place as a number, and n words from a place on

@@ -1,10 +1,9 @@
 -- 01, "The image": the bytes of a table, and the call that writes them.
 use Prim.Native.Nat.{ℕ, zero, suc}
-use mathlib.Core.Bool.{Bool, true, false}
-use mathlib.Core.List.{List, [], _∷_, _++_, map}
+use mathlib.Core.Bool.{true, false}
+use mathlib.Core.List.{List, [], _∷_, _++_, map, flatten}
 use lib.ListN.{length, take, drop}
 use lib.Dec.{leb}
-use Rattle.metric.specs.Lists.{concat}
 use Rattle.metric.specs.Row.{Row}
 use Rattle.bucket.specs.Refusals.{resultShort}
 use Rattle.bucket.specs.Geometry.{bucketsOf}
@@ -19,18 +18,18 @@ headOf order metric = order ∷ metric ∷ 0 ∷ 0 ∷ []
 
 -- built and live of each bucket from 0 up
 unfoldable pub sizesOf : ℕ → (ℕ → ℕ) → (ℕ → ℕ) → List ℕ
-sizesOf order built live = concat (map (λ k. bytesOf sizeBytes (built k) ++ bytesOf sizeBytes (live k)) (bucketsOf order))
+sizesOf order built live = flatten (map (λ k. bytesOf sizeBytes (built k) ++ bytesOf sizeBytes (live k)) (bucketsOf order))
 
 -- the tags of some rows, and their records
 unfoldable pub tagsOf : List Row → List ℕ
-tagsOf rows = concat (map (λ row. bytesOfWords (take tagWords row)) rows)
+tagsOf rows = flatten (map (λ row. bytesOfWords (take tagWords row)) rows)
 
 unfoldable pub recordsOf : List Row → List ℕ
-recordsOf rows = concat (map (λ row. bytesOfWords (drop tagWords row)) rows)
+recordsOf rows = flatten (map (λ row. bytesOfWords (drop tagWords row)) rows)
 
 -- the built slots of all buckets, from bucket 0 up
 unfoldable pub allSlots : Table → List Row
-allSlots t = concat (map (slotsOf t) (bucketsOf (orderOf t)))
+allSlots t = flatten (map (slotsOf t) (bucketsOf (orderOf t)))
 
 unfoldable pub imageOf : Table → List ℕ
 imageOf t = headOf (orderOf t) (metricOf t) ++ sizesOf (orderOf t) (builtOf t) (liveOf t) ++ tagsOf (allSlots t) ++ recordsOf (allSlots t)
