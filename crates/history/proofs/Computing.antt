@@ -19,7 +19,7 @@ use Rattle.bucket.specs.Remove.{removeRefusal, marked, united, thinned, settled
 use Rattle.bucket.specs.LookUp.{placeFrom, placeIn, find, isLiveTag, lookUpRefusal, noProfile, notFound, lookUpReply}
 use Rattle.bucket.specs.Search.{bucketsDown, rangeMet, rangeAnswer, nearestTally, nearestAnswer, fitRefusal, rangeRefusal, nearestRefusal, searchReply, zeroEntry, resultAfter, rangeReply, resultAfterRange, nearestReply, resultAfterNearest}
 use Rattle.image.specs.Bytes.{bytesOf, numberOf, wordBytes, bytesOfWords, headBytes, sizeBytes, pairBytes, sizesEnd, tagWords, slotBytes, imageLength}
-use Rattle.image.specs.Write.{headOf, sizesOf, tagsOf, recordsOf, allSlots, imageOf, writeRefusal, writeReply, imageAfterWrite}
+use Rattle.image.specs.Write.{headerOf, sizesOf, tagsOf, recordsOf, allSlots, imageOf, writeRefusal, writeReply, imageAfterWrite}
 use Rattle.image.specs.Read.{numberAt, wordsAt, orderIn, metricIn, builtIn, liveIn, slotsBefore, slotsIn, rowIn, bucketIn}
 use Rattle.image.specs.Load.{distinct, fieldsPass, bucketPasses, liveRows, slotsPass, bodyRefusal, loadRefusal, loadedTable, tableAfterLoad}
 use Rattle.history.specs.Calls.{Call, Lent, Outcome, withTable, outcome}
@@ -40,7 +40,7 @@ unfolding
     placeFrom placeIn find isLiveTag lookUpRefusal noProfile notFound lookUpReply bucketsDown rangeMet rangeAnswer
     nearestTally nearestAnswer fitRefusal rangeRefusal nearestRefusal searchReply zeroEntry resultAfter rangeReply
     resultAfterRange nearestReply resultAfterNearest bytesOf numberOf wordBytes bytesOfWords headBytes sizeBytes
-    pairBytes sizesEnd tagWords slotBytes imageLength headOf sizesOf tagsOf recordsOf allSlots imageOf writeRefusal
+    pairBytes sizesEnd tagWords slotBytes imageLength headerOf sizesOf tagsOf recordsOf allSlots imageOf writeRefusal
     writeReply imageAfterWrite numberAt wordsAt orderIn metricIn builtIn liveIn slotsBefore slotsIn rowIn bucketIn
     distinct fieldsPass bucketPasses liveRows slotsPass bodyRefusal loadRefusal loadedTable tableAfterLoad withTable
     outcome

@@ -57,10 +57,11 @@ unfoldable pub enough : Bool → ℕ → ℕ
 enough false rest = areaShort
 enough true rest = rest
 
--- 1, then 20 or 21 by whether the tag is live
+-- remove and look up: 1, then 21 where the tag is not live
 unfoldable pub tagRefusal : Book → ℕ → ℕ
 tagRefusal b tag = elim (validTag tag) [ false ↦ badTag | true ↦ elim (withTag tag (b .head)) [ [] ↦ tagNotLive | h ∷ hs ↦ 0 ] ]
 
+-- add: 1, 2, 20, 22
 unfoldable pub addRefused : Book → ℕ → Profile → ℕ
 addRefused b tag p =
     elim (validTag tag) [

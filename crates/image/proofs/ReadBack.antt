@@ -12,7 +12,7 @@ use Rattle.tree.specs.Guided.{All}
 use Rattle.bucket.specs.Geometry.{bucketsOf}
 use Rattle.bucket.specs.Table.{Table, orderOf, metricOf, builtOf, liveOf, slotsOf}
 use Rattle.image.specs.Bytes.{bytesOf, bytesOfWords, wordBytes, headBytes, sizeBytes, pairBytes, sizesEnd, tagWords}
-use Rattle.image.specs.Write.{headOf, sizesOf, tagsOf, recordsOf, allSlots, imageOf}
+use Rattle.image.specs.Write.{headerOf, sizesOf, tagsOf, recordsOf, allSlots, imageOf}
 use Rattle.image.specs.Read.{wordsAt, orderIn, metricIn, builtIn, liveIn, slotsBefore, slotsIn, rowIn, bucketIn}
 use Rattle.image.proofs.Bytes.{length-bytes, length-words, number-at, words-in}
 use Rattle.image.proofs.Blocks.{all-of, all-map, all-flatten, all-at, all-words, all-take, all-drop, Block, block-at, length-blocks, length-count, getD-count, part-at, length-flatten, map-count, picked}
@@ -45,7 +45,7 @@ module _ (t : Table) (fit : FitsImage t) where
   after-sizes = tagsOf (allSlots t) ++ recordsOf (allSlots t)
 
   head : List ℕ
-  head = headOf (orderOf t) (metricOf t)
+  head = headerOf (orderOf t) (metricOf t)
 
   image-is : imageOf t ≡ head ++ (flatten (map pair (countFrom 0 (suc (orderOf t)))) ++ after-sizes)
   unfolding imageOf head after-sizes pair sizesOf bucketsOf sizeBytes
@@ -65,7 +65,7 @@ module _ (t : Table) (fit : FitsImage t) where
   split-at k h = image-is ∙ ap (λ (r : List ℕ). head ++ (r ++ after-sizes)) (pair-at k h .split) ∙ simp append-assoc
 
   length-before : (k : ℕ) (h : k ≤ orderOf t) → length (head ++ pair-at k h .front) ≡ 4 + 4 * k
-  unfolding head headOf
+  unfolding head headerOf
   length-before k h = omega (arith, pair-at k h .long)
 
   built-back : (k : ℕ) → k ≤ orderOf t → builtIn (imageOf t) k ≡ builtOf t k
@@ -101,7 +101,7 @@ module _ (t : Table) (fit : FitsImage t) where
   all-rows = rw rows-are (all-flatten IsRow (slotsOf t) 0 (suc (orderOf t)) (λ k l. fit .rows k (omega arith)))
 
   order-back : orderIn (imageOf t) ≡ orderOf t
-  unfolding orderIn imageOf headOf
+  unfolding orderIn imageOf headerOf
   order-back = refl
 
   slots-back : slotsIn (imageOf t) ≡ length rows
@@ -136,7 +136,7 @@ module _ (t : Table) (fit : FitsImage t) where
   sizes = head ++ flatten (map pair (countFrom 0 (suc (orderOf t))))
 
   length-sizes : length sizes ≡ sizesEnd (orderOf t)
-  unfolding sizes head headOf sizesEnd headBytes pairBytes sizeBytes
+  unfolding sizes head headerOf sizesEnd headBytes pairBytes sizeBytes
   length-sizes =
       let n = countFrom 0 (suc (orderOf t)) in
       omega (arith, length-blocks pair 4 n (all-of (λ x. length (pair x) ≡ 4) length-pair n), length-count 0 (suc (orderOf t)))
@@ -199,7 +199,7 @@ module _ (t : Table) (fit : FitsImage t) where
 
 -- the plain codec fact: the bytes of a table whose fields fit give its fields back
 pub reads-back : (t : Table) → FitsImage t → ReadsBack t (imageOf t)
-unfolding metricIn imageOf headOf
+unfolding metricIn imageOf headerOf
 reads-back t fit =
     record {
       order = order-back t fit;

@@ -13,8 +13,8 @@ use Rattle.image.specs.declared.Written.{Written}
 use Rattle.image.specs.Bytes.{bytesOf, bytesOfWords, sizeBytes, tagWords}
 
 -- order, metric, two zero bytes
-unfoldable pub headOf : ℕ → ℕ → List ℕ
-headOf order metric = order ∷ metric ∷ 0 ∷ 0 ∷ []
+unfoldable pub headerOf : ℕ → ℕ → List ℕ
+headerOf order metric = order ∷ metric ∷ 0 ∷ 0 ∷ []
 
 -- built and live of each bucket from 0 up
 unfoldable pub sizesOf : ℕ → (ℕ → ℕ) → (ℕ → ℕ) → List ℕ
@@ -32,7 +32,7 @@ unfoldable pub allSlots : Table → List Row
 allSlots t = flatten (map (slotsOf t) (bucketsOf (orderOf t)))
 
 unfoldable pub imageOf : Table → List ℕ
-imageOf t = headOf (orderOf t) (metricOf t) ++ sizesOf (orderOf t) (builtOf t) (liveOf t) ++ tagsOf (allSlots t) ++ recordsOf (allSlots t)
+imageOf t = headerOf (orderOf t) (metricOf t) ++ sizesOf (orderOf t) (builtOf t) (liveOf t) ++ tagsOf (allSlots t) ++ recordsOf (allSlots t)
 
 -- after 23 and 24: 6, fewer bytes in the area than in the image
 unfoldable pub writeRefusal : Table → List ℕ → ℕ
