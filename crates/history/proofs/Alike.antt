@@ -38,7 +38,7 @@ steps =
     ∷ lentOnly 0 9 9 (add (tag 6) (valued 1))
     ∷ [])
     ++ roomy (removing (1 ∷ 1 ∷ 2 ∷ 3 ∷ []) ++ (write ∷ range (valued 14) 99 ∷ fresh 13 0 ∷ load deadImage ∷ load [] ∷ []))
-    ++ roomy (nearest (valued 13) 2 ∷ lookUp (tag 4) ∷ remove (tag 3) ∷ adding 7 (8 ∷ []) ++ (range (valued 0) 99 ∷ []))
+    ++ roomy (nearest (valued 13) 2 ∷ lookUp (tag 4) ∷ remove (tag 3) ∷ adding 7 (8 ∷ []) ++ (range (valued 0) 99 ∷ nearest (valued 90) 2 ∷ []))
 
 allShown : List Shown
 unfolding
