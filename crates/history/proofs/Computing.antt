@@ -22,7 +22,7 @@ use Rattle.image.specs.Bytes.{bytesOf, numberOf, wordBytes, bytesOfWords, headB
 use Rattle.image.specs.Write.{headerOf, sizesOf, tagsOf, recordsOf, allSlots, imageOf, writeRefusal, writeReply, imageAfterWrite}
 use Rattle.image.specs.Read.{numberAt, wordsAt, orderIn, metricIn, builtIn, liveIn, slotsBefore, slotsIn, rowIn, bucketIn}
 use Rattle.image.specs.Load.{distinct, fieldsPass, bucketPasses, liveRows, slotsPass, bodyRefusal, loadRefusal, loadedTable, tableAfterLoad}
-use Rattle.history.specs.Calls.{Call, Lent, Outcome, withTable, outcome}
+use Rattle.history.specs.Calls.{Call, Lent, Outcome, withTable, withWork, withResult, withImage, areasAfter, replyTo, outcome}
 
 unfoldable pub performed : Call → Lent → Outcome
 unfolding
@@ -43,5 +43,5 @@ unfolding
     pairBytes sizesEnd tagWords slotBytes imageLength headerOf sizesOf tagsOf recordsOf allSlots imageOf writeRefusal
     writeReply imageAfterWrite numberAt wordsAt orderIn metricIn builtIn liveIn slotsBefore slotsIn rowIn bucketIn
     distinct fieldsPass bucketPasses liveRows slotsPass bodyRefusal loadRefusal loadedTable tableAfterLoad withTable
-    outcome
+    withWork withResult withImage areasAfter replyTo outcome
 performed c lent = outcome c lent

@@ -51,74 +51,39 @@ pub record Outcome : Type 0 where
   pub reply : Reply
   pub areas : Lent
 
--- the areas with another table; and the outcome of a call that changes no area
+-- the areas with one of them as a call left it
 unfoldable pub withTable : Table → Lent → Lent
 withTable t lent = record { table = t; work = lent .work; result = lent .result; image = lent .image }
 
+unfoldable pub withWork : List Row → Lent → Lent
+withWork work lent = record { table = lent .table; work = work; result = lent .result; image = lent .image }
+
+unfoldable pub withResult : List Entry → Lent → Lent
+withResult result lent = record { table = lent .table; work = lent .work; result = result; image = lent .image }
+
+unfoldable pub withImage : List ℕ → Lent → Lent
+withImage image lent = record { table = lent .table; work = lent .work; result = lent .result; image = image }
+
+-- the areas after a call, by its arguments and the areas before it
+unfoldable pub areasAfter : Call → Lent → Lent
+areasAfter (fresh order metric) l = withTable (tableAfterFresh order metric (l .table)) l
+areasAfter (load image) l = withTable (tableAfterLoad image (l .table)) l
+areasAfter (add tag p) l = withTable (tableAfterAdd (l .table) (l .work) tag p) (withWork (workAfterAdd (l .table) (l .work) tag p) l)
+areasAfter (remove tag) l = withTable (tableAfterRemove (l .table) (l .work) tag) (withWork (workAfterRemove (l .table) (l .work) tag) l)
+areasAfter (lookUp tag) l = l
+areasAfter (range q r) l = withResult (resultAfterRange (l .table) (l .result) q r) l
+areasAfter (nearest q k) l = withResult (resultAfterNearest (l .table) (l .result) q k) l
+areasAfter write l = withImage (imageAfterWrite (l .table) (l .image)) l
+
+unfoldable pub replyTo : Call → Lent → Reply
+replyTo (fresh order metric) l = number (freshRefusal (length (l .table)) order metric)
+replyTo (load image) l = number (loadRefusal (length (l .table)) image)
+replyTo (add tag p) l = added (addReply (l .table) (l .work) tag p)
+replyTo (remove tag) l = removed (removeReply (l .table) (l .work) tag)
+replyTo (lookUp tag) l = lookedUp (lookUpReply (l .table) tag)
+replyTo (range q r) l = searched (rangeReply (l .table) (l .result) q r)
+replyTo (nearest q k) l = searched (nearestReply (l .table) (l .result) q k)
+replyTo write l = written (writeReply (l .table) (l .image))
+
 unfoldable pub outcome : Call → Lent → Outcome
-outcome (fresh order metric) lent =
-    record {
-      reply = number (freshRefusal (length (lent .table)) order metric);
-      areas = withTable (tableAfterFresh order metric (lent .table)) lent;
-    }
-outcome (load image) lent =
-    record {
-      reply = number (loadRefusal (length (lent .table)) image);
-      areas = withTable (tableAfterLoad image (lent .table)) lent;
-    }
-outcome (add tag p) lent =
-    record {
-      reply = added (addReply (lent .table) (lent .work) tag p);
-      areas =
-          record {
-            table = tableAfterAdd (lent .table) (lent .work) tag p;
-            work = workAfterAdd (lent .table) (lent .work) tag p;
-            result = lent .result;
-            image = lent .image;
-          };
-    }
-outcome (remove tag) lent =
-    record {
-      reply = removed (removeReply (lent .table) (lent .work) tag);
-      areas =
-          record {
-            table = tableAfterRemove (lent .table) (lent .work) tag;
-            work = workAfterRemove (lent .table) (lent .work) tag;
-            result = lent .result;
-            image = lent .image;
-          };
-    }
-outcome (lookUp tag) lent = record { reply = lookedUp (lookUpReply (lent .table) tag); areas = lent }
-outcome (range q r) lent =
-    record {
-      reply = searched (rangeReply (lent .table) (lent .result) q r);
-      areas =
-          record {
-            table = lent .table;
-            work = lent .work;
-            result = resultAfterRange (lent .table) (lent .result) q r;
-            image = lent .image;
-          };
-    }
-outcome (nearest q k) lent =
-    record {
-      reply = searched (nearestReply (lent .table) (lent .result) q k);
-      areas =
-          record {
-            table = lent .table;
-            work = lent .work;
-            result = resultAfterNearest (lent .table) (lent .result) q k;
-            image = lent .image;
-          };
-    }
-outcome write lent =
-    record {
-      reply = written (writeReply (lent .table) (lent .image));
-      areas =
-          record {
-            table = lent .table;
-            work = lent .work;
-            result = lent .result;
-            image = imageAfterWrite (lent .table) (lent .image);
-          };
-    }
+outcome c l = record { reply = replyTo c l; areas = areasAfter c l }
