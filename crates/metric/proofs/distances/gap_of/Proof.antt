@@ -1,4 +1,5 @@
--- `metric::distances::gap_of`: the two sums, wrapped, are as far apart as the signed numbers (`words-apart`).
+-- `metric::distances::gap_of` is the absolute difference of two signed words.
+-- The two sums, wrapped, are as far apart as the signed numbers (`words-apart`).
 use borrow.Author.Needs.{needs}
 use native.Mathlib.Omega.{arith}
 use Rattle.metric.proofs.Words.{words-apart}
