@@ -4,13 +4,9 @@ use Prim.Native.Nat.{ℕ, zero, suc, _+_}
 use mathlib.Core.Path.{_≡_, refl, sym, _∙_, ap, subst}
 use mathlib.Core.List.{List, [], _∷_, _++_, map, List·Permᴰ, List·Permᴰ·nil, List·Permᴰ·cons, List·Permᴰ·swap, List·Permᴰ·trans}
 use lib.ListN.{length, take, drop}
+use Rattle.tree.specs.Guided.{All}
 
 module _ {A : Type 0} where
-  -- P holds of every element
-  abbrev pub All : (A → Type 0) → List A → Type 0
-  All P [] = Unit {0}
-  All P (x ∷ xs) = P x × All P xs
-
   -- R holds of every element and each element after it
   abbrev pub Pairs : (A → A → Type 0) → List A → Type 0
   Pairs R [] = Unit {0}
