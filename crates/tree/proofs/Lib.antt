@@ -1,2 +1,5 @@
 pub mod Lists
 pub mod Sorting
+pub mod Selecting
+pub mod Pruning
+pub mod RangeLaws

@@ -1,4 +1,5 @@
--- Slots that guide a search: what a layout's thresholds say of its halves. Marks and tags play no part.
+-- What a tree's thresholds promise a search, of the slots alone and marks aside: at every slot the left half lies within its threshold and the
+-- right half not below it. The laws on layouts end in this, and the laws on searches start from it.
 use Prim.Native.Nat.{ℕ, zero, suc, _≤_}
 use mathlib.Core.List.{List, [], _∷_}
 use lib.ListN.{length, take, drop}
@@ -12,20 +13,22 @@ All P [] = Unit {0}
 All P (x ∷ xs) = P x × All P xs
 
 module _ (dist : Profile → Profile → ℕ) where
-  -- the left half's slots are at most the threshold away from the first slot, the right half's at least
-  pub record Parted (first : Row) (left right : List Row) : Type 0 where
-    pub near : All (λ x. dist (profileOf first) (profileOf x) ≤ thresholdOf first) left
-    pub far : All (λ x. thresholdOf first ≤ dist (profileOf first) (profileOf x)) right
+  unfoldable pub fromSlot : Row → Row → ℕ
+  unfolding profileOf
+  fromSlot v x = dist (profileOf v) (profileOf x)
 
-  -- the slots are parted by their first, and both halves likewise. The first argument bounds the depth, and their number is enough
-  unfoldable pub guidedWithin : ℕ → List Row → Type 0
-  unfolding leftSize
-  guidedWithin zero slots = Unit {0}
-  guidedWithin (suc depth) [] = Unit {0}
-  guidedWithin (suc depth) (s ∷ rest) =
+  -- the first argument bounds the depth, and the number of slots is enough
+  unfoldable pub GuidedWithin : ℕ → List Row → Type 0
+  unfolding fromSlot thresholdOf leftSize
+  GuidedWithin zero slots = Unit {0}
+  GuidedWithin (suc depth) [] = Unit {0}
+  GuidedWithin (suc depth) (v ∷ rest) =
       let l = leftSize (suc (length rest)) in
-      Parted s (take l rest) (drop l rest) × guidedWithin depth (take l rest) × guidedWithin depth (drop l rest)
+      All (λ x. fromSlot v x ≤ thresholdOf v) (take l rest)
+      × All (λ x. thresholdOf v ≤ fromSlot v x) (drop l rest)
+      × GuidedWithin depth (take l rest)
+      × GuidedWithin depth (drop l rest)
 
   unfoldable pub Guided : List Row → Type 0
-  unfolding guidedWithin
-  Guided slots = guidedWithin (length slots) slots
+  unfolding GuidedWithin
+  Guided slots = GuidedWithin (length slots) slots
