@@ -3,3 +3,4 @@ pub mod Sorting
 pub mod Selecting
 pub mod Pruning
 pub mod RangeLaws
+pub mod Keep
