@@ -4,3 +4,4 @@ pub mod Selecting
 pub mod Pruning
 pub mod RangeLaws
 pub mod Keep
+pub mod NearestLaws

@@ -6,18 +6,18 @@ use mathlib.Core.Bool.{Bool, true, false, _&&_, and-false}
 use mathlib.Core.List.{List, [], _∷_, _++_, map, map-append}
 use lib.ListN.{length, take, drop, length-take, length-drop, take-append-drop, length-append}
 use lib.Dec.{leb}
-use borrow.Author.Tests.{lt-leb, leb-false}
+use borrow.Author.Tests.{lt-leb}
 use native.Mathlib.Omega.{arith}
 use Rattle.metric.specs.declared.Profile.{Profile}
 use Rattle.metric.specs.Lists.{select}
-use Rattle.metric.specs.Row.{Row, profileOf, thresholdOf}
+use Rattle.metric.specs.Row.{Row, thresholdOf}
 use Rattle.metric.specs.Distance.{Metric}
 use Rattle.tree.specs.Layout.{leftSize}
-use Rattle.tree.specs.Guided.{All, fromSlot, GuidedWithin, Guided}
+use Rattle.tree.specs.Guided.{All, GuidedWithin, Guided}
 use Rattle.tree.specs.Range.{Entry, ordered, Met, nothing, both, toQuery, entryOf, isLive, isHit, visited, entersLeft, entersRight, rangeWithin, rangeTree}
 use Rattle.tree.proofs.Lists.{all-weaken}
 use Rattle.tree.proofs.Selecting.{select-append, select-none}
-use Rattle.tree.proofs.Pruning.{left-far, right-far}
+use Rattle.tree.proofs.Pruning.{left-out, right-out}
 
 -- what a half gives, where its test lets it be entered
 unfoldable pub ifEntered : Bool → Met → Met
@@ -127,14 +127,6 @@ module _ (dist : Profile → Profile → ℕ) (query : Profile) (radius : ℕ) w
     own-hit true s found rest e = ap (λ (l : List Entry). entryOf dist query s ∷ l) e
     own-hit false s found rest e = e
 
-    left-out : (s x : Row) → fromSlot dist s x ≤ thresholdOf s → entersLeft (toQuery dist query s) (thresholdOf s) radius ≡ false → radius < toQuery dist query x
-    unfolding entersLeft toQuery fromSlot
-    left-out s x near out = left-far dist laws (profileOf s) (profileOf x) query (thresholdOf s) radius near (leb-false _ _ out)
-
-    right-out : (s x : Row) → thresholdOf s ≤ fromSlot dist s x → entersRight (toQuery dist query s) (thresholdOf s) radius ≡ false → radius < toQuery dist query x
-    unfolding entersRight toQuery fromSlot
-    right-out s x far out = right-far dist laws (profileOf s) (profileOf x) query (thresholdOf s) radius far (leb-false _ _ out)
-
     hits-within : (n : ℕ) (slots : List Row) → length slots ≤ n → GuidedWithin dist n slots
         → rangeWithin dist query radius n slots .hits ≡ map (entryOf dist query) (select (isHit dist query radius) slots)
     unfolding rangeWithin rangeStep GuidedWithin select
@@ -152,8 +144,8 @@ module _ (dist : Profile → Profile → ℕ) (query : Profile) (radius : ℕ) w
         rest
         (ap₂
         _++_
-        (half-hits _ _ (take l rest) left (λ out. all-weaken (λ x near. left-out s x near out) (take l rest) (g .0)))
-        (half-hits _ _ (drop l rest) right (λ out. all-weaken (λ x far. right-out s x far out) (drop l rest) (g .1)))
+        (half-hits _ _ (take l rest) left (λ out. all-weaken (left-out dist laws query radius s out) (take l rest) (g .0)))
+        (half-hits _ _ (drop l rest) right (λ out. all-weaken (right-out dist laws query radius s out) (drop l rest) (g .1)))
         ∙ parts-hits l rest)
 
     -- over slots that guide, the hits are the live slots at most the radius away, in slot order
