@@ -5,3 +5,4 @@ pub mod Pruning
 pub mod RangeLaws
 pub mod Keep
 pub mod NearestLaws
+pub mod Reaching

@@ -2,4 +2,5 @@ pub mod Sorting
 pub mod Layout
 pub mod Guided
 pub mod Range
+pub mod Reached
 pub mod Nearest
