@@ -12,12 +12,9 @@ use Rattle.tree.specs.Sorting.{keyLe, insertBy, sortBy}
 use Rattle.tree.specs.Guided.{All}
 use Rattle.tree.specs.Range.{Entry, entry, entryDistance, entryKey, ordered}
 use Rattle.tree.specs.Nearest.{keep, worst}
+use Rattle.tree.specs.Heap.{Pair}
 use Rattle.tree.proofs.Lists.{all-weaken, all-always, all-append, all-take, all-perm, pairs-of-all, pairs-take}
 use Rattle.tree.proofs.Sorting.{NotAfter, Sorted, Told, sort-perm, sort-length, sort-sorted, sort-of-sorted, sort-permuted, key-le-cases, insert-behind}
-
--- what every element of a result area is: a tag and a distance
-abbrev pub Pair : Entry → Type 0
-Pair e = length e ≡ 2
 
 pair-form : (e : Entry) → Pair e → e ≡ entry (getD e 0 0) (entryDistance e)
 unfolding entry entryDistance

@@ -5,4 +5,5 @@ pub mod Pruning
 pub mod RangeLaws
 pub mod Keep
 pub mod NearestLaws
+pub mod Heap
 pub mod Reaching

@@ -17,10 +17,11 @@ use Rattle.tree.specs.Layout.{leftSize}
 use Rattle.tree.specs.Guided.{All, fromSlot, GuidedWithin, Guided}
 use Rattle.tree.specs.Range.{Entry, entry, entryDistance, toQuery, entryOf, isLive, entersLeft, entersRight}
 use Rattle.tree.specs.Nearest.{keep, Tally, worst, opens, taken, turn, halvesInTurn, nearestWithin, nearestTree}
+use Rattle.tree.specs.Heap.{Pair}
 use Rattle.tree.proofs.Lists.{all-weaken, all-always, all-append, all-map}
 use Rattle.tree.proofs.Selecting.{select-append}
 use Rattle.tree.proofs.Pruning.{left-out, right-out}
-use Rattle.tree.proofs.Keep.{Pair, Kept, keep-length, keep-kept, keep-of-kept, keep-permuted, keep-absorbs, keep-drops, append-swap}
+use Rattle.tree.proofs.Keep.{Kept, keep-length, keep-kept, keep-of-kept, keep-permuted, keep-absorbs, keep-drops, append-swap}
 
 module _ (dist : Profile → Profile → ℕ) (query : Profile) (k : ℕ) where
   -- the first slot, and its halves in turn

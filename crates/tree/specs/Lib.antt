@@ -4,3 +4,4 @@ pub mod Guided
 pub mod Range
 pub mod Reached
 pub mod Nearest
+pub mod Heap
