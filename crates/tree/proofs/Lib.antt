@@ -6,4 +6,5 @@ pub mod RangeLaws
 pub mod Keep
 pub mod NearestLaws
 pub mod Heap
+pub mod HeapSort
 pub mod Reaching
