@@ -1,0 +1,6 @@
+-- The laws of this crate's definitions, for its own proofs and for the crates above.
+pub mod Elements
+pub mod Codec
+pub mod Apart
+pub mod Digits
+pub mod Laws
