@@ -16,7 +16,7 @@ cost-within-few (suc d) n h =
     ap (λ (p : Bool). elim p [ true ↦ 0 | false ↦ n - 1 + costWithin d (leftSize n) + costWithin d (n - 1 - leftSize n) ]) (le-leb n 1 h)
 
 cost-within-more :
-  (d n : ℕ) → 1 < n → costWithin (suc d) n ≡ n - 1 + costWithin d (leftSize n) + costWithin d (n - 1 - leftSize n)
+    (d n : ℕ) → 1 < n → costWithin (suc d) n ≡ n - 1 + costWithin d (leftSize n) + costWithin d (n - 1 - leftSize n)
 unfolding costWithin
 cost-within-more d n h =
     ap (λ (p : Bool). elim p [ true ↦ 0 | false ↦ n - 1 + costWithin d (leftSize n) + costWithin d (n - 1 - leftSize n) ]) (lt-leb n 1 h)
@@ -29,10 +29,10 @@ cost-depth (suc d) zero n h k = cost-within-few (suc d) n (omega arith) ∙ sym 
 cost-depth (suc d) (suc e) n h k = go (leb n 1) refl (cost-depth d e (leftSize n)) (cost-depth d e (n - 1 - leftSize n))
   where
     go :
-      (p : Bool) → leb n 1 ≡ p
-      → (leftSize n ≤ d → leftSize n ≤ e → costWithin d (leftSize n) ≡ costWithin e (leftSize n))
-      → (n - 1 - leftSize n ≤ d → n - 1 - leftSize n ≤ e → costWithin d (n - 1 - leftSize n) ≡ costWithin e (n - 1 - leftSize n))
-      → costWithin (suc d) n ≡ costWithin (suc e) n
+        (p : Bool) → leb n 1 ≡ p
+        → (leftSize n ≤ d → leftSize n ≤ e → costWithin d (leftSize n) ≡ costWithin e (leftSize n))
+        → (n - 1 - leftSize n ≤ d → n - 1 - leftSize n ≤ e → costWithin d (n - 1 - leftSize n) ≡ costWithin e (n - 1 - leftSize n))
+        → costWithin (suc d) n ≡ costWithin (suc e) n
     go true t l r =
         cost-within-few (suc d) n (leb-true n 1 t) ∙ sym (cost-within-few (suc e) n (leb-true n 1 t))
     go false t l r =
@@ -62,15 +62,16 @@ cost-bound zero n h = omega (arith, cost-few n (omega arith))
 cost-bound (suc k) n h = go (leb n 1) refl (cost-bound k (n / 2)) (cost-bound k (n - 1 - n / 2))
   where
     go :
-      (p : Bool) → leb n 1 ≡ p → (n / 2 ≤ 2 ^ k → cost (n / 2) ≤ k * (n / 2))
-      → (n - 1 - n / 2 ≤ 2 ^ k → cost (n - 1 - n / 2) ≤ k * (n - 1 - n / 2)) → cost n ≤ suc k * n
+        (p : Bool) → leb n 1 ≡ p → (n / 2 ≤ 2 ^ k → cost (n / 2) ≤ k * (n / 2))
+        → (n - 1 - n / 2 ≤ 2 ^ k → cost (n - 1 - n / 2) ≤ k * (n - 1 - n / 2)) → cost n ≤ suc k * n
     go true t l r = omega (arith, cost-few n (leb-true n 1 t))
     go false t l r =
-        omega
-        ( arith
-        , cost-halves n (leb-false n 1 t)
-        , l (omega (arith, pow-suc 2 k))
-        , r (omega (arith, pow-suc 2 k))
-        , mul-add k (n / 2) (n - 1 - n / 2)
-        , mul-le-mul-left {m = n / 2 + (n - 1 - n / 2)} {n = n} k (omega arith)
-        , suc-mul k n )
+        omega (
+          arith,
+          cost-halves n (leb-false n 1 t),
+          l (omega (arith, pow-suc 2 k)),
+          r (omega (arith, pow-suc 2 k)),
+          mul-add k (n / 2) (n - 1 - n / 2),
+          mul-le-mul-left {m = n / 2 + (n - 1 - n / 2)} {n = n} k (omega arith),
+          suc-mul k n,
+        )
