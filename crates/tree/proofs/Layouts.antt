@@ -5,12 +5,13 @@ use native.Mathlib.Omega.{arith}
 use mathlib.Core.Path.{_≡_, refl, sym, _∙_, ap, ap₂, subst}
 use mathlib.Core.List.{List, [], _∷_, _++_, map, foldl, map-append, List·Permᴰ, List·Permᴰ·nil, List·Permᴰ·cons, List·Permᴰ·trans, Permᴰ·symm}
 use lib.ListN.{length, length-map, getD, take, drop, length-take, length-drop, length-append, take-append-drop}
+use lib.Seq.{take-at, drop-at}
 use Rattle.metric.specs.declared.Profile.{Profile}
 use Rattle.metric.specs.Row.{Row, tagOf, profileOf}
 use Rattle.tree.specs.Sorting.{keyLe, insertBy, sortBy}
 use Rattle.tree.specs.Guided.{All}
 use Rattle.tree.specs.Layout.{leftSize, Ranked, rankedFrom, tagKey, placed, fromPivot, nearKey, lastDistance, split, node, layoutWithin, layout}
-use Rattle.tree.proofs.Lists.{Pairs, all-perm, pairs-weaken, perm-length, perm-of-eq, perm-both, perm-map, map-take, map-drop}
+use Rattle.tree.proofs.Lists.{Pairs, all-perm, all-map, all-of-map, pairs-weaken, perm-length, perm-of-eq, perm-both, perm-map, map-take, map-drop}
 use Rattle.tree.proofs.Placed.{tag-placed, profile-placed, placed-again}
 use Rattle.tree.proofs.Sorting.{NotAfter, Sorted, Told, sort-perm, sort-length, sort-sorted, sort-permuted, sort-cons, insert-first, sort-map}
 
@@ -19,15 +20,26 @@ pub left-fits : (n : ℕ) → leftSize (suc n) ≤ n
 unfolding leftSize
 left-fits n = omega arith
 
-ranked-length : (n : ℕ) (rows : List Row) → length (rankedFrom n rows) ≡ length rows
+pub ranked-length : (n : ℕ) (rows : List Row) → length (rankedFrom n rows) ≡ length rows
 unfolding rankedFrom
 ranked-length n [] = refl
 ranked-length n (r ∷ rs) = ap suc (ranked-length (suc n) rs)
 
-ranked-rows : {B : Type 0} (f : Row → B) (n : ℕ) (rows : List Row) → map (λ x. f (x .row)) (rankedFrom n rows) ≡ map f rows
+pub ranked-rows : {B : Type 0} (f : Row → B) (n : ℕ) (rows : List Row) → map (λ x. f (x .row)) (rankedFrom n rows) ≡ map f rows
 unfolding rankedFrom
 ranked-rows f n [] = refl
 ranked-rows f n (r ∷ rs) = ap (λ (bs : List _). f r ∷ bs) (ranked-rows f (suc n) rs)
+
+-- a rest, cut at its left half's size, is its two halves
+module _ {A : Type 0} (left right : List A) (half : length left ≡ leftSize (suc (length left + length right))) where
+  cut : length left ≡ leftSize (suc (length (left ++ right)))
+  cut = half ∙ ap (λ (n : ℕ). leftSize (suc n)) (sym (length-append left right))
+
+  pub take-left : take (leftSize (suc (length (left ++ right)))) (left ++ right) ≡ left
+  take-left = take-at left right (leftSize (suc (length (left ++ right)))) cut
+
+  pub drop-left : drop (leftSize (suc (length (left ++ right)))) (left ++ right) ≡ right
+  drop-left = drop-at left right (leftSize (suc (length (left ++ right)))) cut
 
 -- a ranked row but for its threshold and its mark
 unfoldable pub stripped : Ranked → Ranked
@@ -52,6 +64,14 @@ module _ (dist : Profile → Profile → ℕ) where
       (h (take l near) (simp length-take (omega arith)))
       (h (drop l near) (simp length-drop (omega arith)))
 
+  -- a slot over its halves, which stand one after the other
+  pub split-halves :
+      (below : List Ranked → List Row) (v : Ranked) (left right : List Ranked) → length left ≡ leftSize (suc (length left + length right))
+      → split dist below v (left ++ right) ≡ placed (lastDistance dist v left) (v .row) ∷ below left ++ below right
+  unfolding split
+  split-halves below v left right half =
+      ap₂ (λ (a b : List Ranked). placed (lastDistance dist v a) (v .row) ∷ below a ++ below b) (take-left left right half) (drop-left left right half)
+
   -- the number of rows is depth enough
   pub layout-depth : (d e : ℕ) (xs : List Ranked) → length xs ≤ d → length xs ≤ e → layoutWithin dist d xs ≡ layoutWithin dist e xs
   unfolding layoutWithin sortBy node
@@ -67,6 +87,10 @@ module _ (dist : Profile → Profile → ℕ) where
   -- the slots of ranked rows
   unfoldable pub layoutOf : List Ranked → List Row
   layoutOf xs = layoutWithin dist (length xs) xs
+
+  pub layout-none : layoutOf [] ≡ []
+  unfolding layoutOf layoutWithin
+  layout-none = refl
 
   pub layout-ranked : (rows : List Row) → layout dist rows ≡ layoutOf (rankedFrom 0 rows)
   unfolding layout layoutOf
@@ -136,6 +160,11 @@ module _ (dist : Profile → Profile → ℕ) where
         (λ v left right n a s l r. List·Permᴰ·cons (kept (lastDistance dist v left) (v .row)) (List·Permᴰ·trans
         (perm-of-eq (map-append f (layoutOf left) (layoutOf right)))
         (List·Permᴰ·trans (perm-both l r) (perm-of-eq (sym (map-append (λ x. f (x .row)) left right))))))
+
+    -- so what all the input's rows have besides those all slots have
+    pub layout-of-all : (Q : B → Type 0) (xs : List Ranked) → All (λ x. Q (f (x .row))) xs → All (λ r. Q (f r)) (layoutOf xs)
+    layout-of-all Q xs h =
+        all-of-map f Q (layoutOf xs) (all-perm Q (Permᴰ·symm (layout-of-permutes xs)) (all-map (λ (x : Ranked). f (x .row)) Q xs h))
 
   -- the input's order does not count where elements with one tag and rank are one
   pub layout-reordered : {xs ys : List Ranked} → List·Permᴰ xs ys → Pairs (Told tagKey) xs → layoutOf xs ≡ layoutOf ys

@@ -1,5 +1,9 @@
 pub mod Lists
+pub mod Tests
 pub mod Sorting
 pub mod Cost
 pub mod Placed
 pub mod Layouts
+pub mod LastKey
+pub mod InPlace
+pub mod Marks

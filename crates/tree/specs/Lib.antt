@@ -1,5 +1,6 @@
 pub mod Sorting
 pub mod Layout
 pub mod Guided
+pub mod InPlace
 pub mod Range
 pub mod Nearest
