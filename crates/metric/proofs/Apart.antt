@@ -2,12 +2,12 @@
 -- moved up by one base that makes neither negative. So the laws of signed differences are linear arithmetic.
 use Prim.Native.Nat.{ℕ, zero, suc, _+_, _-_, _≤_}
 use native.Mathlib.Omega.{arith}
-use mathlib.Core.Path.{_≡_, refl, _∙_}
+use mathlib.Core.Path.{_≡_, refl, ap, _∙_}
 use mathlib.Core.Bool.{Bool, true, false, cond}
 use lib.Bits.{differ}
 use lib.Dec.{ltb}
-use lib.IntN.{ℤ, pos, negsuc, _-ℤ_, natAbs, subℕ}
-use borrow.Author.Tests.{ltb-true, ltb-false}
+use lib.IntN.{ℤ, pos, negsuc, _+ℤ_, _-ℤ_, natAbs, subℕ}
+use borrow.Author.Tests.{ltb-true, ltb-false, le-ltb}
 
 -- how far apart two numbers are
 abbrev pub apart : ℕ → ℕ → ℕ
@@ -67,3 +67,8 @@ pub abs-sum : (x y : ℤ) → natAbs (x -ℤ y) ≤ natAbs x + natAbs y
 abs-sum x y =
     let base = natAbs x + natAbs y in
     omega (arith, abs-lifted base x y (omega arith) (omega arith), abs-size base x (omega arith), abs-size base y (omega arith))
+
+-- a number moved up is a sum
+pub lifted-sum : (base : ℕ) (x : ℤ) → natAbs x ≤ base → x +ℤ pos base ≡ pos (lifted base x)
+lifted-sum base (pos n) h = ap pos (omega arith)
+lifted-sum base (negsuc n) h = rw (le-ltb base (suc n) h)

@@ -2,7 +2,7 @@
 -- A sum of four absolute differences keeps the three laws, and saturation keeps them; the codes go by the digits of their words.
 use Prim.Native.Nat.{ℕ, zero, suc, _+_, _*_, _≤_}
 use native.Mathlib.Omega.{arith}
-use mathlib.Core.Path.{_≡_, refl}
+use mathlib.Core.Path.{_≡_, refl, ap}
 use mathlib.Core.Bool.{true}
 use lib.IntN.{pos, natAbs}
 use borrow.Author.Tests.{leb-true}
@@ -76,7 +76,16 @@ code-metric =
           );
     }
 
--- the table's metric
+-- the table's metric: number 0 is metric 0, and every other number reads as metric 1
+pub distance-measures : (metric : ℕ) → metric ≡ 0 → distance metric ≡ measureDistance
+unfolding distance
+distance-measures metric e = ap distance e
+
+pub distance-codes : (metric : ℕ) → (metric ≡ 0 → ⊥) → distance metric ≡ codeDistance
+unfolding distance
+distance-codes zero ne = absurd (ne refl)
+distance-codes (suc metric) ne = refl
+
 pub distance-metric : (metric : ℕ) → Metric (distance metric)
 unfolding distance
 distance-metric zero = measure-metric

@@ -2,5 +2,8 @@
 pub mod Elements
 pub mod Codec
 pub mod Apart
+pub mod Words
 pub mod Digits
+pub mod Values
+pub mod Ranges
 pub mod Laws

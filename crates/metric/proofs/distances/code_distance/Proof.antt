@@ -1,0 +1,44 @@
+-- `metric::distances::code_distance`: each count is at most 64, and the words are those of the two profiles' codes (`code-words`).
+use borrow.Author.Needs.{needs}
+use native.Mathlib.Omega.{arith}
+use Prim.Native.Nat.{_+_}
+use mathlib.Core.Path.{sym, ap₂, _∙_}
+use Rattle.metric.specs.Row.{profileOf, codeWord}
+use Rattle.metric.specs.Distance.{differing}
+use Rattle.metric.proofs.Digits.{differing-le}
+use Rattle.metric.proofs.Laws.{code-words}
+use Rattle.metric.proofs.distances.code_distance.Statement.{statement}
+use Rattle.metric.proofs.distances.code_distance.Tie as tie
+
+add-result : tie.Need-add-result
+add-result c =
+    let c1 = c .before in
+    let c2 = c1 .before in
+    let c4 = c2 .before .before in
+    omega (
+      arith,
+      differing-le 64 (c4 .before .joined .result) (c4 .joined2 .result),
+      differing-le 64 (c2 .joined3 .result) (c1 .joined4 .result),
+    )
+
+returns : tie.Need-returns
+unfolding profileOf codeWord
+returns c =
+    let c1 = c .before in
+    let c2 = c1 .before in
+    let c3 = c2 .before in
+    let c4 = c3 .before in
+    let s = c4 .before .before in
+    ap₂ _+_
+    (c3 .differing-bits .ensures ∙ ap₂ (differing 64) (c4 .before .joined .ensures) (c4 .joined2 .ensures))
+    (c .differing-bits2 .ensures ∙ ap₂ (differing 64) (c2 .joined3 .ensures) (c1 .joined4 .ensures))
+    ∙ sym (code-words (profileOf (s .args .t1)) (profileOf (s .args .t2)))
+
+pub code-distance-spec : {M : Type 1} → statement M
+code-distance-spec =
+    tie.close
+    (tie.spec
+    (λ c. search needs) (λ c. search needs) (λ c κs. search needs) (λ c. search needs)
+    (λ c. search needs) (λ c κs. search needs) (λ c κs. search needs) (λ c. search needs)
+    (λ c. search needs) (λ c κs. search needs) (λ c. search needs) (λ c. search needs)
+    (λ c κs. search needs) (λ c κs. search needs) add-result returns)

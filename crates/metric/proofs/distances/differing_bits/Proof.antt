@@ -1,0 +1,11 @@
+-- `metric::distances::differing_bits`: the ones of the exclusive-or are the digits that differ (`differing-ones`).
+use mathlib.Core.Path.{sym}
+use Rattle.metric.proofs.Digits.{differing-ones}
+use Rattle.metric.proofs.distances.differing_bits.Statement.{statement}
+use Rattle.metric.proofs.distances.differing_bits.Tie as tie
+
+returns : tie.Need-returns
+returns c = sym (differing-ones 64 (c .args .a) (c .args .b) (c .fits .a .fits) (c .fits .b .fits))
+
+pub differing-bits-spec : {M : Type 1} → statement M
+differing-bits-spec = tie.close (tie.spec returns)

@@ -1,0 +1,15 @@
+-- `metric::distance_to`: the query's row has the query for its profile (`profile-of-row`).
+use borrow.Author.Needs.{needs}
+use Rattle.metric.proofs.Codec.{profile-of-row}
+use Rattle.metric.proofs.Values.{is-profile}
+use Rattle.metric.proofs.distances.distance_to.Statement.{statement}
+use Rattle.metric.proofs.distances.distance_to.Tie as tie
+
+returns : tie.Need-returns
+returns c =
+    let s = c .before .before in
+    let q = profile-of-row 0 (s .args .query) 0 0 (is-profile (s .args .query) _ (s .good .1 .1 .0)) in
+    cc
+
+pub distance-to-spec : {M : Type 1} → statement M
+distance-to-spec = tie.close (tie.spec (λ c κs. search needs) (λ c κs. search needs) returns)

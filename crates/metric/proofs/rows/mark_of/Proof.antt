@@ -1,0 +1,13 @@
+-- `metric::mark_of` reads the word that `markOf` names.
+use borrow.Author.Needs.{needs}
+use mathlib.Core.Path.{refl}
+use Rattle.metric.specs.Row.{markOf}
+use Rattle.metric.proofs.rows.mark_of.Statement.{statement}
+use Rattle.metric.proofs.rows.mark_of.Tie as tie
+
+returns : tie.Need-returns
+unfolding markOf
+returns c = refl
+
+pub mark-of-spec : {M : Type 1} → statement M
+mark-of-spec = tie.close (tie.spec (λ c. search needs) returns)

@@ -1,0 +1,12 @@
+-- `metric::tag_of` returns the number of words 0 and 1.
+use borrow.Author.Needs.{needs}
+use Rattle.metric.specs.Row.{tagOf}
+use Rattle.metric.proofs.rows.tag_of.Statement.{statement}
+use Rattle.metric.proofs.rows.tag_of.Tie as tie
+
+returns : tie.Need-returns
+unfolding tagOf
+returns c = c .joined .ensures
+
+pub tag-of-spec : {M : Type 1} → statement M
+tag-of-spec = tie.close (tie.spec (λ c. search needs) (λ c. search needs) (λ c κs. search needs) returns)

@@ -1,0 +1,13 @@
+-- `metric::threshold_of` reads the word that `thresholdOf` names.
+use borrow.Author.Needs.{needs}
+use mathlib.Core.Path.{refl}
+use Rattle.metric.specs.Row.{thresholdOf}
+use Rattle.metric.proofs.rows.threshold_of.Statement.{statement}
+use Rattle.metric.proofs.rows.threshold_of.Tie as tie
+
+returns : tie.Need-returns
+unfolding thresholdOf
+returns c = refl
+
+pub threshold-of-spec : {M : Type 1} → statement M
+threshold-of-spec = tie.close (tie.spec (λ c. search needs) returns)

@@ -1,0 +1,79 @@
+// The distance between two rows, and between a row and a query, by a table's metric.
+ghost use mathlib.Core.Path.{_≡_};
+ghost use lib.IntN.{_-ℤ_, natAbs};
+ghost use mir.Syntax.{w32};
+ghost use mir.Val.{toZ};
+ghost use Prim.Native.Nat.{_+_};
+ghost use Rattle.metric.specs.Row.{profileOf};
+ghost use Rattle.metric.specs.Distance.{saturated, differing, measureDistance, codeDistance, distance};
+use super::Profile;
+use super::Row;
+use super::rows::joined;
+use super::rows::row_of;
+
+// The absolute difference of the signed numbers that two words hold. Moved up by 2^31 they are unsigned, in the same order and as far apart, and
+// any two of them differ by less than 2^32.
+fn gap_of(a: u32, b: u32) -> u32
+    ensures { λ r. ⌜ r ≡ natAbs (toZ w32 a -ℤ toZ w32 b) ⌝ }
+{
+    let x = std::num::wrapping_add_u32(a, 0x8000_0000);
+    let y = std::num::wrapping_add_u32(b, 0x8000_0000);
+    if x < y { y - x } else { x - y }
+}
+
+// The sum of four numbers, or the largest number of 32 bits where it is more.
+fn saturated_sum(a: u32, b: u32, c: u32, d: u32) -> u32
+    ensures { λ r. ⌜ r ≡ saturated (a + b + c + d) ⌝ }
+{
+    let sum = a as u64 + b as u64 + c as u64 + d as u64;
+    if sum <= 0xffff_ffff {
+        sum as u32
+    } else {
+        0xffff_ffff
+    }
+}
+
+// Metric 0.
+fn measure_distance(a: Row, b: Row) -> u32
+    ensures { λ r. ⌜ r ≡ measureDistance (profileOf a) (profileOf b) ⌝ }
+{
+    saturated_sum(
+        gap_of(a[2], b[2]),
+        gap_of(a[3], b[3]),
+        gap_of(a[4], b[4]),
+        gap_of(a[5], b[5]),
+    )
+}
+
+// The number of bits in which two words differ.
+fn differing_bits(a: u64, b: u64) -> u32
+    ensures { λ r. ⌜ r ≡ differing 64 a b ⌝ }
+{
+    u64::count_ones(a ^ b)
+}
+
+// Metric 1.
+fn code_distance(a: Row, b: Row) -> u32
+    ensures { λ r. ⌜ r ≡ codeDistance (profileOf a) (profileOf b) ⌝ }
+{
+    differing_bits(joined(a[6], a[7]), joined(b[6], b[7]))
+        + differing_bits(joined(a[8], a[9]), joined(b[8], b[9]))
+}
+
+// The distance between the profiles of two rows. A search makes its query a row once (`row_of`), so that each slot costs a row against a row.
+pub fn distance_between(metric: u32, a: Row, b: Row) -> u32
+    ensures { λ r. ⌜ r ≡ distance metric (profileOf a) (profileOf b) ⌝ }
+{
+    if metric == 0 {
+        measure_distance(a, b)
+    } else {
+        code_distance(a, b)
+    }
+}
+
+// The distance between a row's profile and a query.
+pub fn distance_to(metric: u32, row: Row, query: Profile) -> u32
+    ensures { λ r. ⌜ r ≡ distance metric (profileOf row) query ⌝ }
+{
+    distance_between(metric, row, row_of(0, query, 0, 0))
+}

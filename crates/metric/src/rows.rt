@@ -1,0 +1,99 @@
+// The row codec: a row from its fields, and each field of a row.
+ghost use mathlib.Core.Path.{_≡_};
+ghost use Prim.Native.Nat.{_+_, _*_, _/_, _%_, _^_};
+ghost use mir.Syntax.{w32};
+ghost use mir.Val.{toZ, ofZ};
+ghost use Rattle.metric.specs.Row.{tagOf, profileOf, thresholdOf, markOf, rowOf};
+use super::Profile;
+use super::Row;
+
+// A word's number as a signed one, in two's complement.
+fn signed(word: u32) -> i32
+    ensures { λ r. ⌜ r ≡ toZ w32 word ⌝ }
+{
+    if word < 0x8000_0000 {
+        word as i32
+    } else {
+        (word as i64 - 0x1_0000_0000) as i32
+    }
+}
+
+// The word that holds a measure, in two's complement. The sum is not negative, so that its lowest 32 bits are the word.
+fn unsigned(measure: i32) -> u32
+    ensures { λ r. ⌜ r ≡ ofZ w32 measure ⌝ }
+{
+    ((measure as i64 + 0x1_0000_0000) as u64 % 0x1_0000_0000) as u32
+}
+
+// The number of 64 bits with these two words.
+pub fn joined(low: u32, high: u32) -> u64
+    ensures { λ r. ⌜ r ≡ low + high * 2 ^ 32 ⌝ }
+{
+    low as u64 + high as u64 * 0x1_0000_0000
+}
+
+pub fn tag_of(row: Row) -> u64
+    ensures { λ r. ⌜ r ≡ tagOf row ⌝ }
+{
+    joined(row[0], row[1])
+}
+
+pub fn profile_of(row: Row) -> Profile
+    ensures { λ r. ⌜ r ≡ profileOf row ⌝ }
+{
+    Profile {
+        measures: [
+            signed(row[2]),
+            signed(row[3]),
+            signed(row[4]),
+            signed(row[5]),
+        ],
+        code: [joined(row[6], row[7]), joined(row[8], row[9])],
+    }
+}
+
+pub fn threshold_of(row: Row) -> u32
+    ensures { λ r. ⌜ r ≡ thresholdOf row ⌝ }
+{
+    row[10]
+}
+
+pub fn mark_of(row: Row) -> u32
+    ensures { λ r. ⌜ r ≡ markOf row ⌝ }
+{
+    row[11]
+}
+
+// The low and the high word of a number of 64 bits.
+fn low(n: u64) -> u32
+    ensures { λ r. ⌜ r ≡ n % 2 ^ 32 ⌝ }
+{
+    (n % 0x1_0000_0000) as u32
+}
+
+fn high(n: u64) -> u32
+    ensures { λ r. ⌜ r ≡ n / 2 ^ 32 ⌝ }
+{
+    (n / 0x1_0000_0000) as u32
+}
+
+pub fn row_of(tag: u64, profile: Profile, threshold: u32, mark: u32) -> Row
+    ensures { λ r. ⌜ r ≡ rowOf tag profile threshold mark ⌝ }
+{
+    let m = profile.measures;
+    let c = profile.code;
+    [
+        low(tag),
+        high(tag),
+        unsigned(m[0]),
+        unsigned(m[1]),
+        unsigned(m[2]),
+        unsigned(m[3]),
+        low(c[0]),
+        high(c[0]),
+        low(c[1]),
+        high(c[1]),
+        threshold,
+        mark,
+    ]
+}
