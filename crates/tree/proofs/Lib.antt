@@ -1,4 +1,5 @@
 pub mod Lists
+pub mod Tests
 pub mod Sorting
 pub mod Selecting
 pub mod Pruning
@@ -8,3 +9,9 @@ pub mod NearestLaws
 pub mod Heap
 pub mod HeapSort
 pub mod Reaching
+pub mod Cost
+pub mod Placed
+pub mod Layouts
+pub mod LastKey
+pub mod InPlace
+pub mod Marks

@@ -1,8 +1,8 @@
 -- Lists: what holds of all elements (`All`), of every element and each that stands after it (`Pairs`), and what a permutation keeps.
 -- A relation that reads the same both ways holds of the pairs of a permuted list too. Assumes nothing.
 use Prim.Native.Nat.{ℕ, zero, suc, _+_}
-use mathlib.Core.Path.{_≡_, refl, sym, _∙_, ap, subst}
-use mathlib.Core.List.{List, [], _∷_, _++_, map, List·Permᴰ, List·Permᴰ·nil, List·Permᴰ·cons, List·Permᴰ·swap, List·Permᴰ·trans}
+use mathlib.Core.Path.{_≡_, refl, sym, _∙_, ap, ap₂, subst}
+use mathlib.Core.List.{List, [], _∷_, _++_, map, List·Permᴰ, List·Permᴰ·nil, List·Permᴰ·cons, List·Permᴰ·swap, List·Permᴰ·trans, Permᴰ·refl, Permᴰ·append-left, Permᴰ·append-right}
 use lib.ListN.{length, take, drop}
 use Rattle.tree.specs.Guided.{All}
 
@@ -45,6 +45,18 @@ module _ {A : Type 0} where
   all-drop P zero xs h = h
   all-drop P (suc n) [] h = tt
   all-drop P (suc n) (x ∷ xs) h = all-drop P n xs (h .1)
+
+  pub pairs-split : (R : A → A → Type 0) (xs ys : List A) → Pairs R (xs ++ ys) → All (λ x. All (R x) ys) xs
+  pairs-split R [] ys h = tt
+  pairs-split R (x ∷ xs) ys h = (all-append-right (R x) xs ys (h .0), pairs-split R xs ys (h .1))
+
+  pub pairs-left : (R : A → A → Type 0) (xs ys : List A) → Pairs R (xs ++ ys) → Pairs R xs
+  pairs-left R [] ys h = tt
+  pairs-left R (x ∷ xs) ys h = (all-append-left (R x) xs ys (h .0), pairs-left R xs ys (h .1))
+
+  pub pairs-right : (R : A → A → Type 0) (xs ys : List A) → Pairs R (xs ++ ys) → Pairs R ys
+  pairs-right R [] ys h = h
+  pairs-right R (x ∷ xs) ys h = pairs-right R xs ys (h .1)
 
   pub all-perm : (P : A → Type 0) {xs ys : List A} → List·Permᴰ xs ys → All P xs → All P ys
   all-perm P List·Permᴰ·nil h = tt
@@ -96,8 +108,11 @@ module _ {A : Type 0} where
   perm-length (List·Permᴰ·swap e f) = refl
   perm-length (List·Permᴰ·trans p q) = perm-length p ∙ perm-length q
 
+  pub perm-both : {xs ys zs ws : List A} → List·Permᴰ xs ys → List·Permᴰ zs ws → List·Permᴰ (xs ++ zs) (ys ++ ws)
+  perm-both {ys = ys} {zs = zs} p q = List·Permᴰ·trans (Permᴰ·append-right zs p) (Permᴰ·append-left ys q)
+
   pub perm-of-eq : {xs ys : List A} → xs ≡ ys → List·Permᴰ xs ys
-  perm-of-eq {xs} e = subst (List·Permᴰ xs) e (mathlib.Core.List.Permᴰ·refl xs)
+  perm-of-eq {xs} e = subst (List·Permᴰ xs) e (Permᴰ·refl xs)
 
 module _ {A B : Type 0} (f : A → B) where
   pub perm-map : {xs ys : List A} → List·Permᴰ xs ys → List·Permᴰ (map f xs) (map f ys)
@@ -113,3 +128,29 @@ module _ {A B : Type 0} (f : A → B) where
   pub all-of-map : (P : B → Type 0) (xs : List A) → All P (map f xs) → All (λ x. P (f x)) xs
   all-of-map P [] h = tt
   all-of-map P (x ∷ xs) h = (h .0, all-of-map P xs (h .1))
+
+  pub map-take : (n : ℕ) (xs : List A) → take n (map f xs) ≡ map f (take n xs)
+  map-take zero xs = refl
+  map-take (suc n) [] = refl
+  map-take (suc n) (x ∷ xs) = ap (λ (ys : List B). f x ∷ ys) (map-take n xs)
+
+  pub map-drop : (n : ℕ) (xs : List A) → drop n (map f xs) ≡ map f (drop n xs)
+  map-drop zero xs = refl
+  map-drop (suc n) [] = refl
+  map-drop (suc n) (x ∷ xs) = map-drop n xs
+
+  pub pairs-map : (R : B → B → Type 0) (xs : List A) → Pairs (λ x y. R (f x) (f y)) xs → Pairs R (map f xs)
+  pairs-map R [] h = tt
+  pairs-map R (x ∷ xs) h = (all-map (R (f x)) xs (h .0), pairs-map R xs (h .1))
+
+  pub pairs-of-map : (R : B → B → Type 0) (xs : List A) → Pairs R (map f xs) → Pairs (λ x y. R (f x) (f y)) xs
+  pairs-of-map R [] h = tt
+  pairs-of-map R (x ∷ xs) h = (all-of-map (R (f x)) xs (h .0), pairs-of-map R xs (h .1))
+
+pub map-alike : {A B : Type 0} {f g : A → B} → ((x : A) → f x ≡ g x) → (xs : List A) → map f xs ≡ map g xs
+map-alike h [] = refl
+map-alike h (x ∷ xs) = ap₂ _∷_ (h x) (map-alike h xs)
+
+pub all-swap : {A B : Type 0} (R : A → B → Type 0) (xs : List A) (ys : List B) → All (λ x. All (R x) ys) xs → All (λ y. All (λ x. R x y) xs) ys
+all-swap R [] ys h = all-always (λ y. tt) ys
+all-swap R (x ∷ xs) ys h = all-both (λ y a b. (a, b)) ys (h .0) (all-swap R xs ys (h .1))
