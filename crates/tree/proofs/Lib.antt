@@ -4,6 +4,7 @@ pub mod Sorting
 pub mod Selecting
 pub mod Pruning
 pub mod RangeLaws
+pub mod Collecting
 pub mod Keep
 pub mod NearestLaws
 pub mod Heap

@@ -15,14 +15,10 @@ use Rattle.metric.specs.Distance.{Metric}
 use Rattle.tree.specs.Layout.{leftSize}
 use Rattle.tree.specs.Guided.{All, GuidedWithin, Guided}
 use Rattle.tree.specs.Range.{Entry, ordered, Met, nothing, both, toQuery, entryOf, isLive, isHit, visited, entersLeft, entersRight, rangeWithin, rangeTree}
+use Rattle.tree.specs.Collected.{ifEntered}
 use Rattle.tree.proofs.Lists.{all-weaken}
 use Rattle.tree.proofs.Selecting.{select-append, select-none}
 use Rattle.tree.proofs.Pruning.{left-out, right-out}
-
--- what a half gives, where its test lets it be entered
-unfoldable pub ifEntered : Bool → Met → Met
-unfolding nothing
-ifEntered b met = elim b [ true ↦ met | false ↦ nothing ]
 
 module _ (dist : Profile → Profile → ℕ) (query : Profile) (radius : ℕ) where
   -- the first slot, and what its halves would give
@@ -92,6 +88,41 @@ module _ (dist : Profile → Profile → ℕ) (query : Profile) (radius : ℕ) w
   pub range-count-le : (slots : List Row) → rangeTree dist query radius slots .count ≤ length slots
   unfolding rangeTree
   range-count-le slots = count-le-within (length slots) slots
+
+  alone-le : (s : Row) → length (visited dist query radius s .hits) ≤ 1
+  unfolding visited
+  alone-le s = go (isHit dist query radius s)
+    where
+      go : (b : Bool) → length {A = Entry} (elim b [ true ↦ entryOf dist query s ∷ [] | false ↦ [] ]) ≤ 1
+      go true = omega arith
+      go false = omega arith
+
+  entered-hits-le : (b : Bool) (met : Met) → length (met .hits) ≤ met .count → length (ifEntered b met .hits) ≤ ifEntered b met .count
+  unfolding ifEntered
+  entered-hits-le true met h = h
+  entered-hits-le false met h = omega arith
+
+  hits-le-within : (n : ℕ) (slots : List Row) → length (rangeWithin dist query radius n slots .hits) ≤ rangeWithin dist query radius n slots .count
+  unfolding rangeWithin rangeStep
+  hits-le-within zero slots = omega arith
+  hits-le-within (suc n) [] = omega arith
+  hits-le-within (suc n) (s ∷ rest) =
+      let l = leftSize (suc (length rest)) in
+      let left = ifEntered (entersLeft (toQuery dist query s) (thresholdOf s) radius) (rangeWithin dist query radius n (take l rest)) in
+      let right = ifEntered (entersRight (toQuery dist query s) (thresholdOf s) radius) (rangeWithin dist query radius n (drop l rest)) in
+      omega (
+        arith,
+        length-append (visited dist query radius s .hits) (left .hits ++ right .hits),
+        length-append (left .hits) (right .hits),
+        alone-le s,
+        entered-hits-le (entersLeft (toQuery dist query s) (thresholdOf s) radius) (rangeWithin dist query radius n (take l rest)) (hits-le-within n (take l rest)),
+        entered-hits-le (entersRight (toQuery dist query s) (thresholdOf s) radius) (rangeWithin dist query radius n (drop l rest)) (hits-le-within n (drop l rest)),
+      )
+
+  -- each hit is a slot visited
+  pub range-hits-le : (slots : List Row) → length (rangeTree dist query radius slots .hits) ≤ rangeTree dist query radius slots .count
+  unfolding rangeTree
+  range-hits-le slots = hits-le-within (length slots) slots
 
   module _ (laws : Metric dist) where
     -- a row farther than the radius is no hit

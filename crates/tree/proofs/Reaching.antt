@@ -16,7 +16,8 @@ use Rattle.metric.specs.Row.{Row, thresholdOf}
 use Rattle.tree.specs.Layout.{leftSize}
 use Rattle.tree.specs.Range.{Met, toQuery, entersLeft, entersRight, rangeWithin, rangeTree}
 use Rattle.tree.specs.Reached.{reachedWithin, reached}
-use Rattle.tree.proofs.RangeLaws.{ifEntered, rangeStep}
+use Rattle.tree.specs.Collected.{ifEntered}
+use Rattle.tree.proofs.RangeLaws.{rangeStep}
 
 -- how many of the first n numbers pass a test
 passing : (ℕ → Bool) → ℕ → ℕ

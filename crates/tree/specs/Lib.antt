@@ -6,3 +6,4 @@ pub mod Range
 pub mod Reached
 pub mod Nearest
 pub mod Heap
+pub mod Collected
