@@ -9,6 +9,9 @@ pub mod Keep
 pub mod NearestLaws
 pub mod Heap
 pub mod HeapSort
+pub mod Sliding
+pub mod Nearing
+pub mod NearSteps
 pub mod Reaching
 pub mod Cost
 pub mod Placed

@@ -76,7 +76,7 @@ module _ (dist : Profile → Profile → ℕ) (query : Profile) (k : ℕ) where
         all = λ few. omega (arith, p .all (omega arith), q .all (omega (arith, p .size)), p .size);
       }
 
-  counted-turn : (enters : ℕ → Bool) (search : Tally → Tally) (t : Tally) (live n : ℕ) → length (t .kept) ≤ k → Counted t (search t) live n → Counted t (turn dist query k enters search t) live n
+  pub counted-turn : (enters : ℕ → Bool) (search : Tally → Tally) (t : Tally) (live n : ℕ) → length (t .kept) ≤ k → Counted t (search t) live n → Counted t (turn dist query k enters search t) live n
   unfolding turn opens
   counted-turn enters search t live n few h = go (ltb (length (t .kept)) k) refl (enters (worst (t .kept)))
     where
@@ -94,14 +94,14 @@ module _ (dist : Profile → Profile → ℕ) (query : Profile) (k : ℕ) where
   lives-parts : (l : ℕ) (rest : List Row) → lives (take l rest) + lives (drop l rest) ≡ lives rest
   lives-parts l rest = sym (length-append (select isLive (take l rest)) (select isLive (drop l rest))) ∙ ap length (sym (select-append isLive (take l rest) (drop l rest)) ∙ ap (select isLive) (take-append-drop l rest))
 
-  own-live : Row → ℕ
+  pub own-live : Row → ℕ
   own-live s = lives (s ∷ [])
 
   lives-cons : (s : Row) (rest : List Row) → lives (s ∷ rest) ≡ own-live s + lives rest
   unfolding own-live
   lives-cons s rest = ap length (select-append isLive (s ∷ []) rest) ∙ length-append (select isLive (s ∷ [])) (select isLive rest)
 
-  counted-taken : (t : Tally) (s : Row) → length (t .kept) ≤ k → Counted t (taken dist query k t s) (own-live s) 1
+  pub counted-taken : (t : Tally) (s : Row) → length (t .kept) ≤ k → Counted t (taken dist query k t s) (own-live s) 1
   unfolding taken own-live select
   counted-taken t s few = go (isLive s)
     where

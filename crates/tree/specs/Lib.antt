@@ -7,3 +7,4 @@ pub mod Reached
 pub mod Nearest
 pub mod Heap
 pub mod Collected
+pub mod Nearby
