@@ -5,7 +5,7 @@ use mathlib.Core.Path.{_≡_, refl, sym, ap, ap₂, _∙_}
 use mathlib.Core.Bool.{Bool, true, false, _&&_, and-false}
 use mathlib.Core.List.{List, [], _∷_, _++_}
 use lib.ListN.{length, take, drop, getD, set, length-append, length-drop}
-use lib.Seq.{sets, length-sets, take-all}
+use lib.Seq.{sets, sets-eq, length-sets, length-take-le, take-all, take-at}
 use lib.Dec.{leb, eqb}
 use borrow.Author.Tests.{eq-eqb, ne-eqb, le-leb, lt-leb}
 use native.Mathlib.Omega.{arith}
@@ -150,3 +150,12 @@ tree-visit dist query radius slots f area z d m dq mt g next p q r last u v =
     in
     let both-turns = two-turns f area (metAlone row d radius) (metInHalves dist query radius d m (take (length slots - 1) (drop 1 slots))) g next p q r last u v in
     (both-turns .0 ∙ ap (foundAfter f) whole, both-turns .1 ∙ ap (collected area f) whole)
+
+-- where the area holds all hits, they stand one after the other from the first free place on
+pub collected-front : (area : List Entry) (f : Found) (met : Met) → f .hits + length (met .hits) ≤ length area
+    → take (f .hits + length (met .hits)) (collected area f met) ≡ take (f .hits) area ++ met .hits
+unfolding collected
+collected-front area f met h =
+    ap (take (f .hits + length (met .hits))) (sets-eq (met .hits) area (f .hits) h)
+    ∙ take-at (take (f .hits) area ++ met .hits) (drop (f .hits + length (met .hits)) area) (f .hits + length (met .hits))
+    (length-append (take (f .hits) area) (met .hits) ∙ ap (λ (n : ℕ). n + length (met .hits)) (length-take-le (f .hits) area (omega arith)))

@@ -121,7 +121,7 @@ module _ {k n : ℕ} (area : List Entry) (r : Nearby) (p : Ready k n area r) whe
 
 module _ (t : Tally) (area after : List Entry) (r : Nearby) (l : Leaves t area after r) where
   -- a step that went through left a tally that the area holds
-  held : r .over ≡ false → length (t .kept) ≤ length area
+  pub held : r .over ≡ false → length (t .kept) ≤ length area
   held e = go (decLe (length (t .kept)) (length area))
     where
       go : Dec (length (t .kept) ≤ length area) → length (t .kept) ≤ length area
@@ -129,7 +129,7 @@ module _ (t : Tally) (area after : List Entry) (r : Nearby) (l : Leaves t area a
       go (no h) = absurd (false≢true (sym e ∙ l .short (omega arith)))
 
   -- and one that did not, one that it does not hold
-  not-held : r .over ≡ true → length area < length (t .kept)
+  pub not-held : r .over ≡ true → length area < length (t .kept)
   not-held e = go (decLe (length (t .kept)) (length area))
     where
       go : Dec (length (t .kept) ≤ length area) → length area < length (t .kept)
@@ -141,7 +141,7 @@ module _ (t : Tally) (area after : List Entry) (r : Nearby) (l : Leaves t area a
   leaves-stopped u g e = leaves-over u area after r (omega (arith, not-held e)) e
 
   module _ (through : r .over ≡ false) where
-    numbers : r ≡ record { kept = length (t .kept); count = t .count; over = false }
+    pub numbers : r ≡ record { kept = length (t .kept); count = t .count; over = false }
     numbers = l .numbers (held through)
 
     entries : after ≡ t .kept ++ drop (length (t .kept)) area
@@ -153,7 +153,7 @@ module _ (t : Tally) (area after : List Entry) (r : Nearby) (l : Leaves t area a
         joined : length (t .kept) + length (drop (length (t .kept)) area) ≡ length area
         joined = rw length-drop (omega (arith, held through))
 
-    front : take (r .kept) after ≡ t .kept
+    pub front : take (r .kept) after ≡ t .kept
     front =
         ap₂ (λ (n : Nearby) (xs : List Entry). take (n .kept) xs) numbers entries
         ∙ take-append-seam (t .kept) (drop (length (t .kept)) area)

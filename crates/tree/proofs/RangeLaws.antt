@@ -14,9 +14,10 @@ use Rattle.metric.specs.Row.{Row, thresholdOf}
 use Rattle.metric.specs.Distance.{Metric}
 use Rattle.tree.specs.Layout.{leftSize}
 use Rattle.tree.specs.Guided.{All, GuidedWithin, Guided}
-use Rattle.tree.specs.Range.{Entry, ordered, Met, nothing, both, toQuery, entryOf, isLive, isHit, visited, entersLeft, entersRight, rangeWithin, rangeTree}
+use Rattle.tree.specs.Range.{Entry, entry, ordered, Met, nothing, both, toQuery, entryOf, isLive, isHit, visited, entersLeft, entersRight, rangeWithin, rangeTree}
 use Rattle.tree.specs.Collected.{ifEntered}
-use Rattle.tree.proofs.Lists.{all-weaken}
+use Rattle.tree.specs.Heap.{Pair}
+use Rattle.tree.proofs.Lists.{all-weaken, all-append}
 use Rattle.tree.proofs.Selecting.{select-append, select-none}
 use Rattle.tree.proofs.Pruning.{left-out, right-out}
 
@@ -123,6 +124,35 @@ module _ (dist : Profile → Profile → ℕ) (query : Profile) (radius : ℕ) w
   pub range-hits-le : (slots : List Row) → length (rangeTree dist query radius slots .hits) ≤ rangeTree dist query radius slots .count
   unfolding rangeTree
   range-hits-le slots = hits-le-within (length slots) slots
+
+  alone-pairs : (s : Row) → All Pair (visited dist query radius s .hits)
+  unfolding visited entryOf entry
+  alone-pairs s = go (isHit dist query radius s)
+    where
+      go : (b : Bool) → All Pair (elim b [ true ↦ entryOf dist query s ∷ [] | false ↦ [] ])
+      go true = (refl, tt)
+      go false = tt
+
+  entered-pairs : (b : Bool) (met : Met) → All Pair (met .hits) → All Pair (ifEntered b met .hits)
+  unfolding ifEntered
+  entered-pairs true met h = h
+  entered-pairs false met h = tt
+
+  pairs-within : (n : ℕ) (slots : List Row) → All Pair (rangeWithin dist query radius n slots .hits)
+  unfolding rangeWithin rangeStep
+  pairs-within zero slots = tt
+  pairs-within (suc n) [] = tt
+  pairs-within (suc n) (s ∷ rest) =
+      let l = leftSize (suc (length rest)) in
+      let left = ifEntered (entersLeft (toQuery dist query s) (thresholdOf s) radius) (rangeWithin dist query radius n (take l rest)) in
+      let right = ifEntered (entersRight (toQuery dist query s) (thresholdOf s) radius) (rangeWithin dist query radius n (drop l rest)) in
+      all-append Pair (visited dist query radius s .hits) (left .hits ++ right .hits) (alone-pairs s)
+      (all-append Pair (left .hits) (right .hits) (entered-pairs (entersLeft (toQuery dist query s) (thresholdOf s) radius) (rangeWithin dist query radius n (take l rest)) (pairs-within n (take l rest))) (entered-pairs (entersRight (toQuery dist query s) (thresholdOf s) radius) (rangeWithin dist query radius n (drop l rest)) (pairs-within n (drop l rest))))
+
+  -- each hit is a tag and a distance
+  pub range-pairs : (slots : List Row) → All Pair (rangeTree dist query radius slots .hits)
+  unfolding rangeTree
+  range-pairs slots = pairs-within (length slots) slots
 
   module _ (laws : Metric dist) where
     -- a row farther than the radius is no hit
