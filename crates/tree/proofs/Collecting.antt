@@ -159,3 +159,9 @@ collected-front area f met h =
     ap (take (f .hits + length (met .hits))) (sets-eq (met .hits) area (f .hits) h)
     ∙ take-at (take (f .hits) area ++ met .hits) (drop (f .hits + length (met .hits)) area) (f .hits + length (met .hits))
     (length-append (take (f .hits) area) (met .hits) ∙ ap (λ (n : ℕ). n + length (met .hits)) (length-take-le (f .hits) area (omega arith)))
+
+-- a half without slots gives nothing, entered or not
+pub empty-half : (dist : Profile → Profile → ℕ) (query : Profile) (radius : ℕ) (b : Bool) (slots : List Row) → length slots ≡ 0 → ifEntered b (rangeTree dist query radius slots) ≡ nothing
+unfolding ifEntered
+empty-half dist query radius true slots e = tree-empty dist query radius slots e
+empty-half dist query radius false slots e = refl

@@ -289,6 +289,15 @@ module _ (dist : Profile → Profile → ℕ) (query : Profile) (k : ℕ) where
   unfolding turn
   turn-shut enters search t e = ap (λ (b : Bool). elim b [ true ↦ search t | false ↦ t ]) e
 
+  -- the turn of a half without slots does nothing
+  pub turn-empty : (enters : ℕ → Bool) (half : List Row) (t : Tally) → length half ≡ 0 → turn dist query k enters (λ u. nearestTree dist query k u half) t ≡ t
+  unfolding turn
+  turn-empty enters half t e = go (opens k enters (t .kept))
+    where
+      go : (b : Bool) → elim b [ true ↦ nearestTree dist query k t half | false ↦ t ] ≡ t
+      go true = sym (near-empty half t e)
+      go false = refl
+
   -- the halves as a step
   pub sound-halves : (d m : ℕ) (rest : List Row) (t : Tally) → ordered (t .kept) ≡ t .kept → length (t .kept) ≤ k → Sound k (length rest) t (nearInHalves dist query k d m rest t)
   sound-halves d m rest t h few = go (decLe d m)

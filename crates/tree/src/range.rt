@@ -69,7 +69,7 @@ pub fn range_tree(
     )
 }
 
-// The halves below a slot at distance d from the query and of threshold m, each where its test lets it be entered. Both sums are exact.
+// The halves below a slot at distance d from the query and of threshold m, each where it has slots and its test lets it be entered. Both sums are exact.
 fn range_halves(
     rest: &[Row],
     d: u32,
@@ -86,10 +86,10 @@ fn range_halves(
 {
     let l = rest.len() - rest.len() / 2;
     let mut met = found;
-    if d as u64 <= m as u64 + radius as u64 {
+    if (0 < l) & (d as u64 <= m as u64 + radius as u64) {
         met = range_tree(&rest[..l], metric, query, radius, area, met);
     }
-    if m as u64 <= d as u64 + radius as u64 {
+    if (l < rest.len()) & (m as u64 <= d as u64 + radius as u64) {
         met = range_tree(&rest[l..], metric, query, radius, area, met);
     }
     met

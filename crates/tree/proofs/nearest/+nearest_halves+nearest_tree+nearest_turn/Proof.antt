@@ -18,6 +18,7 @@ use Rattle.tree.proofs.NearSteps.{
   both-stop,
   both-leave,
   second-ready,
+  turn-empty,
   turn-open,
   turn-shut,
   near-empty,
@@ -317,33 +318,39 @@ nearest-tree-returns-3 t c =
     (c .before .before .before .before .before .before .before .before .before .distance-between .result) (c .before .before .before .before .before .before .before .before .before .distance-between .ensures) (c .before .before .before .before .before .before .before .take-in .last .1 .1 .1 .0) (c .before .before .before .before .before .before .before .take-in .result) (c .before .before .before .before .before .before .before .take-in .ensures) (c .before .before .before .before .before .if2 .left) (c .before .before .before .threshold-of .result) (c .before .before .before .threshold-of .ensures)
     (c .before .nearest-halves .last .1 .1 .1 .1 .1 .1 .0) (c .before .nearest-halves .result) (c .before .nearest-halves .ensures)
 
+nearest-turn-returns : (t : ℕ) → nearest-turn-lts.Need-returns (nearest-turn-callees t) (nearest-turn-at t) nearest-turn.Post
+nearest-turn-returns t c =
+    let a = c .before .args in
+    leaves-as (a .area .now) _ _ (sym (turn-empty (distance (a .metric)) (profileOf (a .query .now)) (a .k) (entersLeft (a .a) (a .b)) (a .half .now) (tallyOf (a .area .now) (a .near)) (c .if1 .taken)))
+    (leaves-same (a .area .now) (a .near) (c .before .pre .1))
+
 nearest-turn-lets-in-requires : (t : ℕ) → nearest-turn-lts.Need-lets-in-requires (nearest-turn-callees t) (nearest-turn-at t) nearest-turn.Post
-nearest-turn-lets-in-requires t c κs = c .before .pre .1 .within
+nearest-turn-lets-in-requires t c κs = c .before .before .pre .1 .within
 
 nearest-turn-nearest-tree-requires : (t : ℕ) → nearest-turn-lts.Need-nearest-tree-requires (nearest-turn-callees t) (nearest-turn-at t) nearest-turn.Post
 nearest-turn-nearest-tree-requires t c κs =
-    let start = c .before .before .before .before in
+    let start = c .before .before .before .before .before in
     (omega (arith, start .pre .0), start .pre .1)
 
 nearest-turn-same-length : (t : ℕ) → nearest-turn-lts.Need-same-length (nearest-turn-callees t) (nearest-turn-at t) nearest-turn.Post
 nearest-turn-same-length t c = c .before .nearest-tree .kept .1 .1 .1 .1 .0
 
-nearest-turn-returns : (t : ℕ) → nearest-turn-lts.Need-returns (nearest-turn-callees t) (nearest-turn-at t) nearest-turn.Post
-nearest-turn-returns t c =
-    let start = c .before .before .before .before .before .before in
+nearest-turn-returns-2 : (t : ℕ) → nearest-turn-lts.Need-returns-2 (nearest-turn-callees t) (nearest-turn-at t) nearest-turn.Post
+nearest-turn-returns-2 t c =
+    let start = c .before .before .before .before .before .before .before in
     let a = start .args in
-    let opened = sym (c .before .before .before .before .lets-in .ensures) ∙ c .before .before .before .if1 .taken in
+    let opened = sym (c .before .before .before .before .lets-in .ensures) ∙ c .before .before .before .if2 .taken in
     leaves-as (a .area .now) _ _ (sym (turn-open (distance (a .metric)) (profileOf (a .query .now)) (a .k) (entersLeft (a .a) (a .b)) _ (tallyOf (a .area .now) (a .near)) opened))
     (c .before .nearest-tree .ensures)
 
 nearest-turn-same-length-2 : (t : ℕ) → nearest-turn-lts.Need-same-length-2 (nearest-turn-callees t) (nearest-turn-at t) nearest-turn.Post
 nearest-turn-same-length-2 t c = refl
 
-nearest-turn-returns-2 : (t : ℕ) → nearest-turn-lts.Need-returns-2 (nearest-turn-callees t) (nearest-turn-at t) nearest-turn.Post
-nearest-turn-returns-2 t c =
-    let start = c .before .before .before in
+nearest-turn-returns-3 : (t : ℕ) → nearest-turn-lts.Need-returns-3 (nearest-turn-callees t) (nearest-turn-at t) nearest-turn.Post
+nearest-turn-returns-3 t c =
+    let start = c .before .before .before .before in
     let a = start .args in
-    let shut = sym (c .before .lets-in .ensures) ∙ c .if1 .left in
+    let shut = sym (c .before .lets-in .ensures) ∙ c .if2 .left in
     leaves-as (a .area .now) _ _ (sym (turn-shut (distance (a .metric)) (profileOf (a .query .now)) (a .k) (entersLeft (a .a) (a .b)) _ (tallyOf (a .area .now) (a .near)) shut))
     (leaves-same (a .area .now) (a .near) (start .pre .1))
 
@@ -391,9 +398,10 @@ pub +nearest-halves+nearest-tree+nearest-turn-spec : {M : Type 1} → statement 
     (nearest-tree-returns-3 t))
     λ t. nearest-turn-lts.spec (nearest-turn-callees t) (nearest-turn-at t)
     nearest-turn.Post
+    (nearest-turn-returns t)
     (nearest-turn-lets-in-requires t)
     (nearest-turn-nearest-tree-requires t)
     (nearest-turn-same-length t)
-    (nearest-turn-returns t)
-    (nearest-turn-same-length-2 t)
     (nearest-turn-returns-2 t)
+    (nearest-turn-same-length-2 t)
+    (nearest-turn-returns-3 t)

@@ -3,8 +3,10 @@
 use mathlib.Core.Path.{_≡_, refl, sym, ap, _∙_}
 use mathlib.Core.Logic.{⊎-elim}
 use mathlib.Core.List.{List, []}
-use borrow.Author.Tests.{le-leb, lt-leb}
-use lib.Dec.{leb}
+use mathlib.Core.Bool.{Bool, true, false, _&&_}
+use borrow.Author.Tests.{ltb-false}
+use lib.Dec.{leb, ltb}
+use Rattle.tree.proofs.Tests.{and-second}
 use Rattle.metric.specs.Row.{Row, profileOf, thresholdOf}
 use Rattle.metric.specs.Distance.{distance}
 use Rattle.tree.specs.declared.range.Found.{Found}
@@ -12,7 +14,7 @@ use Rattle.tree.specs.Layout.{leftSize}
 use Rattle.tree.specs.Range.{Met, nothing, entersLeft, entersRight, toQuery, rangeTree}
 use Rattle.tree.specs.Collected.{foundAfter, collected, metAlone, ifEntered, metInHalves}
 use Rattle.tree.proofs.RangeLaws.{range-count-le, range-hits-le}
-use Rattle.tree.proofs.Collecting.{entered, skipped, left-size, half-found, found-nothing, collected-nothing, collected-length, alone-found, two-turns, tree-empty, tree-visit, part-to-end}
+use Rattle.tree.proofs.Collecting.{empty-half, entered, skipped, left-size, half-found, found-nothing, collected-nothing, collected-length, alone-found, two-turns, tree-empty, tree-visit, part-to-end}
 use Prim.Native.Nat.{ℕ, suc, _+_, _-_, _*_, _/_, _^_, _≤_, _<_}
 use native.Mathlib.Omega.{arith}
 use borrow.Author.Needs.{needs}
@@ -75,25 +77,34 @@ leftMet metric query radius d m rest = ifEntered (entersLeft d m radius) (tree m
 abbrev rightMet : ℕ → Row → ℕ → ℕ → ℕ → List Row → Met
 rightMet metric query radius d m rest = ifEntered (entersRight d m radius) (tree metric query radius (drop (leftSize (suc (length rest))) rest))
 
-left-entered : (metric : ℕ) (query : Row) (radius d m : ℕ) (rest : List Row) → d ≤ m + radius → tree metric query radius (take (length rest - length rest / 2) rest) ≡ leftMet metric query radius d m rest
+left-entered : (metric : ℕ) (query : Row) (radius d m : ℕ) (rest : List Row) → ltb 0 (length rest - length rest / 2) && leb d (m + radius) ≡ true
+    → tree metric query radius (take (length rest - length rest / 2) rest) ≡ leftMet metric query radius d m rest
 unfolding entersLeft
 left-entered metric query radius d m rest h =
-    ap (λ (l : ℕ). tree metric query radius (take l rest)) (left-size (length rest)) ∙ sym (entered (leb d (m + radius)) _ (le-leb d (m + radius) h))
+    ap (λ (l : ℕ). tree metric query radius (take l rest)) (left-size (length rest)) ∙ sym (entered (leb d (m + radius)) _ (and-second (ltb 0 (length rest - length rest / 2)) (leb d (m + radius)) h))
 
-left-skipped : (metric : ℕ) (query : Row) (radius d m : ℕ) (rest : List Row) → m + radius < d → nothing ≡ leftMet metric query radius d m rest
+left-skipped : (metric : ℕ) (query : Row) (radius d m : ℕ) (rest : List Row) → ltb 0 (length rest - length rest / 2) && leb d (m + radius) ≡ false → nothing ≡ leftMet metric query radius d m rest
 unfolding entersLeft
-left-skipped metric query radius d m rest h = sym (skipped (leb d (m + radius)) _ (lt-leb d (m + radius) h))
+left-skipped metric query radius d m rest h = go (ltb 0 (length rest - length rest / 2)) refl h
+  where
+    go : (b : Bool) → ltb 0 (length rest - length rest / 2) ≡ b → b && leb d (m + radius) ≡ false → nothing ≡ leftMet metric query radius d m rest
+    go true e f = sym (skipped (leb d (m + radius)) _ f)
+    go false e f = sym (empty-half (distance metric) (profileOf query) radius (leb d (m + radius)) (take (leftSize (suc (length rest))) rest) (rw length-take (omega (arith, ltb-false 0 (length rest - length rest / 2) e, left-size (length rest)))))
 
-right-entered : (metric : ℕ) (query : Row) (radius d m : ℕ) (rest : List Row) → m ≤ d + radius
+right-entered : (metric : ℕ) (query : Row) (radius d m : ℕ) (rest : List Row) → ltb (length rest - length rest / 2) (length rest) && leb m (d + radius) ≡ true
     → tree metric query radius (take (length rest - (length rest - length rest / 2)) (drop (length rest - length rest / 2) rest)) ≡ rightMet metric query radius d m rest
 unfolding entersRight
 right-entered metric query radius d m rest h =
     ap (tree metric query radius) (part-to-end (length rest - length rest / 2) rest ∙ ap (λ (l : ℕ). drop l rest) (left-size (length rest)))
-    ∙ sym (entered (leb m (d + radius)) _ (le-leb m (d + radius) h))
+    ∙ sym (entered (leb m (d + radius)) _ (and-second (ltb (length rest - length rest / 2) (length rest)) (leb m (d + radius)) h))
 
-right-skipped : (metric : ℕ) (query : Row) (radius d m : ℕ) (rest : List Row) → d + radius < m → nothing ≡ rightMet metric query radius d m rest
+right-skipped : (metric : ℕ) (query : Row) (radius d m : ℕ) (rest : List Row) → ltb (length rest - length rest / 2) (length rest) && leb m (d + radius) ≡ false → nothing ≡ rightMet metric query radius d m rest
 unfolding entersRight
-right-skipped metric query radius d m rest h = sym (skipped (leb m (d + radius)) _ (lt-leb m (d + radius) h))
+right-skipped metric query radius d m rest h = go (ltb (length rest - length rest / 2) (length rest)) refl h
+  where
+    go : (b : Bool) → ltb (length rest - length rest / 2) (length rest) ≡ b → b && leb m (d + radius) ≡ false → nothing ≡ rightMet metric query radius d m rest
+    go true e f = sym (skipped (leb m (d + radius)) _ f)
+    go false e f = sym (empty-half (distance metric) (profileOf query) radius (leb m (d + radius)) (drop (leftSize (suc (length rest))) rest) (rw length-drop (omega (arith, ltb-false (length rest - length rest / 2) (length rest) e, left-size (length rest)))))
 
 -- the numbers that the left half's turn leaves have room for the right half
 left-leaves : (metric : ℕ) (query : Row) (radius d m : ℕ) (rest : List Row) (f met : Found) → met ≡ foundAfter f (leftMet metric query radius d m rest)
