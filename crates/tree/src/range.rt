@@ -27,7 +27,10 @@ fn meet(row: Row, d: u32, radius: u32, area: &mut [Entry], found: Found) -> Foun
         return Found { hits: at, count };
     }
     if radius < d {
-        return Found { hits: at, count };
+        return Found {
+            hits: found.hits,
+            count,
+        };
     }
     if at < area.len() {
         area[at] = [metric::tag_of(row), d as u64];
