@@ -20,3 +20,4 @@ pub mod Layouts
 pub mod LastKey
 pub mod InPlace
 pub mod Marks
+pub mod OnLayout
