@@ -69,11 +69,11 @@ impl Random {
         let measures = [0; 4].map(|_| self.below(2_000_001) as i32 - 1_000_000);
         Slot { tag, measures, code: [self.next(), self.next()], threshold: 0, mark: 0 }
     }
-    // near a centre: measures within 10,000 of its own, codes with up to eight bits flipped
+    // near a centre: measures within 10,000 of its own, codes with up to four bits flipped
     fn near(&mut self, centre: &Slot, tag: u64) -> Slot {
         let measures = centre.measures.map(|m| (m + self.below(20_001) as i32 - 10_000).clamp(-1_000_000, 1_000_000));
         let mut code = centre.code;
-        for _ in 0..8 {
+        for _ in 0..4 {
             let bit = self.below(128) as usize;
             code[bit / 64] ^= 1 << (bit % 64);
         }

@@ -41,14 +41,14 @@ fn meet(row: Row, d: u32, radius: u32, area: &mut [Entry], found: Found) -> Foun
     }
 }
 
-// The slots of one tree: the first slot, and then its halves.
+// The slots of one tree: the first slot, and then its halves. The tally goes first, so that it is passed in registers.
 pub fn range_tree(
+    found: Found,
     slots: &[Row],
     metric: u32,
     query: &Row,
     radius: u32,
     area: &mut [Entry],
-    found: Found,
 ) -> Found
     requires { ⌜ (found .hits + length (now slots) < 2 ^ 32) × (found .count + length (now slots) < 2 ^ 32) ⌝ }
     ensures reply { λ r. ⌜ r ≡ foundAfter found (rangeTree (distance metric) (profileOf (now (query .entry))) radius (now (slots .entry))) ⌝ }
@@ -90,10 +90,10 @@ fn range_halves(
     let l = rest.len() - rest.len() / 2;
     let mut met = found;
     if (0 < l) & (d as u64 <= m as u64 + radius as u64) {
-        met = range_tree(&rest[..l], metric, query, radius, area, met);
+        met = range_tree(met, &rest[..l], metric, query, radius, area);
     }
     if (l < rest.len()) & (m as u64 <= d as u64 + radius as u64) {
-        met = range_tree(&rest[l..], metric, query, radius, area, met);
+        met = range_tree(met, &rest[l..], metric, query, radius, area);
     }
     met
 }

@@ -38,12 +38,12 @@ pub extern "C" fn tree_export_range(
         };
     }
     let f = tree::range_tree(
+        Found { hits: 0, count: 0 },
         slots,
         metric,
         query,
         radius,
         area,
-        Found { hits: 0, count: 0 },
     );
     let n = f.hits;
     if n <= area.len() {

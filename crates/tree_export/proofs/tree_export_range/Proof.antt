@@ -22,7 +22,7 @@ slice-relend-prefix-sort-entries : tie.Need-slice-relend-prefix-sort-entries
 slice-relend-prefix-sort-entries c = search needs
 
 slice-aggregate-sort-entries : tie.Need-slice-aggregate-sort-entries
-slice-aggregate-sort-entries c = sym (length-take-le (c .before .before .before .range-tree .result .hits) (c .before .before .before .range-tree .last .1 .1 .1 .1 .0) (c .before .if2 .taken))
+slice-aggregate-sort-entries c = sym (length-take-le (c .before .before .before .range-tree .result .hits) (c .before .before .before .range-tree .last .1 .1 .1 .1 .1 .0) (c .before .if2 .taken))
 
 sort-entries-requires : tie.Need-sort-entries-requires
 sort-entries-requires c κs = search needs
@@ -41,10 +41,10 @@ same-length : tie.Need-same-length
 same-length c =
     let call = c .before .before .before .before .range-tree in
     ⊎-elim
-    (λ w. ap length (w .4) ∙ length-front (call .last .1 .1 .1 .1 .0) (w .2 .last .0) (call .result .hits) (w .2 .kept .0))
+    (λ w. ap length (w .4) ∙ length-front (call .last .1 .1 .1 .1 .1 .0) (w .2 .last .0) (call .result .hits) (w .2 .kept .0))
     (λ w. ap length (w .1))
     (c .before .before .if2 .came)
-    ∙ call .kept .1 .1 .1 .1 .0
+    ∙ call .kept .1 .1 .1 .1 .1 .0
 
 returns-2 : tie.Need-returns-2
 returns-2 c =
@@ -54,13 +54,13 @@ returns-2 c =
       λ small fits.
           ⊎-elim
           (λ w.
-          let met = call .last .1 .1 .1 .1 .0 in
+          let met = call .last .1 .1 .1 .1 .1 .0 in
           let n = call .result .hits in
           ap (take n) (w .4)
           ∙ take-at (w .2 .last .0) (drop n met) n (w .2 .kept .0 ∙ length-take-le n met (w .0 .taken))
           ∙ range-front (distance (a .metric)) (profileOf (a .query .now)) (a .radius) (a .slots .now) (call .result) (call .ensures .0) (a .area .now) met (w .2 .last .0) (call .ensures .1)
-          (omega (arith, w .0 .taken, call .kept .1 .1 .1 .1 .0)) (w .2 .ensures))
-          (λ w. absurd (omega (arith, w .0 .left, call .kept .1 .1 .1 .1 .0)))
+          (omega (arith, w .0 .taken, call .kept .1 .1 .1 .1 .1 .0)) (w .2 .ensures))
+          (λ w. absurd (omega (arith, w .0 .left, call .kept .1 .1 .1 .1 .1 .0)))
           (c .before .before .if2 .came),
     )
 

@@ -38,7 +38,7 @@ abbrev μ-range-halves : Measures 3 range-halves-kinds.ps ℕ
 μ-range-halves κs a = 2 * length (a .0 .now) + 1
 
 abbrev μ-range-tree : Measures 3 range-tree-kinds.ps ℕ
-μ-range-tree κs a = 2 * length (a .0 .now)
+μ-range-tree κs a = 2 * length (a .1 .0 .now)
 
 abbrev range-halves-at : ℕ → In 3 range-halves-kinds.ps
 range-halves-at t =
@@ -182,7 +182,7 @@ range-halves-range-tree-requires-2 t c κs =
     )
 
 range-halves-same-length : (t : ℕ) → range-halves-lts.Need-same-length (range-halves-callees t) (range-halves-at t) range-halves.Post
-range-halves-same-length t c = c .before .range-tree2 .kept .1 .1 .1 .1 .0 ∙ left-length t (c .before .before .before .before .before)
+range-halves-same-length t c = c .before .range-tree2 .kept .1 .1 .1 .1 .1 .0 ∙ left-length t (c .before .before .before .before .before)
 
 range-halves-returns : (t : ℕ) → range-halves-lts.Need-returns (range-halves-callees t) (range-halves-at t) range-halves.Post
 unfolding metInHalves
