@@ -4,8 +4,8 @@ use Prim.Native.Nat.{ℕ, zero, suc, _+_, _≤_, _<_, min}
 use mathlib.Core.Path.{_≡_, refl, sym, ap, ap₂, _∙_}
 use mathlib.Core.Logic.{⊎-elim}
 use mathlib.Core.Bool.{Bool, true, false}
-use mathlib.Core.List.{List, [], _∷_, _++_, foldl, append-assoc, List·Permᴰ, List·Permᴰ·trans, Permᴰ·refl, Permᴰ·append-left, Permᴰ·append-right, Permᴰ·middle}
-use lib.ListN.{length, take, drop, getD, length-take, length-append}
+use mathlib.Core.List.{List, [], _∷_, _++_, foldl, List·Permᴰ, List·Permᴰ·trans, Permᴰ·middle}
+use lib.ListN.{length, take, getD, length-take}
 use lib.Seq.{take-take, take-all, take-at}
 use native.Mathlib.Omega.{arith}
 use Rattle.tree.specs.Sorting.{keyLe, insertBy, sortBy}

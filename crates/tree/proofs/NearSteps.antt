@@ -1,11 +1,11 @@
 -- Steps of a nearest search on an area, one after the other: each starts from what the one before left, or stops where the area was too short.
 -- Entries kept only grow in number and stay in order, so an area that was too short stays so.
 use Prim.Native.Nat.{ℕ, zero, suc, _+_, _-_, _/_, _≤_, _<_, _^_}
-use mathlib.Core.Path.{_≡_, refl, sym, ap, ap₂, subst, fun-ext, _∙_}
-use mathlib.Core.Bool.{Bool, true, false, _||_, false≢true}
+use mathlib.Core.Path.{_≡_, refl, sym, ap, ap₂, subst, _∙_}
+use mathlib.Core.Bool.{Bool, true, false, false≢true}
 use mathlib.Core.List.{List, [], _∷_, _++_}
 use lib.ListN.{length, take, drop, getD, length-take, length-drop, length-append}
-use lib.Seq.{length-take-le, take-append-seam, take-append-le, drop-append-add, drop-drop, take-at}
+use lib.Seq.{length-take-le, take-append-seam, drop-append-add, drop-drop}
 use lib.Dec.{leb}
 use borrow.Author.Tests.{le-leb, lt-leb}
 use native.Mathlib.Decide.{decLe}
@@ -15,7 +15,7 @@ use Rattle.metric.specs.declared.Profile.{Profile}
 use Rattle.metric.specs.Row.{Row, thresholdOf}
 use Rattle.tree.specs.declared.nearest.Nearby.{Nearby}
 use Rattle.tree.specs.Layout.{leftSize}
-use Rattle.tree.specs.Range.{Entry, entry, entryKey, entryOf, isLive, ordered, toQuery, entersLeft, entersRight}
+use Rattle.tree.specs.Range.{Entry, entryKey, entryOf, isLive, ordered, toQuery, entersLeft, entersRight}
 use Rattle.tree.specs.Nearest.{Tally, keep, opens, taken, turn, halvesInTurn, nearestWithin, nearestTree}
 use Rattle.tree.specs.Nearby.{tallyOf, Ready, Leaves, takenAt, nearInHalves}
 use Rattle.tree.proofs.Lists.{pairs-take}

@@ -6,7 +6,7 @@ use mathlib.Core.Bool.{Bool, true, false, _||_}
 use mathlib.Core.List.{List, [], _∷_, _++_, map, map-append, append-assoc, append-nil, Permᴰ·append-left}
 use lib.ListN.{length, take, drop, length-take, length-drop, take-append-drop, length-append}
 use lib.Dec.{leb, ltb}
-use borrow.Author.Tests.{ltb-true, ltb-false}
+use borrow.Author.Tests.{ltb-false}
 use native.Mathlib.Omega.{arith}
 use native.Mathlib.Nat.{add-comm}
 use Rattle.metric.specs.declared.Profile.{Profile}

@@ -1,8 +1,8 @@
 -- The steps of a nearest search on an area: a side's test on the entries kept there, and taking a slot's own head in.
 -- The entries kept are in order, so keeping one more is putting it in its place.
-use Prim.Native.Nat.{ℕ, zero, suc, _+_, _-_, _≤_, _<_}
-use mathlib.Core.Path.{_≡_, refl, sym, ap, ap₂, subst, _∙_}
-use mathlib.Core.Bool.{Bool, true, false, _||_, or-true, false≢true}
+use Prim.Native.Nat.{ℕ, suc, _+_, _-_, _≤_, _<_}
+use mathlib.Core.Path.{_≡_, refl, sym, ap, subst, _∙_}
+use mathlib.Core.Bool.{Bool, true, false, _||_, or-true}
 use mathlib.Core.List.{List, [], _∷_, _++_, foldl}
 use lib.ListN.{length, take, drop, getD, length-take, take-append-drop, drop-of-length-le}
 use lib.Seq.{length-take-le, getD-take, take-all, take-at, take-suc}

@@ -9,7 +9,7 @@ use lib.Seq.{length-take-le}
 use lib.Dec.{ltb}
 use borrow.Author.Tests.{lt-ltb, le-ltb}
 use native.Mathlib.Omega.{arith}
-use native.Mathlib.Nat.{add-suc, suc-add, zero-add}
+use native.Mathlib.Nat.{suc-add, zero-add}
 use Rattle.metric.specs.declared.Profile.{Profile}
 use Rattle.metric.specs.Lists.{countFrom, select}
 use Rattle.metric.specs.Row.{Row, thresholdOf}

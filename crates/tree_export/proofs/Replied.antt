@@ -19,7 +19,7 @@ use Rattle.tree.specs.Collected.{foundAfter, collected}
 use Rattle.tree.specs.Nearby.{Ready, Leaves}
 use Rattle.tree.proofs.RangeLaws.{range-count-le, range-hits-le, range-pairs}
 use Rattle.tree.proofs.Collecting.{collected-front}
-use Rattle.tree.proofs.NearSteps.{Sound, sound-tree, held, not-held, numbers, front}
+use Rattle.tree.proofs.NearSteps.{Sound, sound-tree, not-held, numbers, front}
 use Rattle.tree_export.specs.declared.Reply.{Reply}
 use Rattle.tree_export.specs.Replies.{rangeReply, nearestReply, nothingKept}
 

@@ -1,6 +1,5 @@
 -- The search starts with nothing kept, and what it leaves is the reply; an area of k entries is never too short.
 -- Assumes nothing.
-use Prim.Native.Nat.{_<_, _≤_}
 use native.Mathlib.Omega.{arith}
 use Rattle.metric.specs.Row.{profileOf}
 use Rattle.metric.specs.Distance.{distance}

@@ -1,16 +1,13 @@
 -- Each step leaves what its definition says or word that the area is too short, and the next step starts from that: a slot's own head, then
 -- the two halves in their turns. The measures are three times the slots' number, and one or two more below a slot. Assumes nothing.
-use mathlib.Core.Path.{_≡_, refl, sym, ap, subst, _∙_}
-use mathlib.Core.Bool.{Bool, true, false}
-use mathlib.Core.List.{List, []}
+use mathlib.Core.Path.{_≡_, refl, sym, _∙_}
 use native.Mathlib.Omega.{arith}
 use borrow.Author.Needs.{needs}
-use lib.ListN.{length, take, drop, getD, length-take, length-drop}
-use Rattle.metric.specs.Row.{Row, profileOf, thresholdOf}
+use lib.ListN.{length, take, drop, length-take, length-drop}
+use Rattle.metric.specs.Row.{profileOf}
 use Rattle.metric.specs.Distance.{distance}
 use Rattle.tree.specs.Range.{toQuery, entersLeft}
-use Rattle.tree.specs.Nearest.{Tally, turn, opens, nearestTree}
-use Rattle.tree.specs.Nearby.{tallyOf, Ready, Leaves, takenAt, nearInHalves}
+use Rattle.tree.specs.Nearby.{tallyOf}
 use Rattle.tree.proofs.Nearing.{leaves-as}
 use Rattle.tree.proofs.NearSteps.{
   ready-less,
@@ -33,7 +30,7 @@ use Rattle.tree.proofs.NearSteps.{
   sound-right,
   parts-sum,
 }
-use Prim.Native.Nat.{ℕ, _+_, _-_, _*_, _/_, _≤_, _<_}
+use Prim.Native.Nat.{ℕ, _+_, _-_, _*_, _/_, _<_}
 use borrow.Fn.Kinds.{In}
 use borrow.Fn.PlainCycle.{Measures, is, falls, and}
 use Rattle.tree.proofs.nearest.nearest_halves.Reads as nearest-halves

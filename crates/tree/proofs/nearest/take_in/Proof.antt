@@ -1,11 +1,11 @@
 -- Each way through the code is one of the cases of keeping one more: dead, no room, fewer than k, nearer than the last of k, or not.
 -- Assumes nothing.
-use Prim.Native.Nat.{ℕ, _+_, _-_, _<_}
-use mathlib.Core.Path.{_≡_, sym, ap, subst, _∙_}
+use Prim.Native.Nat.{ℕ, _+_, _-_}
+use mathlib.Core.Path.{sym, ap, subst, _∙_}
 use mathlib.Core.Bool.{false}
 use mathlib.Core.List.{List, [], _∷_, _++_}
 use native.Mathlib.Omega.{arith}
-use lib.ListN.{length, take, drop, getD}
+use lib.ListN.{take, drop, getD}
 use Rattle.tree.specs.Sorting.{keyLe, insertBy}
 use Rattle.tree.specs.Range.{Entry, entry, entryKey}
 use Rattle.tree.specs.Nearby.{Leaves, tallyOf, takenAt}

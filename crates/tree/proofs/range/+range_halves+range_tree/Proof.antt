@@ -7,15 +7,15 @@ use mathlib.Core.Bool.{Bool, true, false, _&&_}
 use borrow.Author.Tests.{ltb-false}
 use lib.Dec.{leb, ltb}
 use Rattle.tree.proofs.Tests.{and-second}
-use Rattle.metric.specs.Row.{Row, profileOf, thresholdOf}
+use Rattle.metric.specs.Row.{Row, profileOf}
 use Rattle.metric.specs.Distance.{distance}
 use Rattle.tree.specs.declared.range.Found.{Found}
 use Rattle.tree.specs.Layout.{leftSize}
 use Rattle.tree.specs.Range.{Met, nothing, entersLeft, entersRight, toQuery, rangeTree}
-use Rattle.tree.specs.Collected.{foundAfter, collected, metAlone, ifEntered, metInHalves}
+use Rattle.tree.specs.Collected.{foundAfter, collected, ifEntered, metInHalves}
 use Rattle.tree.proofs.RangeLaws.{range-count-le, range-hits-le}
 use Rattle.tree.proofs.Collecting.{empty-half, entered, skipped, left-size, half-found, found-nothing, collected-nothing, collected-length, alone-found, two-turns, tree-empty, tree-visit, part-to-end}
-use Prim.Native.Nat.{ℕ, suc, _+_, _-_, _*_, _/_, _^_, _≤_, _<_}
+use Prim.Native.Nat.{ℕ, suc, _+_, _-_, _*_, _/_, _^_, _<_}
 use native.Mathlib.Omega.{arith}
 use borrow.Author.Needs.{needs}
 use lib.ListN.{length, take, drop, getD, length-take, length-drop}
