@@ -10,7 +10,7 @@ pub mod NearestLaws
 pub mod Heap
 pub mod HeapSort
 pub mod Sliding
-pub mod Parts
+pub mod Partition
 pub mod Nearing
 pub mod NearSteps
 pub mod Reaching

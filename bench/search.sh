@@ -1,5 +1,5 @@
 #!/bin/sh
-# Builds the proved searches and the harness, both optimised, and measures them: sh bench/run.sh
+# Builds the proved searches and the harness, both optimised, and measures them: sh bench/search.sh
 set -e
 cd "$(dirname "$0")/.."
 rt staticlib tree_export > /dev/null
