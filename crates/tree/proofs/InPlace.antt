@@ -20,7 +20,7 @@ use Rattle.tree.specs.Guided.{All, fromSlot, GuidedWithin, Guided}
 use Rattle.tree.specs.InPlace.{later, slotKey, lastKey, slotInPlace, inPlaceWithin, inPlace}
 use Rattle.tree.proofs.Lists.{Pairs, all-weaken, all-always, all-both, all-append, all-append-left, all-append-right, all-perm, all-map, all-of-map, all-swap, pairs-split, pairs-take, pairs-drop, pairs-across, pairs-weaken, pairs-map, pairs-left, pairs-right, pairs-of-map, pairs-perm, map-take, map-drop, map-alike, perm-map}
 use Rattle.tree.proofs.Tests.{and-first, and-second, and-pass, pass-alike, every-all, all-every, every-map, same-rows, rows-same}
-use Rattle.tree.proofs.Sorting.{NotAfter, Sorted, Told, key-le-refl, key-le-cases, key-le-less, key-le-same, key-le-trans, key-le-first, sort-perm, sort-length, sort-sorted, sort-append}
+use Rattle.tree.proofs.Sorting.{apart-less, NotAfter, Sorted, Told, key-le-refl, key-le-cases, key-le-less, key-le-same, key-le-trans, key-le-first, sort-perm, sort-length, sort-sorted, sort-append}
 use Rattle.tree.proofs.Placed.{tag-placed, profile-placed, threshold-placed, placed-own}
 use Rattle.tree.proofs.LastKey.{lastOf, later-known, last-perm, last-upper, last-least, least-key, last-key-of}
 use Rattle.tree.proofs.Layouts.{left-fits, take-left, drop-left, split-halves, ranked-length, layout-none, layoutOf, layout-by-nodes, layout-of-length, layout-of-permutes, layout-of-all, layout-reordered, layout-pivot, layout-ranked, layout-permutes, told-by-tag}
@@ -40,9 +40,6 @@ ranked-apart : (n : ℕ) (rows : List Row) → Pairs (λ r s. tagOf r ≡ tagOf 
 unfolding slotOf
 ranked-apart n rows t =
     pairs-of-map slotOf (λ r s. tagOf r ≡ tagOf s → ⊥) (rankedFrom n rows) (subst (Pairs (λ r s. tagOf r ≡ tagOf s → ⊥)) (sym (ranked-slots n rows)) t)
-
-apart-less : (m n : ℕ) → m ≤ n → (m ≡ n → ⊥) → m < n
-apart-less m n h f = omega arith
 
 module _ (dist : Profile → Profile → ℕ) where
   -- what the three tests of a slot v with its halves show

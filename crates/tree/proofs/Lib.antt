@@ -5,5 +5,7 @@ pub mod Cost
 pub mod Placed
 pub mod Layouts
 pub mod LastKey
+mod Merging
+mod Parts
 pub mod InPlace
 pub mod Marks

@@ -1,1 +1,2 @@
 // One vantage-point tree over a part of rows: its layout, its build, and the searches in it.
+mod ordering;
