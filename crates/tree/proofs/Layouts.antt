@@ -11,7 +11,7 @@ use Rattle.metric.specs.Row.{Row, tagOf, profileOf}
 use Rattle.tree.specs.Sorting.{keyLe, insertBy, sortBy}
 use Rattle.tree.specs.Guided.{All}
 use Rattle.tree.specs.Layout.{leftSize, Ranked, rankedFrom, tagKey, placed, fromPivot, nearKey, lastDistance, split, node, layoutWithin, layout}
-use Rattle.tree.proofs.Lists.{Pairs, all-perm, all-map, all-of-map, pairs-weaken, perm-length, perm-of-eq, perm-both, perm-map, map-take, map-drop}
+use Rattle.tree.proofs.Lists.{Pairs, all-always, all-perm, all-map, all-of-map, pairs-weaken, perm-length, perm-of-eq, perm-both, perm-map, map-take, map-drop}
 use Rattle.tree.proofs.Placed.{tag-placed, profile-placed, placed-again}
 use Rattle.tree.proofs.Sorting.{NotAfter, Sorted, Told, sort-perm, sort-length, sort-sorted, sort-permuted, sort-cons, insert-first, sort-map}
 
@@ -229,7 +229,7 @@ module _ (dist : Profile → Profile → ℕ) where
   unfolding layoutWithin node
   within-strips zero xs = refl
   within-strips (suc d) xs =
-      ap (node dist (λ ys. layoutWithin dist d ys)) (sort-map stripped tagKey tagKey tag-strips xs) ∙ at-sorted (sortBy tagKey xs) (within-strips d)
+      ap (node dist (λ ys. layoutWithin dist d ys)) (sort-map stripped tagKey tagKey xs (all-always tag-strips xs)) ∙ at-sorted (sortBy tagKey xs) (within-strips d)
     where
       at-sorted :
           (s : List Ranked) → ((ys : List Ranked) → layoutWithin dist d (map stripped ys) ≡ layoutWithin dist d ys)
@@ -237,7 +237,7 @@ module _ (dist : Profile → Profile → ℕ) where
       at-sorted [] h = refl
       at-sorted (v ∷ rest) h =
           ap (split dist (λ ys. layoutWithin dist d ys) (stripped v))
-          (sort-map stripped (nearKey dist (stripped v)) (nearKey dist v) (near-strips v) rest)
+          (sort-map stripped (nearKey dist (stripped v)) (nearKey dist v) rest (all-always (near-strips v) rest))
           ∙ split-strips v (λ ys. layoutWithin dist d ys) h (sortBy (nearKey dist v) rest)
 
   -- thresholds and marks of the input do not count

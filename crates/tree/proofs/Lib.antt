@@ -7,5 +7,6 @@ pub mod Layouts
 pub mod LastKey
 mod Merging
 mod Parts
+mod Arranging
 pub mod InPlace
 pub mod Marks
