@@ -1,6 +1,6 @@
 -- Working rows and ranked rows: a part's rows as a build arranges them hold a node of their layout, whatever the order in which they stood,
 -- since their ranks tell them apart and the words that a build writes do not count. Assumes nothing.
-use Prim.Native.Nat.{ℕ, suc, _≤_}
+use Prim.Native.Nat.{ℕ, zero, suc, _+_, _≤_, _<_}
 use native.Mathlib.Omega.{arith}
 use mathlib.Core.Path.{_≡_, refl, sym, _∙_, ap, ap₂, subst}
 use mathlib.Core.List.{List, [], _∷_, _++_, map, foldl, map-map, List·Permᴰ, List·Permᴰ·cons, List·Permᴰ·trans, Permᴰ·symm}
@@ -208,3 +208,18 @@ ranks-written-apart n [] w = tt
 ranks-written-apart n (r ∷ rs) w =
     ( all-weaken (λ s h e. omega (arith, mark-with-mark r n (w .0))) (ranksWritten (suc n) rs) (ranks-from (suc n) (suc n) rs (omega arith) (w .1))
     , ranks-written-apart (suc n) rs (w .1) )
+
+pub ranks-length : (n : ℕ) (rows : List Row) → length (ranksWritten n rows) ≡ length rows
+unfolding ranksWritten
+ranks-length n [] = refl
+ranks-length n (r ∷ rs) = ap suc (ranks-length (suc n) rs)
+
+pub ranks-at : (n : ℕ) (rows : List Row) (i : ℕ) → i < length rows → getD (ranksWritten n rows) i [] ≡ withMark (n + i) (getD rows i [])
+unfolding ranksWritten
+ranks-at n [] i h = absurd (omega arith)
+ranks-at n (r ∷ rs) zero h =
+    let e : n ≡ n + 0 = omega arith in
+    ap (λ (k : ℕ). withMark k r) e
+ranks-at n (r ∷ rs) (suc i) h =
+    let e : suc n + i ≡ n + suc i = omega arith in
+    ranks-at (suc n) rs i (omega arith) ∙ ap (λ (k : ℕ). withMark k (getD rs i [])) e

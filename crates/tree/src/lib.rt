@@ -1,2 +1,3 @@
 // One vantage-point tree over a part of rows: its layout, its build, and the searches in it.
+mod build;
 mod ordering;
