@@ -1,10 +1,13 @@
 -- Working rows and ranked rows: a part's rows as a build arranges them hold a node of their layout, whatever the order in which they stood,
 -- since their ranks tell them apart and the words that a build writes do not count. Assumes nothing.
 use Prim.Native.Nat.{ℕ, zero, suc, _+_, _≤_, _<_}
+use native.Mathlib.Nat.{add-comm}
+use native.Mathlib.Numerals.{add-one}
 use native.Mathlib.Omega.{arith}
 use mathlib.Core.Path.{_≡_, refl, sym, _∙_, ap, ap₂, subst}
-use mathlib.Core.List.{List, [], _∷_, _++_, map, foldl, map-map, List·Permᴰ, List·Permᴰ·cons, List·Permᴰ·trans, Permᴰ·symm}
-use lib.ListN.{length, length-map, getD, take, drop}
+use mathlib.Core.List.{List, [], _∷_, _++_, map, foldl, foldl-append, map-map, List·Permᴰ, List·Permᴰ·cons, List·Permᴰ·swap, List·Permᴰ·trans, Permᴰ·refl, Permᴰ·symm}
+use lib.ListN.{length, length-map, length-drop, getD, set, take, drop}
+use lib.Seq.{take-suc, getD-drop}
 use Rattle.metric.specs.declared.Profile.{Profile}
 use Rattle.metric.specs.Row.{Row, rowWidth, tagOf, profileOf, thresholdOf, markOf, withThreshold, withMark}
 use Rattle.metric.proofs.Codec.{threshold-with-threshold, tag-with-threshold, mark-with-threshold, mark-with-mark}
@@ -49,8 +52,8 @@ module _ (dist : Profile → Profile → ℕ) where
 
   -- the least row first and the others in any order: sorted from it, they are the rows arranged
   pub arranged-by :
-    (v : Row) (rest rows : List Row) → List·Permᴰ (v ∷ rest) rows → All (NotAfter firstKey v) rest → RanksApart rows
-    → arranged dist rows ≡ sortedFrom dist (v ∷ rest)
+      (v : Row) (rest rows : List Row) → List·Permᴰ (v ∷ rest) rows → All (NotAfter firstKey v) rest → RanksApart rows
+      → arranged dist rows ≡ sortedFrom dist (v ∷ rest)
   unfolding arranged sortedFrom
   arranged-by v rest rows p least apart =
       let other : Pairs Apart (v ∷ rest) = pairs-perm Apart apart-flip (Permᴰ·symm p) (ranks-pairs rows apart) in
@@ -78,9 +81,10 @@ module _ (dist : Profile → Profile → ℕ) where
   sorted-from-apart [] h = tt
   sorted-from-apart (v ∷ rest) h =
       let p : List·Permᴰ (map (measuredFrom dist v) rest) (sortBy workKey (map (measuredFrom dist v) rest)) =
-            Permᴰ·symm (sort-perm workKey (map (measuredFrom dist v) rest)) in
-      ( all-perm (Apart v) p (all-map (measuredFrom dist v) (Apart v) rest (all-weaken (λ r n e. n (e ∙ measured-mark v r)) rest (h .0)))
-      , pairs-perm Apart apart-flip p (pairs-map (measuredFrom dist v) Apart rest (pairs-weaken (measured-apart v) rest (h .1))) )
+      Permᴰ·symm (sort-perm workKey (map (measuredFrom dist v) rest)) in (
+        all-perm (Apart v) p (all-map (measuredFrom dist v) (Apart v) rest (all-weaken (λ r n e. n (e ∙ measured-mark v r)) rest (h .0))),
+        pairs-perm Apart apart-flip p (pairs-map (measuredFrom dist v) Apart rest (pairs-weaken (measured-apart v) rest (h .1))),
+      )
 
   -- arranged rows keep their ranks
   pub arranged-apart : (rows : List Row) → RanksApart rows → Pairs Apart (arranged dist rows)
@@ -128,8 +132,8 @@ module _ (dist : Profile → Profile → ℕ) where
     last-measured = from 0
       where
         from :
-          (m : ℕ) (rs : List Row) → All (λ r. length r ≡ rowWidth) rs
-          → foldl (λ k x. fromPivot dist (rankedOf v) x) m (map rankedOf rs) ≡ foldl (λ k r. thresholdOf r) m (map (measuredFrom dist v) rs)
+            (m : ℕ) (rs : List Row) → All (λ r. length r ≡ rowWidth) rs
+            → foldl (λ k x. fromPivot dist (rankedOf v) x) m (map rankedOf rs) ≡ foldl (λ k r. thresholdOf r) m (map (measuredFrom dist v) rs)
         from m [] w = refl
         from m (r ∷ rs) w =
             from (fromPivot dist (rankedOf v) (rankedOf r)) rs (w .1)
@@ -137,14 +141,14 @@ module _ (dist : Profile → Profile → ℕ) where
 
     -- v over its rest in order, which is measured from v
     split-measured :
-      (rs : List Row) → All (λ r. length r ≡ rowWidth) rs
-      → split dist (layoutOf dist) (rankedOf v) (map rankedOf rs) ≡ laidFrom (v ∷ map (measuredFrom dist v) rs)
+        (rs : List Row) → All (λ r. length r ≡ rowWidth) rs
+        → split dist (layoutOf dist) (rankedOf v) (map rankedOf rs) ≡ laidFrom (v ∷ map (measuredFrom dist v) rs)
     unfolding split laidFrom rankedOf
     split-measured rs w =
         let l : ℕ = leftSize (suc (length rs)) in
         let m : Row → Row = measuredFrom dist v in
         ap (λ (n : ℕ). placed (lastDistance dist (rankedOf v) (take (leftSize (suc n)) (map rankedOf rs))) v
-          ∷ layoutOf dist (take (leftSize (suc n)) (map rankedOf rs)) ++ layoutOf dist (drop (leftSize (suc n)) (map rankedOf rs))) (length-map rs rankedOf)
+        ∷ layoutOf dist (take (leftSize (suc n)) (map rankedOf rs)) ++ layoutOf dist (drop (leftSize (suc n)) (map rankedOf rs))) (length-map rs rankedOf)
         ∙ ap₂ (λ (a b : List Ranked). placed (lastDistance dist (rankedOf v) a) v ∷ layoutOf dist a ++ layoutOf dist b)
         (map-take rankedOf l rs)
         (map-drop rankedOf l rs)
@@ -157,12 +161,12 @@ module _ (dist : Profile → Profile → ℕ) where
         (sym (map-take m l rs))
         (sym (map-drop m l rs))
         ∙ ap (λ (n : ℕ). placed (lastMeasured (take (leftSize (suc n)) (map m rs))) v
-          ∷ layoutOf dist (map rankedOf (take (leftSize (suc n)) (map m rs))) ++ layoutOf dist (map rankedOf (drop (leftSize (suc n)) (map m rs))))
+        ∷ layoutOf dist (map rankedOf (take (leftSize (suc n)) (map m rs))) ++ layoutOf dist (map rankedOf (drop (leftSize (suc n)) (map m rs))))
         (sym (length-map rs m))
 
     first-laid :
-      (rest : List Row) → All (λ r. length r ≡ rowWidth) rest
-      → split dist (layoutOf dist) (rankedOf v) (sortBy (nearKey dist (rankedOf v)) (map rankedOf rest)) ≡ laidFrom (v ∷ sortBy workKey (map (measuredFrom dist v) rest))
+        (rest : List Row) → All (λ r. length r ≡ rowWidth) rest
+        → split dist (layoutOf dist) (rankedOf v) (sortBy (nearKey dist (rankedOf v)) (map rankedOf rest)) ≡ laidFrom (v ∷ sortBy workKey (map (measuredFrom dist v) rest))
     unfolding keyFrom
     first-laid rest w =
         ap (split dist (layoutOf dist) (rankedOf v)) (sort-map rankedOf (nearKey dist (rankedOf v)) keyFrom rest (all-always (λ r. refl) rest))
@@ -205,9 +209,10 @@ ranks-from n m (r ∷ rs) h w = (omega (arith, mark-with-mark r m (w .0)), ranks
 pub ranks-written-apart : (n : ℕ) (rows : List Row) → All (λ r. length r ≡ rowWidth) rows → RanksApart (ranksWritten n rows)
 unfolding ranksWritten
 ranks-written-apart n [] w = tt
-ranks-written-apart n (r ∷ rs) w =
-    ( all-weaken (λ s h e. omega (arith, mark-with-mark r n (w .0))) (ranksWritten (suc n) rs) (ranks-from (suc n) (suc n) rs (omega arith) (w .1))
-    , ranks-written-apart (suc n) rs (w .1) )
+ranks-written-apart n (r ∷ rs) w = (
+  all-weaken (λ s h e. omega (arith, mark-with-mark r n (w .0))) (ranksWritten (suc n) rs) (ranks-from (suc n) (suc n) rs (omega arith) (w .1)),
+  ranks-written-apart (suc n) rs (w .1),
+)
 
 pub ranks-length : (n : ℕ) (rows : List Row) → length (ranksWritten n rows) ≡ length rows
 unfolding ranksWritten
@@ -223,3 +228,34 @@ ranks-at n (r ∷ rs) zero h =
 ranks-at n (r ∷ rs) (suc i) h =
     let e : suc n + i ≡ n + suc i = omega arith in
     ranks-at (suc n) rs i (omega arith) ∙ ap (λ (k : ℕ). withMark k (getD rs i [])) e
+
+-- rows with the first and the row at a place in each other's place
+abbrev pub brought : List Row → ℕ → List Row
+brought rows at = set (set rows 0 (getD rows at [])) at (getD rows 0 [])
+
+-- r takes the place of row k, which goes first
+exchange-perm : (r : Row) (rs : List Row) (k : ℕ) → k < length rs → List·Permᴰ (getD rs k [] ∷ set rs k r) (r ∷ rs)
+exchange-perm r [] k h = absurd (omega arith)
+exchange-perm r (s ∷ rs) zero h = List·Permᴰ·swap refl refl
+exchange-perm r (s ∷ rs) (suc k) h =
+    List·Permᴰ·trans (List·Permᴰ·swap refl refl)
+    (List·Permᴰ·trans (List·Permᴰ·cons refl (exchange-perm r rs k (omega arith))) (List·Permᴰ·swap refl refl))
+
+pub brought-perm : (rows : List Row) (at : ℕ) → at < length rows → List·Permᴰ (getD rows at [] ∷ drop 1 (brought rows at)) rows
+brought-perm [] at h = absurd (omega arith)
+brought-perm (r ∷ rs) zero h = Permᴰ·refl (r ∷ rs)
+brought-perm (r ∷ rs) (suc k) h = exchange-perm r rs k (omega arith)
+
+pub brought-first : (rows : List Row) (at : ℕ) → at < length rows → take 1 (brought rows at) ≡ getD rows at [] ∷ []
+brought-first [] at h = absurd (omega arith)
+brought-first (r ∷ rs) zero h = refl
+brought-first (r ∷ rs) (suc k) h = refl
+
+-- the distance written in the last of some rows is that of row l, where they are the l rows behind the first
+pub last-row : (rows : List Row) (l : ℕ) → l < length rows → (l ≡ 0 → ⊥) → lastMeasured (take l (drop 1 rows)) ≡ thresholdOf (getD rows l [])
+unfolding lastMeasured
+last-row rows zero h n = absurd (n refl)
+last-row rows (suc k) h n =
+    ap (foldl (λ m r. thresholdOf r) 0) (take-suc (drop 1 rows) k [] (omega (arith, length-drop 1 rows)))
+    ∙ foldl-append (λ (m : ℕ) (r : Row). thresholdOf r) 0 (take k (drop 1 rows)) (getD (drop 1 rows) k [] ∷ [])
+    ∙ ap thresholdOf (getD-drop 1 rows k [] ∙ ap (λ (i : ℕ). getD rows i []) (add-comm 1 k ∙ add-one k))

@@ -43,7 +43,7 @@ least-moved : (rows : List Row) (at i : ℕ) → i < length rows → Least rows 
 least-moved rows at i h a k =
     least-with rows i i h
     (all-weaken (λ x. key-le-trans (firstKey (getD rows i [])) (firstKey (getD rows at [])) (firstKey x)
-      (key-le-flip (firstKey (getD rows at [])) (firstKey (getD rows i [])) k)) (take i rows) a)
+    (key-le-flip (firstKey (getD rows at [])) (firstKey (getD rows i [])) k)) (take i rows) a)
     (key-le-refl (firstKey (getD rows i [])))
 
 abbrev Inv-loop : tie.InvT-loop
@@ -91,26 +91,29 @@ loop-again c =
     let l = c .before .before .before .before .before .loop in
     let h : l .i < length rows = omega arith in
     ⊎-elim
-    (λ w.
-      ( omega (arith, w .1)
-      , omega arith
-      , subst (λ (n : ℕ). Least rows n (l .i + 1)) (sym (w .1))
-        (least-moved rows (l .at) (l .i) h (l .inv .2) (sym (c .before .no-later .ensures) ∙ not-true (c .before .no-later .result) (w .0 .taken))) ))
-    (λ w.
-      ( omega (arith, w .1)
-      , omega arith
-      , subst (λ (n : ℕ). Least rows n (l .i + 1)) (sym (w .1))
-        (least-with rows (l .at) (l .i) h (l .inv .2) (sym (c .before .no-later .ensures) ∙ not-false (c .before .no-later .result) (w .0 .left))) ))
+    (λ w. (
+      omega (arith, w .1),
+      omega arith,
+      subst (λ (n : ℕ). Least rows n (l .i + 1)) (sym (w .1))
+          (least-moved rows (l .at) (l .i) h (l .inv .2) (sym (c .before .no-later .ensures) ∙ not-true (c .before .no-later .result) (w .0 .taken))),
+    ))
+    (λ w. (
+      omega (arith, w .1),
+      omega arith,
+      subst (λ (n : ℕ). Least rows n (l .i + 1)) (sym (w .1))
+          (least-with rows (l .at) (l .i) h (l .inv .2) (sym (c .before .no-later .ensures) ∙ not-false (c .before .no-later .result) (w .0 .left))),
+    ))
     (c .if1 .came)
 
 -- src/build.rt:46:1
 returns : tie.Need-returns Inv-loop μ-loop
 returns c =
     let rows : List Row = c .before .before .args .rows .now in
-    let l = c .before .loop in
-    ( omega arith
-    , all-every (λ x. keyLe (firstKey (getD rows (l .at) [])) (firstKey x)) rows
-      (subst (All (λ x. keyLe (firstKey (getD rows (l .at) [])) (firstKey x) ≡ true)) (take-all (l .i) rows (omega arith)) (l .inv .2)) )
+    let l = c .before .loop in (
+      omega arith,
+      all-every (λ x. keyLe (firstKey (getD rows (l .at) [])) (firstKey x)) rows
+          (subst (All (λ x. keyLe (firstKey (getD rows (l .at) [])) (firstKey x) ≡ true)) (take-all (l .i) rows (omega arith)) (l .inv .2)),
+    )
 
 pub first-at-spec : {M : Type 1} → statement M
 first-at-spec =

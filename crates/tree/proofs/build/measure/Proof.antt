@@ -113,14 +113,15 @@ loop-again c =
     let l = c .before .before .before .loop in
     let h : l .i < length (a .src .now) = omega arith in
     let x : set (getD (l .src) (l .i) []) 10 (c .distance-between .result) ≡ getD (new (a .metric) (a .v) (a .src .now)) (l .i) [] =
-          measured-row (a .metric) (a .v) (a .src .now) (l .src) (l .i) (c .distance-between .result) h (l .inv .4) (c .distance-between .ensures) in
-    ( omega arith
-    , omega arith
-    , simp length-set (l .inv .2)
-    , simp length-set (l .inv .3)
-    , measure-step (a .metric) (a .v) (a .src .now) (a .src .now) (l .src) (l .i) (set (getD (l .src) (l .i) []) 10 (c .distance-between .result)) refl h (l .inv .4) x
-    , measure-step (a .metric) (a .v) (a .src .now) (a .dst .now) (l .dst) (l .i) (set (getD (l .src) (l .i) []) 10 (c .distance-between .result))
-      (c .before .before .before .before .pre) h (l .inv .5) x )
+    measured-row (a .metric) (a .v) (a .src .now) (l .src) (l .i) (c .distance-between .result) h (l .inv .4) (c .distance-between .ensures) in (
+      omega arith,
+      omega arith,
+      simp length-set (l .inv .2),
+      simp length-set (l .inv .3),
+      measure-step (a .metric) (a .v) (a .src .now) (a .src .now) (l .src) (l .i) (set (getD (l .src) (l .i) []) 10 (c .distance-between .result)) refl h (l .inv .4) x,
+      measure-step (a .metric) (a .v) (a .src .now) (a .dst .now) (l .dst) (l .i) (set (getD (l .src) (l .i) []) 10 (c .distance-between .result))
+          (c .before .before .before .before .pre) h (l .inv .5) x,
+    )
 
 -- src/build.rt:73:1
 same-length : tie.Need-same-length Inv-loop μ-loop
@@ -137,10 +138,10 @@ returns c =
     let a = c .before .before .args in
     let l = c .before .loop in
     let s : l .src ≡ new (a .metric) (a .v) (a .src .now) =
-          l .inv .4 ∙ written-all (a .src .now) (new (a .metric) (a .v) (a .src .now)) (new-length (a .metric) (a .v) (a .src .now)) [] (l .i) (omega arith) in
+    l .inv .4 ∙ written-all (a .src .now) (new (a .metric) (a .v) (a .src .now)) (new-length (a .metric) (a .v) (a .src .now)) [] (l .i) (omega arith) in
     let d : l .dst ≡ new (a .metric) (a .v) (a .src .now) =
-          l .inv .5
-          ∙ written-all (a .dst .now) (new (a .metric) (a .v) (a .src .now)) (new-length (a .metric) (a .v) (a .src .now) ∙ sym (c .before .before .pre)) [] (l .i) (omega arith) in
+    l .inv .5
+    ∙ written-all (a .dst .now) (new (a .metric) (a .v) (a .src .now)) (new-length (a .metric) (a .v) (a .src .now) ∙ sym (c .before .before .pre)) [] (l .i) (omega arith) in
     (s, (d ∙ sym s, omega arith))
 
 pub measure-spec : {M : Type 1} → statement M

@@ -1,20 +1,20 @@
+-- `tree::build::place` meets its contract: the two words that it writes are those of `placed`.
+-- Assumes nothing.
 use borrow.Author.Needs.{needs}
+use mathlib.Core.Path.{refl}
+use Rattle.tree.specs.Layout.{placed}
 use Rattle.tree.proofs.build.place.Statement.{statement}
 use Rattle.tree.proofs.build.place.Tie as tie
-use Rattle.tree.proofs.build.place.Reads as reads
-use Rattle.tree.proofs.build.place.Lts as lts
 
--- src/build.rt:108:5
 array-write-slot : tie.Need-array-write-slot
 array-write-slot c = search needs
 
--- src/build.rt:109:5
 array-write-slot-2 : tie.Need-array-write-slot-2
 array-write-slot-2 c = search needs
 
--- src/build.rt:104:1
 returns : tie.Need-returns
-returns c = ?
+unfolding placed
+returns c = refl
 
 pub place-spec : {M : Type 1} → statement M
 place-spec = tie.close (tie.spec array-write-slot array-write-slot-2 returns)

@@ -26,8 +26,8 @@ use Rattle.tree.proofs.build.write_ranks.Lts as lts
 
 -- row i is written with rank i
 rank-step :
-  (old rows : List Row) (i : ℕ) → i < length old → rows ≡ writtenTo old (ranksWritten 0 old) i
-  → set rows i (set (getD rows i []) 11 i) ≡ writtenTo old (ranksWritten 0 old) (i + 1)
+    (old rows : List Row) (i : ℕ) → i < length old → rows ≡ writtenTo old (ranksWritten 0 old) i
+    → set rows i (set (getD rows i []) 11 i) ≡ writtenTo old (ranksWritten 0 old) (i + 1)
 unfolding withMark
 rank-step old rows i h e =
     ap (λ (r : List Row). set r i (set (getD r i []) 11 i)) e
@@ -82,10 +82,11 @@ loop-less c = omega arith
 -- src/build.rt:25:5
 loop-again : tie.Need-loop-again Inv-loop μ-loop
 loop-again c =
-    let v = c .before .before .loop .inv in
-    ( omega arith
-    , simp length-set (v .1)
-    , rank-step (c .before .before .before .args .rows .now) (c .before .before .loop .rows) (c .before .before .loop .i) (omega arith) (v .2) )
+    let v = c .before .before .loop .inv in (
+      omega arith,
+      simp length-set (v .1),
+      rank-step (c .before .before .before .args .rows .now) (c .before .before .loop .rows) (c .before .before .loop .i) (omega arith) (v .2),
+    )
 
 -- src/build.rt:20:1
 same-length : tie.Need-same-length Inv-loop μ-loop
