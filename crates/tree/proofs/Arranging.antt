@@ -6,15 +6,15 @@ use native.Mathlib.Numerals.{add-one}
 use native.Mathlib.Omega.{arith}
 use mathlib.Core.Path.{_≡_, refl, sym, _∙_, ap, ap₂, subst}
 use mathlib.Core.List.{List, [], _∷_, _++_, map, foldl, foldl-append, map-map, List·Permᴰ, List·Permᴰ·cons, List·Permᴰ·swap, List·Permᴰ·trans, Permᴰ·refl, Permᴰ·symm}
-use lib.ListN.{length, length-map, length-drop, getD, set, take, drop}
+use lib.ListN.{length, length-map, length-drop, length-set, getD, set, take, drop}
 use lib.Seq.{take-suc, getD-drop}
 use Rattle.metric.specs.declared.Profile.{Profile}
-use Rattle.metric.specs.Row.{Row, rowWidth, tagOf, profileOf, thresholdOf, markOf, withThreshold, withMark}
+use Rattle.metric.specs.Row.{Row, rowWidth, thresholdAt, markAt, tagOf, profileOf, thresholdOf, markOf, withThreshold, withMark}
 use Rattle.metric.proofs.Codec.{threshold-with-threshold, tag-with-threshold, mark-with-threshold, mark-with-mark}
 use Rattle.tree.specs.Sorting.{keyLe, sortBy}
 use Rattle.tree.specs.Layout.{leftSize, Ranked, rankedFrom, tagKey, placed, fromPivot, nearKey, lastDistance, split, node, layout}
 use Rattle.tree.specs.Guided.{All, fromSlot}
-use Rattle.tree.specs.Working.{workKey, firstKey, rankedOf, ranksWritten, RanksApart, measuredFrom, sortedFrom, arranged, lastMeasured}
+use Rattle.tree.specs.Working.{workKey, firstKey, rankedOf, ranksWritten, Whole, RanksApart, measuredFrom, sortedFrom, arranged, lastMeasured}
 use Rattle.tree.proofs.Lists.{Pairs, all-always, all-weaken, all-perm, all-take, all-drop, all-map, pairs-weaken, pairs-perm, pairs-map, pairs-take, pairs-drop, perm-map, perm-length, map-take, map-drop, map-alike}
 use Rattle.tree.proofs.Sorting.{NotAfter, Told, sort-cons, sort-perm, sort-length, sort-permuted, insert-first, sort-map}
 use Rattle.tree.proofs.Placed.{placed-with-threshold, placed-with-mark}
@@ -92,6 +92,25 @@ module _ (dist : Profile → Profile → ℕ) where
   arranged-apart rows h =
       sorted-from-apart (sortBy firstKey rows) (pairs-perm Apart apart-flip (Permᴰ·symm (sort-perm firstKey rows)) (ranks-pairs rows h))
 
+  measured-width : (v r : Row) → length r ≡ rowWidth → length (measuredFrom dist v r) ≡ rowWidth
+  unfolding measuredFrom withThreshold
+  measured-width v r w = length-set r thresholdAt (fromSlot dist v r) ∙ w
+
+  sorted-from-whole : (s : List Row) → Whole s → Whole (sortedFrom dist s)
+  unfolding sortedFrom
+  sorted-from-whole [] w = tt
+  sorted-from-whole (v ∷ rest) w = (
+    w .0,
+    all-perm (λ r. length r ≡ rowWidth) (Permᴰ·symm (sort-perm workKey (map (measuredFrom dist v) rest)))
+        (all-map (measuredFrom dist v) (λ r. length r ≡ rowWidth) rest (all-weaken (measured-width v) rest (w .1))),
+  )
+
+  -- and have all their words
+  pub arranged-whole : (rows : List Row) → Whole rows → Whole (arranged dist rows)
+  unfolding arranged
+  arranged-whole rows w =
+      sorted-from-whole (sortBy firstKey rows) (all-perm (λ r. length r ≡ rowWidth) (Permᴰ·symm (sort-perm firstKey rows)) w)
+
   -- the node that arranged rows hold
   unfoldable pub laidFrom : List Row → List Row
   laidFrom [] = []
@@ -127,12 +146,12 @@ module _ (dist : Profile → Profile → ℕ) where
     unfolding workKey keyFrom nearKey
     written r w = ap (λ (k : List ℕ). getD k 0 0) (measured-key r w)
 
-    last-measured : (rs : List Row) → All (λ r. length r ≡ rowWidth) rs → lastDistance dist (rankedOf v) (map rankedOf rs) ≡ lastMeasured (map (measuredFrom dist v) rs)
+    last-measured : (rs : List Row) → Whole rs → lastDistance dist (rankedOf v) (map rankedOf rs) ≡ lastMeasured (map (measuredFrom dist v) rs)
     unfolding lastDistance lastMeasured
     last-measured = from 0
       where
         from :
-            (m : ℕ) (rs : List Row) → All (λ r. length r ≡ rowWidth) rs
+            (m : ℕ) (rs : List Row) → Whole rs
             → foldl (λ k x. fromPivot dist (rankedOf v) x) m (map rankedOf rs) ≡ foldl (λ k r. thresholdOf r) m (map (measuredFrom dist v) rs)
         from m [] w = refl
         from m (r ∷ rs) w =
@@ -141,7 +160,7 @@ module _ (dist : Profile → Profile → ℕ) where
 
     -- v over its rest in order, which is measured from v
     split-measured :
-        (rs : List Row) → All (λ r. length r ≡ rowWidth) rs
+        (rs : List Row) → Whole rs
         → split dist (layoutOf dist) (rankedOf v) (map rankedOf rs) ≡ laidFrom (v ∷ map (measuredFrom dist v) rs)
     unfolding split laidFrom rankedOf
     split-measured rs w =
@@ -165,7 +184,7 @@ module _ (dist : Profile → Profile → ℕ) where
         (sym (length-map rs m))
 
     first-laid :
-        (rest : List Row) → All (λ r. length r ≡ rowWidth) rest
+        (rest : List Row) → Whole rest
         → split dist (layoutOf dist) (rankedOf v) (sortBy (nearKey dist (rankedOf v)) (map rankedOf rest)) ≡ laidFrom (v ∷ sortBy workKey (map (measuredFrom dist v) rest))
     unfolding keyFrom
     first-laid rest w =
@@ -174,20 +193,20 @@ module _ (dist : Profile → Profile → ℕ) where
         ∙ ap (λ (rs : List Row). laidFrom (v ∷ rs))
         (sym (sort-map (measuredFrom dist v) workKey keyFrom rest (all-weaken measured-key rest w)))
 
-  node-laid : (s : List Row) → All (λ r. length r ≡ rowWidth) s → node dist (layoutOf dist) (map rankedOf s) ≡ laidFrom (sortedFrom dist s)
+  node-laid : (s : List Row) → Whole s → node dist (layoutOf dist) (map rankedOf s) ≡ laidFrom (sortedFrom dist s)
   unfolding node sortedFrom laidFrom
   node-laid [] w = refl
   node-laid (v ∷ rest) w = first-laid v rest (w .1)
 
   -- the layout of working rows is the node that they hold once they are arranged
-  pub layout-arranged : (rows : List Row) → All (λ r. length r ≡ rowWidth) rows → layoutOf dist (map rankedOf rows) ≡ laidFrom (arranged dist rows)
+  pub layout-arranged : (rows : List Row) → Whole rows → layoutOf dist (map rankedOf rows) ≡ laidFrom (arranged dist rows)
   unfolding arranged tagKey rankedOf firstKey
   layout-arranged rows w =
       layout-node dist (map rankedOf rows)
       ∙ ap (node dist (layoutOf dist)) (sort-map rankedOf tagKey firstKey rows (all-always (λ r. refl) rows))
       ∙ node-laid (sortBy firstKey rows) (all-perm (λ r. length r ≡ rowWidth) (Permᴰ·symm (sort-perm firstKey rows)) w)
 
-  ranks-stripped : (n : ℕ) (rows : List Row) → All (λ r. length r ≡ rowWidth) rows → map stripped (map rankedOf (ranksWritten n rows)) ≡ map stripped (rankedFrom n rows)
+  ranks-stripped : (n : ℕ) (rows : List Row) → Whole rows → map stripped (map rankedOf (ranksWritten n rows)) ≡ map stripped (rankedFrom n rows)
   unfolding stripped rankedOf ranksWritten rankedFrom
   ranks-stripped n [] w = refl
   ranks-stripped n (r ∷ rs) w =
@@ -196,17 +215,17 @@ module _ (dist : Profile → Profile → ℕ) where
       (ranks-stripped (suc n) rs (w .1))
 
   -- rows with their ranks written have the layout of the rows
-  pub layout-ranks : (rows : List Row) → All (λ r. length r ≡ rowWidth) rows → layoutOf dist (map rankedOf (ranksWritten 0 rows)) ≡ layout dist rows
+  pub layout-ranks : (rows : List Row) → Whole rows → layoutOf dist (map rankedOf (ranksWritten 0 rows)) ≡ layout dist rows
   layout-ranks rows w =
       layout-stripped dist (map rankedOf (ranksWritten 0 rows)) (rankedFrom 0 rows) (ranks-stripped 0 rows w) ∙ sym (layout-ranked dist rows)
 
-ranks-from : (n m : ℕ) (rows : List Row) → n ≤ m → All (λ r. length r ≡ rowWidth) rows → All (λ r. n ≤ markOf r) (ranksWritten m rows)
+ranks-from : (n m : ℕ) (rows : List Row) → n ≤ m → Whole rows → All (λ r. n ≤ markOf r) (ranksWritten m rows)
 unfolding ranksWritten
 ranks-from n m [] h w = tt
 ranks-from n m (r ∷ rs) h w = (omega (arith, mark-with-mark r m (w .0)), ranks-from n (suc m) rs (omega arith) (w .1))
 
 -- ranks as they are written differ
-pub ranks-written-apart : (n : ℕ) (rows : List Row) → All (λ r. length r ≡ rowWidth) rows → RanksApart (ranksWritten n rows)
+pub ranks-written-apart : (n : ℕ) (rows : List Row) → Whole rows → RanksApart (ranksWritten n rows)
 unfolding ranksWritten
 ranks-written-apart n [] w = tt
 ranks-written-apart n (r ∷ rs) w = (
@@ -259,3 +278,8 @@ last-row rows (suc k) h n =
     ap (foldl (λ m r. thresholdOf r) 0) (take-suc (drop 1 rows) k [] (omega (arith, length-drop 1 rows)))
     ∙ foldl-append (λ (m : ℕ) (r : Row). thresholdOf r) 0 (take k (drop 1 rows)) (getD (drop 1 rows) k [] ∷ [])
     ∙ ap thresholdOf (getD-drop 1 rows k [] ∙ ap (λ (i : ℕ). getD rows i []) (add-comm 1 k ∙ add-one k))
+
+pub ranks-written-whole : (n : ℕ) (rows : List Row) → Whole rows → Whole (ranksWritten n rows)
+unfolding ranksWritten withMark
+ranks-written-whole n [] w = tt
+ranks-written-whole n (r ∷ rs) w = (length-set r markAt n ∙ w .0, ranks-written-whole (suc n) rs (w .1))

@@ -8,5 +8,6 @@ pub mod LastKey
 mod Merging
 mod Parts
 mod Arranging
+mod Halving
 pub mod InPlace
 pub mod Marks

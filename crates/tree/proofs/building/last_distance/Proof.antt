@@ -1,4 +1,4 @@
--- `tree::build::last_distance` meets its contract: the last of l rows behind the first is row l.
+-- `tree::building::last_distance` meets its contract: the last of l rows behind the first is row l.
 -- Assumes nothing.
 use mathlib.Core.Path.{_≡_, sym, ap}
 use Prim.Native.Nat.{ℕ}
@@ -7,10 +7,10 @@ use Rattle.metric.specs.Row.{thresholdOf}
 use Rattle.tree.specs.Working.{lastMeasured}
 use Rattle.tree.proofs.Arranging.{last-row}
 use borrow.Author.Needs.{needs}
-use Rattle.tree.proofs.build.last_distance.Statement.{statement}
-use Rattle.tree.proofs.build.last_distance.Tie as tie
-use Rattle.tree.proofs.build.last_distance.Reads as reads
-use Rattle.tree.proofs.build.last_distance.Lts as lts
+use Rattle.tree.proofs.building.last_distance.Statement.{statement}
+use Rattle.tree.proofs.building.last_distance.Tie as tie
+use Rattle.tree.proofs.building.last_distance.Reads as reads
+use Rattle.tree.proofs.building.last_distance.Lts as lts
 
 -- src/build.rt:100:28
 mul-result : tie.Need-mul-result

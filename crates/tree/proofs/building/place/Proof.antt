@@ -1,10 +1,10 @@
--- `tree::build::place` meets its contract: the two words that it writes are those of `placed`.
+-- `tree::building::place` meets its contract: the two words that it writes are those of `placed`.
 -- Assumes nothing.
 use borrow.Author.Needs.{needs}
 use mathlib.Core.Path.{refl}
 use Rattle.tree.specs.Layout.{placed}
-use Rattle.tree.proofs.build.place.Statement.{statement}
-use Rattle.tree.proofs.build.place.Tie as tie
+use Rattle.tree.proofs.building.place.Statement.{statement}
+use Rattle.tree.proofs.building.place.Tie as tie
 
 array-write-slot : tie.Need-array-write-slot
 array-write-slot c = search needs

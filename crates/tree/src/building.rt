@@ -6,26 +6,33 @@ ghost use mathlib.Core.Bool.{true};
 ghost use mathlib.Core.List.{[], map};
 ghost use lib.ListN.{length, take, drop, getD, set, replicate};
 ghost use Rattle.metric.specs.Lists.{every};
-ghost use Rattle.metric.specs.Row.{zeroRow};
+ghost use Rattle.metric.specs.Row.{rowWidth, zeroRow, withMark};
 ghost use Rattle.metric.specs.Distance.{distance};
 ghost use Rattle.tree.specs.Sorting.{keyLe};
 ghost use Rattle.tree.specs.Layout.{placed, layoutWithin, layout, cost};
-ghost use Rattle.tree.specs.Working.{firstKey, rankedOf, ranksWritten, RanksApart, measuredFrom, arranged, lastMeasured};
+ghost use Rattle.tree.specs.Working.{firstKey, rankedOf, ranksWritten, Whole, RanksApart, measuredFrom, arranged, lastMeasured};
 use super::ordering::no_later;
 use super::ordering::sort;
 use metric::Row;
 use metric::distance_between;
 
+// A row with its rank. A row by value has all its words, and says so for the rows of a slice, of which nothing else does.
+fn with_rank(row: Row, rank: u32) -> Row
+    ensures { λ r. ⌜ (r ≡ withMark rank row) × (length row ≡ rowWidth) ⌝ }
+{
+    let mut ranked = row;
+    ranked[11] = rank;
+    ranked
+}
+
 // The rows' places become their ranks.
 fn write_ranks(rows: &mut [Row])
     requires { ⌜ length (now rows) ≤ 2 ^ 32 ⌝ }
-    ensures { λ _. ⌜ now (rows .exit) ≡ ranksWritten 0 (now (rows .entry)) ⌝ }
+    ensures { λ _. ⌜ (now (rows .exit) ≡ ranksWritten 0 (now (rows .entry))) × Whole (now (rows .entry)) ⌝ }
 {
     let mut i = 0;
     while i < rows.len() {
-        let mut row = rows[i];
-        row[11] = i as u32;
-        rows[i] = row;
+        rows[i] = with_rank(rows[i], i as u32);
         i += 1;
     }
 }
@@ -108,4 +115,35 @@ fn place(row: Row, threshold: u32) -> Row
     slot[10] = threshold;
     slot[11] = 0;
     slot
+}
+
+// A part of working rows becomes the layout of its rows with their ranks: the first slot here, and each half by the same rule.
+fn build_part(dst: &mut [Row], src: &mut [Row], metric: u32) -> u64
+    requires { ⌜ (length (now dst) ≡ length (now src)) × (length (now src) ≤ 2 ^ 32) × Whole (now src) × RanksApart (now src) ⌝ }
+    ensures laid { λ _. ⌜ now (dst .exit) ≡ layoutWithin (distance metric) (length (now (src .entry))) (map rankedOf (now (src .entry))) ⌝ }
+    ensures cleared { λ _. ⌜ now (src .exit) ≡ replicate (length (now (src .entry))) zeroRow ⌝ }
+    ensures counted { λ r. ⌜ r ≡ cost (length (now (src .entry))) ⌝ }
+{
+    let n = src.len();
+    if n == 0 {
+        return 0;
+    }
+    let count = arrange(dst, src, metric);
+    let l = n / 2;
+    dst[0] = place(src[0], last_distance(src, l));
+    src[0] = [0u32; 12];
+    let left = build_part(&mut dst[1..1 + l], &mut src[1..1 + l], metric);
+    let right = build_part(&mut dst[1 + l..], &mut src[1 + l..], metric);
+    count + left + right
+}
+
+// The rows of src, in the order gathered, become the tree's slots in dst. The reply is the number of distances worked out, and src is left zero.
+pub fn build(dst: &mut [Row], src: &mut [Row], metric: u32) -> u64
+    requires { ⌜ (length (now dst) ≡ length (now src)) × (length (now src) ≤ 2 ^ 32) ⌝ }
+    ensures laid { λ _. ⌜ now (dst .exit) ≡ layout (distance metric) (now (src .entry)) ⌝ }
+    ensures cleared { λ _. ⌜ now (src .exit) ≡ replicate (length (now (src .entry))) zeroRow ⌝ }
+    ensures counted { λ r. ⌜ r ≡ cost (length (now (src .entry))) ⌝ }
+{
+    write_ranks(src);
+    build_part(dst, src, metric)
 }

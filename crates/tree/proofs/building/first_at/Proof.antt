@@ -20,10 +20,10 @@ use Rattle.tree.proofs.Lists.{all-append, all-weaken}
 use Rattle.tree.proofs.Tests.{all-every}
 use Rattle.tree.proofs.Parts.{writtenTo, written-length, written-at, written-next, written-all, getD-mapped}
 use Rattle.tree.proofs.Arranging.{ranks-length, ranks-at}
-use Rattle.tree.proofs.build.first_at.Statement.{statement}
-use Rattle.tree.proofs.build.first_at.Tie as tie
-use Rattle.tree.proofs.build.first_at.Reads as reads
-use Rattle.tree.proofs.build.first_at.Lts as lts
+use Rattle.tree.proofs.building.first_at.Statement.{statement}
+use Rattle.tree.proofs.building.first_at.Tie as tie
+use Rattle.tree.proofs.building.first_at.Reads as reads
+use Rattle.tree.proofs.building.first_at.Lts as lts
 use Rattle.tree.proofs.ordering.no_later.Reads as no-later-reads
 
 -- of the first i rows none comes before the row at `at`

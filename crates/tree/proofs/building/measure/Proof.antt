@@ -18,10 +18,10 @@ use Rattle.tree.proofs.Lists.{all-append, all-weaken}
 use Rattle.tree.proofs.Tests.{all-every}
 use Rattle.tree.proofs.Parts.{writtenTo, written-length, written-at, written-next, written-all, getD-mapped}
 use Rattle.tree.proofs.Arranging.{ranks-length, ranks-at}
-use Rattle.tree.proofs.build.measure.Statement.{statement}
-use Rattle.tree.proofs.build.measure.Tie as tie
-use Rattle.tree.proofs.build.measure.Reads as reads
-use Rattle.tree.proofs.build.measure.Lts as lts
+use Rattle.tree.proofs.building.measure.Statement.{statement}
+use Rattle.tree.proofs.building.measure.Tie as tie
+use Rattle.tree.proofs.building.measure.Reads as reads
+use Rattle.tree.proofs.building.measure.Lts as lts
 use Rattle.metric.proofs.distance_between.Reads as distance-between-reads
 
 module _ (metric : ℕ) (v : Row) (old : List Row) where

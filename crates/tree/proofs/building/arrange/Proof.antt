@@ -1,4 +1,4 @@
--- `tree::build::arrange` meets its contract: what stands behind the first row is measured from it, copied to the destination and sorted, and the
+-- `tree::building::arrange` meets its contract: what stands behind the first row is measured from it, copied to the destination and sorted, and the
 -- row brought to the front is the least. Assumes nothing.
 use native.Mathlib.Omega.{arith}
 use mathlib.Core.Path.{_≡_, refl, sym, _∙_, ap, ap₂, subst}
@@ -20,13 +20,13 @@ use Rattle.tree.proofs.Sorting.{NotAfter}
 use Rattle.tree.proofs.Parts.{part-rest, put-rest, part-behind, put-behind}
 use Rattle.tree.proofs.Arranging.{brought, brought-perm, brought-first, arranged-by}
 use borrow.Author.Needs.{needs}
-use Rattle.tree.proofs.build.arrange.Statement.{statement}
-use Rattle.tree.proofs.build.arrange.Tie as tie
-use Rattle.tree.proofs.build.arrange.Reads as reads
-use Rattle.tree.proofs.build.arrange.Lts as lts
-use Rattle.tree.proofs.build.bring_first.Reads as bring-first-reads
-use Rattle.tree.proofs.build.first_at.Reads as first-at-reads
-use Rattle.tree.proofs.build.measure.Reads as measure-reads
+use Rattle.tree.proofs.building.arrange.Statement.{statement}
+use Rattle.tree.proofs.building.arrange.Tie as tie
+use Rattle.tree.proofs.building.arrange.Reads as reads
+use Rattle.tree.proofs.building.arrange.Lts as lts
+use Rattle.tree.proofs.building.bring_first.Reads as bring-first-reads
+use Rattle.tree.proofs.building.first_at.Reads as first-at-reads
+use Rattle.tree.proofs.building.measure.Reads as measure-reads
 use Rattle.tree.proofs.ordering.sort.Reads as sort-reads
 
 -- a slice whose rest was lent and given back as `new`: what is lent of it next is `new`
