@@ -1,5 +1,7 @@
 // One vantage-point tree over a part of rows: its layout, its build, and the searches in it.
 mod building;
 mod ordering;
+mod placement;
 
 pub use building::build;
+pub use placement::in_place;

@@ -1,0 +1,26 @@
+-- `tree::placement::key_of` meets its contract: the two numbers are those of `slotKey`.
+-- Assumes nothing.
+use mathlib.Core.Path.{ap₂}
+use mathlib.Core.List.{[], _∷_}
+use Prim.Native.Nat.{ℕ}
+use Rattle.tree.specs.InPlace.{keyNumbers, slotKey}
+use borrow.Author.Needs.{needs}
+use Rattle.tree.proofs.placement.key_of.Statement.{statement}
+use Rattle.tree.proofs.placement.key_of.Tie as tie
+use Rattle.tree.proofs.placement.key_of.Reads as reads
+use Rattle.tree.proofs.placement.key_of.Lts as lts
+use Rattle.metric.proofs.distance_between.Reads as distance-between-reads
+use Rattle.metric.proofs.tag_of.Reads as tag-of-reads
+
+distance-between-requires : tie.Need-distance-between-requires
+distance-between-requires c κs = search needs
+
+tag-of-requires : tie.Need-tag-of-requires
+tag-of-requires c κs = search needs
+
+returns : tie.Need-returns
+unfolding keyNumbers slotKey
+returns c = ap₂ (λ (d t : ℕ). d ∷ t ∷ []) (c .before .distance-between .ensures) (c .tag-of .ensures)
+
+pub key-of-spec : {M : Type 1} → statement M
+key-of-spec = tie.close (tie.spec distance-between-requires tag-of-requires returns)
