@@ -130,10 +130,11 @@ fn build_part(dst: &mut [Row], src: &mut [Row], metric: u32) -> u64
     }
     let count = arrange(dst, src, metric);
     let l = n / 2;
+    let end = 1 + l;
     dst[0] = place(src[0], last_distance(src, l));
     src[0] = [0u32; 12];
-    let left = build_part(&mut dst[1..1 + l], &mut src[1..1 + l], metric);
-    let right = build_part(&mut dst[1 + l..], &mut src[1 + l..], metric);
+    let left = build_part(&mut dst[1..end], &mut src[1..end], metric);
+    let right = build_part(&mut dst[end..], &mut src[end..], metric);
     count + left + right
 }
 

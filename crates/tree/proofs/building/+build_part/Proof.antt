@@ -50,7 +50,6 @@ abbrev build-part-below : ℕ → In 2 build-part-kinds.ps
 build-part-below t =
     and 2 build-part-kinds.ps (falls 2 build-part-kinds.ps _<_ μ-build-part t) build-part.Pre
 
--- src/build.rt:129:9
 build-part-returns : (t : ℕ) → build-part-lts.Need-returns (
   arrange-reads.Asked,
   arrange-reads.Learnt,
@@ -65,7 +64,6 @@ build-part-returns t c =
     let s = c .before in
     none-built (distance (s .args .metric)) (s .args .dst .now) (s .args .src .now) (s .pre .1 .0) (c .if1 .taken)
 
--- src/build.rt:131:9
 build-part-arrange-requires : (t : ℕ) → build-part-lts.Need-arrange-requires (
   arrange-reads.Asked,
   arrange-reads.Learnt,
@@ -80,7 +78,18 @@ build-part-arrange-requires t c κs =
     let s = c .before .before .before in
     (s .pre .1 .0, not-zero (length (s .args .src .now)) (c .before .before .if1 .left), s .pre .1 .3)
 
--- src/build.rt:133:20
+build-part-add-end : (t : ℕ) → build-part-lts.Need-add-end (
+  arrange-reads.Asked,
+  arrange-reads.Learnt,
+  last-distance-reads.Asked,
+  last-distance-reads.Learnt,
+  place-reads.Asked,
+  place-reads.Learnt,
+  build-part-below t,
+  build-part.Post,
+) (build-part-at t) build-part.Post
+build-part-add-end t c = omega arith
+
 build-part-slice-copy-out-place : (t : ℕ) → build-part-lts.Need-slice-copy-out-place (
   arrange-reads.Asked,
   arrange-reads.Learnt,
@@ -93,7 +102,6 @@ build-part-slice-copy-out-place : (t : ℕ) → build-part-lts.Need-slice-copy-o
 ) (build-part-at t) build-part.Post
 build-part-slice-copy-out-place t c = omega arith
 
--- src/build.rt:133:28
 build-part-last-distance-requires : (t : ℕ) → build-part-lts.Need-last-distance-requires (
   arrange-reads.Asked,
   arrange-reads.Learnt,
@@ -107,7 +115,6 @@ build-part-last-distance-requires : (t : ℕ) → build-part-lts.Need-last-dista
 build-part-last-distance-requires t c κs =
     omega (arith, c .before .before .before .before .arrange .kept .1 .0, not-zero (length (c .before .before .before .before .before .before .before .before .args .src .now)) (c .before .before .before .before .before .before .before .if1 .left))
 
--- src/build.rt:133:14
 build-part-place-requires : (t : ℕ) → build-part-lts.Need-place-requires (
   arrange-reads.Asked,
   arrange-reads.Learnt,
@@ -120,7 +127,6 @@ build-part-place-requires : (t : ℕ) → build-part-lts.Need-place-requires (
 ) (build-part-at t) build-part.Post
 build-part-place-requires t c κs = search needs
 
--- src/build.rt:133:5
 build-part-slice-set-from-src : (t : ℕ) → build-part-lts.Need-slice-set-from-src (
   arrange-reads.Asked,
   arrange-reads.Learnt,
@@ -133,7 +139,6 @@ build-part-slice-set-from-src : (t : ℕ) → build-part-lts.Need-slice-set-from
 ) (build-part-at t) build-part.Post
 build-part-slice-set-from-src t c = omega arith
 
--- src/build.rt:134:5
 build-part-slice-set-from-src-2 : (t : ℕ) → build-part-lts.Need-slice-set-from-src-2 (
   arrange-reads.Asked,
   arrange-reads.Learnt,
@@ -146,20 +151,6 @@ build-part-slice-set-from-src-2 : (t : ℕ) → build-part-lts.Need-slice-set-fr
 ) (build-part-at t) build-part.Post
 build-part-slice-set-from-src-2 t c = omega arith
 
--- src/build.rt:135:39
-build-part-add-build-part : (t : ℕ) → build-part-lts.Need-add-build-part (
-  arrange-reads.Asked,
-  arrange-reads.Learnt,
-  last-distance-reads.Asked,
-  last-distance-reads.Learnt,
-  place-reads.Asked,
-  place-reads.Learnt,
-  build-part-below t,
-  build-part.Post,
-) (build-part-at t) build-part.Post
-build-part-add-build-part t c = omega arith
-
--- src/build.rt:135:27
 build-part-sub-build-part : (t : ℕ) → build-part-lts.Need-sub-build-part (
   arrange-reads.Asked,
   arrange-reads.Learnt,
@@ -172,7 +163,6 @@ build-part-sub-build-part : (t : ℕ) → build-part-lts.Need-sub-build-part (
 ) (build-part-at t) build-part.Post
 build-part-sub-build-part t c = omega arith
 
--- src/build.rt:135:27
 build-part-part-build-part-start : (t : ℕ) → build-part-lts.Need-part-build-part-start (
   arrange-reads.Asked,
   arrange-reads.Learnt,
@@ -185,7 +175,6 @@ build-part-part-build-part-start : (t : ℕ) → build-part-lts.Need-part-build-
 ) (build-part-at t) build-part.Post
 build-part-part-build-part-start t c = omega arith
 
--- src/build.rt:135:27
 build-part-part-build-part-end : (t : ℕ) → build-part-lts.Need-part-build-part-end (
   arrange-reads.Asked,
   arrange-reads.Learnt,
@@ -202,20 +191,6 @@ build-part-part-build-part-end t c =
     let x = c .place .result in
     omega (arith, length-set (a .last .0) 0 x, length-set (a .last .1 .0) 0 zeros, a .kept .0, a .kept .1 .0, s .pre .1 .0)
 
--- src/build.rt:135:59
-build-part-add-build-part-2 : (t : ℕ) → build-part-lts.Need-add-build-part-2 (
-  arrange-reads.Asked,
-  arrange-reads.Learnt,
-  last-distance-reads.Asked,
-  last-distance-reads.Learnt,
-  place-reads.Asked,
-  place-reads.Learnt,
-  build-part-below t,
-  build-part.Post,
-) (build-part-at t) build-part.Post
-build-part-add-build-part-2 t c = omega arith
-
--- src/build.rt:135:47
 build-part-sub-build-part-2 : (t : ℕ) → build-part-lts.Need-sub-build-part-2 (
   arrange-reads.Asked,
   arrange-reads.Learnt,
@@ -228,7 +203,6 @@ build-part-sub-build-part-2 : (t : ℕ) → build-part-lts.Need-sub-build-part-2
 ) (build-part-at t) build-part.Post
 build-part-sub-build-part-2 t c = omega arith
 
--- src/build.rt:135:47
 build-part-part-build-part-start-2 : (t : ℕ) → build-part-lts.Need-part-build-part-start-2 (
   arrange-reads.Asked,
   arrange-reads.Learnt,
@@ -241,7 +215,6 @@ build-part-part-build-part-start-2 : (t : ℕ) → build-part-lts.Need-part-buil
 ) (build-part-at t) build-part.Post
 build-part-part-build-part-start-2 t c = omega arith
 
--- src/build.rt:135:47
 build-part-part-build-part-end-2 : (t : ℕ) → build-part-lts.Need-part-build-part-end-2 (
   arrange-reads.Asked,
   arrange-reads.Learnt,
@@ -258,7 +231,6 @@ build-part-part-build-part-end-2 t c =
     let x = c .before .place .result in
     omega (arith, length-set (a .last .0) 0 x, length-set (a .last .1 .0) 0 zeros, a .kept .0, a .kept .1 .0, s .pre .1 .0)
 
--- src/build.rt:135:9
 build-part-build-part-requires : (t : ℕ) → build-part-lts.Need-build-part-requires (
   arrange-reads.Asked,
   arrange-reads.Learnt,
@@ -275,20 +247,6 @@ build-part-build-part-requires t c κs =
     let x = c .before .before .place .result in
     left-asks (distance (s .args .metric)) (s .args .src .now) (a .last .1 .0) (not-zero (length (s .args .src .now)) (c .before .before .before .before .before .before .before .before .before .before .before .if1 .left)) (s .pre .1 .1) (s .pre .1 .2) (s .pre .1 .3) (a .ensures .0) (a .last .0) (a .kept .0 ∙ s .pre .1 .0) x zeros t (s .pre .0)
 
--- src/build.rt:136:37
-build-part-add-build-part-3 : (t : ℕ) → build-part-lts.Need-add-build-part-3 (
-  arrange-reads.Asked,
-  arrange-reads.Learnt,
-  last-distance-reads.Asked,
-  last-distance-reads.Learnt,
-  place-reads.Asked,
-  place-reads.Learnt,
-  build-part-below t,
-  build-part.Post,
-) (build-part-at t) build-part.Post
-build-part-add-build-part-3 t c = omega arith
-
--- src/build.rt:136:28
 build-part-mul-build-part : (t : ℕ) → build-part-lts.Need-mul-build-part (
   arrange-reads.Asked,
   arrange-reads.Learnt,
@@ -301,7 +259,6 @@ build-part-mul-build-part : (t : ℕ) → build-part-lts.Need-mul-build-part (
 ) (build-part-at t) build-part.Post
 build-part-mul-build-part t c = omega arith
 
--- src/build.rt:136:28
 build-part-sub-build-part-3 : (t : ℕ) → build-part-lts.Need-sub-build-part-3 (
   arrange-reads.Asked,
   arrange-reads.Learnt,
@@ -319,7 +276,6 @@ build-part-sub-build-part-3 t c =
     let b = c .before .before .build-part in
     omega (arith, target-length (distance (s .args .metric)) (s .args .src .now) (a .last .1 .0) (not-zero (length (s .args .src .now)) (c .before .before .before .before .before .before .before .before .before .before .before .before .before .before .if1 .left)) (s .pre .1 .1) (s .pre .1 .2) (s .pre .1 .3) (a .ensures .0) (a .last .0) (a .kept .0 ∙ s .pre .1 .0) x zeros (b .last .0) (b .last .1 .0) (b .kept .0) (b .kept .1 .0), source-length (distance (s .args .metric)) (s .args .src .now) (a .last .1 .0) (not-zero (length (s .args .src .now)) (c .before .before .before .before .before .before .before .before .before .before .before .before .before .before .if1 .left)) (s .pre .1 .1) (s .pre .1 .2) (s .pre .1 .3) (a .ensures .0) (a .last .0) (a .kept .0 ∙ s .pre .1 .0) x zeros (b .last .0) (b .last .1 .0) (b .kept .0) (b .kept .1 .0))
 
--- src/build.rt:136:28
 build-part-part-build-part-start-3 : (t : ℕ) → build-part-lts.Need-part-build-part-start-3 (
   arrange-reads.Asked,
   arrange-reads.Learnt,
@@ -337,7 +293,6 @@ build-part-part-build-part-start-3 t c =
     let b = c .before .before .build-part in
     omega (arith, target-length (distance (s .args .metric)) (s .args .src .now) (a .last .1 .0) (not-zero (length (s .args .src .now)) (c .before .before .before .before .before .before .before .before .before .before .before .before .before .before .if1 .left)) (s .pre .1 .1) (s .pre .1 .2) (s .pre .1 .3) (a .ensures .0) (a .last .0) (a .kept .0 ∙ s .pre .1 .0) x zeros (b .last .0) (b .last .1 .0) (b .kept .0) (b .kept .1 .0), source-length (distance (s .args .metric)) (s .args .src .now) (a .last .1 .0) (not-zero (length (s .args .src .now)) (c .before .before .before .before .before .before .before .before .before .before .before .before .before .before .if1 .left)) (s .pre .1 .1) (s .pre .1 .2) (s .pre .1 .3) (a .ensures .0) (a .last .0) (a .kept .0 ∙ s .pre .1 .0) x zeros (b .last .0) (b .last .1 .0) (b .kept .0) (b .kept .1 .0))
 
--- src/build.rt:136:28
 build-part-part-build-part-end-3 : (t : ℕ) → build-part-lts.Need-part-build-part-end-3 (
   arrange-reads.Asked,
   arrange-reads.Learnt,
@@ -350,20 +305,6 @@ build-part-part-build-part-end-3 : (t : ℕ) → build-part-lts.Need-part-build-
 ) (build-part-at t) build-part.Post
 build-part-part-build-part-end-3 t c = omega arith
 
--- src/build.rt:136:56
-build-part-add-build-part-4 : (t : ℕ) → build-part-lts.Need-add-build-part-4 (
-  arrange-reads.Asked,
-  arrange-reads.Learnt,
-  last-distance-reads.Asked,
-  last-distance-reads.Learnt,
-  place-reads.Asked,
-  place-reads.Learnt,
-  build-part-below t,
-  build-part.Post,
-) (build-part-at t) build-part.Post
-build-part-add-build-part-4 t c = omega arith
-
--- src/build.rt:136:47
 build-part-mul-build-part-2 : (t : ℕ) → build-part-lts.Need-mul-build-part-2 (
   arrange-reads.Asked,
   arrange-reads.Learnt,
@@ -376,7 +317,6 @@ build-part-mul-build-part-2 : (t : ℕ) → build-part-lts.Need-mul-build-part-2
 ) (build-part-at t) build-part.Post
 build-part-mul-build-part-2 t c = omega arith
 
--- src/build.rt:136:47
 build-part-sub-build-part-4 : (t : ℕ) → build-part-lts.Need-sub-build-part-4 (
   arrange-reads.Asked,
   arrange-reads.Learnt,
@@ -394,7 +334,6 @@ build-part-sub-build-part-4 t c =
     let b = c .before .before .before .build-part in
     omega (arith, target-length (distance (s .args .metric)) (s .args .src .now) (a .last .1 .0) (not-zero (length (s .args .src .now)) (c .before .before .before .before .before .before .before .before .before .before .before .before .before .before .before .if1 .left)) (s .pre .1 .1) (s .pre .1 .2) (s .pre .1 .3) (a .ensures .0) (a .last .0) (a .kept .0 ∙ s .pre .1 .0) x zeros (b .last .0) (b .last .1 .0) (b .kept .0) (b .kept .1 .0), source-length (distance (s .args .metric)) (s .args .src .now) (a .last .1 .0) (not-zero (length (s .args .src .now)) (c .before .before .before .before .before .before .before .before .before .before .before .before .before .before .before .if1 .left)) (s .pre .1 .1) (s .pre .1 .2) (s .pre .1 .3) (a .ensures .0) (a .last .0) (a .kept .0 ∙ s .pre .1 .0) x zeros (b .last .0) (b .last .1 .0) (b .kept .0) (b .kept .1 .0))
 
--- src/build.rt:136:47
 build-part-part-build-part-start-4 : (t : ℕ) → build-part-lts.Need-part-build-part-start-4 (
   arrange-reads.Asked,
   arrange-reads.Learnt,
@@ -412,7 +351,6 @@ build-part-part-build-part-start-4 t c =
     let b = c .before .before .before .build-part in
     omega (arith, target-length (distance (s .args .metric)) (s .args .src .now) (a .last .1 .0) (not-zero (length (s .args .src .now)) (c .before .before .before .before .before .before .before .before .before .before .before .before .before .before .before .if1 .left)) (s .pre .1 .1) (s .pre .1 .2) (s .pre .1 .3) (a .ensures .0) (a .last .0) (a .kept .0 ∙ s .pre .1 .0) x zeros (b .last .0) (b .last .1 .0) (b .kept .0) (b .kept .1 .0), source-length (distance (s .args .metric)) (s .args .src .now) (a .last .1 .0) (not-zero (length (s .args .src .now)) (c .before .before .before .before .before .before .before .before .before .before .before .before .before .before .before .if1 .left)) (s .pre .1 .1) (s .pre .1 .2) (s .pre .1 .3) (a .ensures .0) (a .last .0) (a .kept .0 ∙ s .pre .1 .0) x zeros (b .last .0) (b .last .1 .0) (b .kept .0) (b .kept .1 .0))
 
--- src/build.rt:136:47
 build-part-part-build-part-end-4 : (t : ℕ) → build-part-lts.Need-part-build-part-end-4 (
   arrange-reads.Asked,
   arrange-reads.Learnt,
@@ -425,7 +363,6 @@ build-part-part-build-part-end-4 : (t : ℕ) → build-part-lts.Need-part-build-
 ) (build-part-at t) build-part.Post
 build-part-part-build-part-end-4 t c = omega arith
 
--- src/build.rt:136:9
 build-part-build-part-requires-2 : (t : ℕ) → build-part-lts.Need-build-part-requires-2 (
   arrange-reads.Asked,
   arrange-reads.Learnt,
@@ -443,7 +380,6 @@ build-part-build-part-requires-2 t c κs =
     let b = c .before .before .before .before .build-part in
     right-asks (distance (s .args .metric)) (s .args .src .now) (a .last .1 .0) (not-zero (length (s .args .src .now)) (c .before .before .before .before .before .before .before .before .before .before .before .before .before .before .before .before .if1 .left)) (s .pre .1 .1) (s .pre .1 .2) (s .pre .1 .3) (a .ensures .0) (a .last .0) (a .kept .0 ∙ s .pre .1 .0) x zeros (b .last .0) (b .last .1 .0) (b .kept .0) (b .kept .1 .0) t (s .pre .0)
 
--- src/build.rt:137:5
 build-part-add-result : (t : ℕ) → build-part-lts.Need-add-result (
   arrange-reads.Asked,
   arrange-reads.Learnt,
@@ -462,7 +398,6 @@ build-part-add-result t c =
     let d = c .before .before .build-part2 in
     omega (arith, part-count (distance (s .args .metric)) (s .args .src .now) (a .last .1 .0) (not-zero (length (s .args .src .now)) (c .before .before .before .before .before .before .before .before .before .before .before .before .before .before .before .before .before .before .before .if1 .left)) (s .pre .1 .1) (s .pre .1 .2) (s .pre .1 .3) (a .ensures .0) (a .last .0) (a .kept .0 ∙ s .pre .1 .0) x zeros (b .last .0) (b .last .1 .0) (b .kept .0) (b .kept .1 .0) (a .result) (b .result) (d .result) (a .ensures .1) (b .ensures .1 .1) (d .ensures .1 .1), cost-bound 32 (length (s .args .src .now)) (s .pre .1 .1))
 
--- src/build.rt:137:5
 build-part-add-result-2 : (t : ℕ) → build-part-lts.Need-add-result-2 (
   arrange-reads.Asked,
   arrange-reads.Learnt,
@@ -481,7 +416,6 @@ build-part-add-result-2 t c =
     let d = c .before .before .build-part2 in
     omega (arith, part-count (distance (s .args .metric)) (s .args .src .now) (a .last .1 .0) (not-zero (length (s .args .src .now)) (c .before .before .before .before .before .before .before .before .before .before .before .before .before .before .before .before .before .before .before .if1 .left)) (s .pre .1 .1) (s .pre .1 .2) (s .pre .1 .3) (a .ensures .0) (a .last .0) (a .kept .0 ∙ s .pre .1 .0) x zeros (b .last .0) (b .last .1 .0) (b .kept .0) (b .kept .1 .0) (a .result) (b .result) (d .result) (a .ensures .1) (b .ensures .1 .1) (d .ensures .1 .1), cost-bound 32 (length (s .args .src .now)) (s .pre .1 .1))
 
--- src/build.rt:121:1
 build-part-same-length : (t : ℕ) → build-part-lts.Need-same-length (
   arrange-reads.Asked,
   arrange-reads.Learnt,
@@ -500,7 +434,6 @@ build-part-same-length t c =
     let d = c .before .before .build-part2 in
     target-back-length (distance (s .args .metric)) (s .args .src .now) (a .last .1 .0) (not-zero (length (s .args .src .now)) (c .before .before .before .before .before .before .before .before .before .before .before .before .before .before .before .before .before .before .before .if1 .left)) (s .pre .1 .1) (s .pre .1 .2) (s .pre .1 .3) (a .ensures .0) (a .last .0) (a .kept .0 ∙ s .pre .1 .0) x zeros (b .last .0) (b .last .1 .0) (b .kept .0) (b .kept .1 .0) (d .last .0) (d .kept .0) ∙ a .kept .0
 
--- src/build.rt:121:1
 build-part-same-length-2 : (t : ℕ) → build-part-lts.Need-same-length-2 (
   arrange-reads.Asked,
   arrange-reads.Learnt,
@@ -519,7 +452,6 @@ build-part-same-length-2 t c =
     let d = c .before .before .build-part2 in
     source-back-length (distance (s .args .metric)) (s .args .src .now) (a .last .1 .0) (not-zero (length (s .args .src .now)) (c .before .before .before .before .before .before .before .before .before .before .before .before .before .before .before .before .before .before .before .if1 .left)) (s .pre .1 .1) (s .pre .1 .2) (s .pre .1 .3) (a .ensures .0) (a .last .0) (a .kept .0 ∙ s .pre .1 .0) x zeros (b .last .0) (b .last .1 .0) (b .kept .0) (b .kept .1 .0) (d .last .1 .0) (d .kept .1 .0)
 
--- src/build.rt:121:1
 build-part-returns-2 : (t : ℕ) → build-part-lts.Need-returns-2 (
   arrange-reads.Asked,
   arrange-reads.Learnt,
@@ -562,26 +494,23 @@ pub +build-part-spec : {M : Type 1} → statement M
     build-part.Post
     (build-part-returns t)
     (build-part-arrange-requires t)
+    (build-part-add-end t)
     (build-part-slice-copy-out-place t)
     (build-part-last-distance-requires t)
     (build-part-place-requires t)
     (build-part-slice-set-from-src t)
     (build-part-slice-set-from-src-2 t)
-    (build-part-add-build-part t)
     (build-part-sub-build-part t)
     (build-part-part-build-part-start t)
     (build-part-part-build-part-end t)
-    (build-part-add-build-part-2 t)
     (build-part-sub-build-part-2 t)
     (build-part-part-build-part-start-2 t)
     (build-part-part-build-part-end-2 t)
     (build-part-build-part-requires t)
-    (build-part-add-build-part-3 t)
     (build-part-mul-build-part t)
     (build-part-sub-build-part-3 t)
     (build-part-part-build-part-start-3 t)
     (build-part-part-build-part-end-3 t)
-    (build-part-add-build-part-4 t)
     (build-part-mul-build-part-2 t)
     (build-part-sub-build-part-4 t)
     (build-part-part-build-part-start-4 t)
