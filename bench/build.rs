@@ -4,6 +4,8 @@ use std::time::Instant;
 
 type Row = [u32; 12];
 
+// A slice is handed over as its pointer and its length, which is how Rust passes it here too.
+#[allow(improper_ctypes)]
 extern "C" {
     fn bench_tree_build(dst: &mut [Row], src: &mut [Row], metric: u32) -> u64;
 }

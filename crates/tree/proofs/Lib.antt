@@ -6,6 +6,7 @@ pub mod Placed
 pub mod Layouts
 pub mod LastKey
 mod Merging
+mod Inserting
 mod Parts
 mod Arranging
 mod Halving
