@@ -12,7 +12,6 @@ use borrow.Author.Tests.{leb-true, leb-false}
 use Rattle.metric.specs.declared.Profile.{Profile}
 use Rattle.metric.specs.Row.{Row, rowWidth, zeroRow}
 use Rattle.tree.specs.Layout.{leftSize, cost, placed, layoutWithin}
-use Rattle.tree.specs.Guided.{All}
 use Rattle.tree.specs.Working.{rankedOf, Whole, RanksApart, arranged, lastMeasured}
 use Rattle.tree.proofs.Lists.{Pairs, all-take, all-drop, pairs-take, pairs-drop}
 use Rattle.tree.proofs.Cost.{cost-few, cost-halves}

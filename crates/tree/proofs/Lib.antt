@@ -1,3 +1,4 @@
+-- The laws of this crate's definitions, for its own proofs and for the crates above.
 pub mod Lists
 pub mod Tests
 pub mod Sorting

@@ -2,9 +2,9 @@
 -- The measure is the number of rows. Assumes nothing.
 use borrow.Author.Needs.{needs}
 use native.Mathlib.Omega.{arith}
-use mathlib.Core.Path.{_≡_, refl, sym, _∙_, ap, ap₂, subst}
-use mathlib.Core.List.{List, [], _∷_, _++_, map}
-use lib.ListN.{length, take, drop, getD, set, replicate, length-set}
+use mathlib.Core.Path.{_≡_, refl, sym, _∙_, ap}
+use mathlib.Core.List.{List, [], _∷_, map}
+use lib.ListN.{length, take, drop, getD, replicate, length-set}
 use Rattle.metric.specs.declared.Profile.{Profile}
 use Rattle.metric.specs.Row.{Row, zeroRow}
 use Rattle.metric.specs.Distance.{distance}
@@ -12,7 +12,7 @@ use Rattle.tree.specs.Layout.{cost, placed, layoutWithin}
 use Rattle.tree.specs.Working.{rankedOf, lastMeasured}
 use Rattle.tree.proofs.Cost.{cost-few, cost-bound}
 use Rattle.tree.proofs.Halving.{left-asks, right-asks, target-length, source-length, part-laid, target-back-length, source-back-length, part-count, part-cleared}
-use Prim.Native.Nat.{ℕ, zero, suc, _+_, _-_, _/_, _<_, _≤_}
+use Prim.Native.Nat.{ℕ, _/_, _<_, _≤_}
 use borrow.Fn.Kinds.{In}
 use borrow.Fn.PlainCycle.{Measures, is, falls, and}
 use Rattle.tree.proofs.building.build_part.Reads as build-part

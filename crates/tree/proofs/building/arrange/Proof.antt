@@ -1,18 +1,17 @@
 -- `tree::building::arrange` meets its contract: what stands behind the first row is measured from it, copied to the destination and sorted, and the
 -- row brought to the front is the least. Assumes nothing.
 use native.Mathlib.Omega.{arith}
-use mathlib.Core.Path.{_≡_, refl, sym, _∙_, ap, ap₂, subst}
+use mathlib.Core.Path.{_≡_, sym, _∙_, ap, ap₂}
 use mathlib.Core.Bool.{true}
 use mathlib.Core.List.{List, [], _∷_, _++_, map, List·Permᴰ, Permᴰ·symm}
-use Prim.Native.Nat.{ℕ, suc, _-_, _≤_, _<_}
+use Prim.Native.Nat.{ℕ, _-_, _≤_, _<_}
 use lib.Seq.{getD-take}
-use lib.ListN.{length, take, drop, getD, length-set, length-take, length-drop, length-append}
+use lib.ListN.{length, take, drop, getD, length-set, length-take, length-drop}
 use borrow.Rule.Slice.PartMut.{putMid}
 use Rattle.metric.specs.Row.{Row}
 use Rattle.metric.specs.Distance.{distance}
 use Rattle.metric.specs.Lists.{every}
 use Rattle.tree.specs.Sorting.{keyLe, sortBy}
-use Rattle.tree.specs.Guided.{All}
 use Rattle.tree.specs.Working.{workKey, firstKey, RanksApart, measuredFrom, sortedFrom, arranged}
 use Rattle.tree.proofs.Lists.{all-perm}
 use Rattle.tree.proofs.Tests.{every-all}
@@ -22,12 +21,6 @@ use Rattle.tree.proofs.Arranging.{brought, brought-perm, brought-first,
 use borrow.Author.Needs.{needs}
 use Rattle.tree.proofs.building.arrange.Statement.{statement}
 use Rattle.tree.proofs.building.arrange.Tie as tie
-use Rattle.tree.proofs.building.arrange.Reads as reads
-use Rattle.tree.proofs.building.arrange.Lts as lts
-use Rattle.tree.proofs.building.bring_first.Reads as bring-first-reads
-use Rattle.tree.proofs.building.first_at.Reads as first-at-reads
-use Rattle.tree.proofs.building.measure.Reads as measure-reads
-use Rattle.tree.proofs.ordering.sort.Reads as sort-reads
 
 -- a slice whose rest was lent and given back as `new`: what is lent of it next is `new`
 again : (whole new : List Row) → 1 ≤ length whole

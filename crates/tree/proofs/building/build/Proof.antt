@@ -11,7 +11,7 @@ use Rattle.metric.specs.Distance.{distance}
 use Rattle.tree.specs.Layout.{cost, layoutWithin}
 use Rattle.tree.specs.Working.{rankedOf, ranksWritten, Whole, RanksApart}
 use Rattle.tree.proofs.Halving.{layout-within}
-use Rattle.tree.proofs.Arranging.{ranks-length, ranks-written-whole, ranks-written-apart, layout-ranks}
+use Rattle.tree.proofs.Arranging.{ranks-written-whole, ranks-written-apart, layout-ranks}
 use Rattle.tree.proofs.building.build.Statement.{statement}
 use Rattle.tree.proofs.building.build.Tie as tie
 

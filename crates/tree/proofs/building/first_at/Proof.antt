@@ -2,29 +2,22 @@ use borrow.Author.Needs.{needs}
 use borrow.Author.Tests.{not-true, not-false}
 use native.Mathlib.Omega.{arith}
 use native.Mathlib.Numerals.{add-one}
-use mathlib.Core.Path.{_≡_, refl, sym, _∙_, ap, ap₂, subst}
+use mathlib.Core.Path.{_≡_, sym, _∙_, ap, subst}
 use mathlib.Core.Logic.{⊎-elim}
 use mathlib.Core.Bool.{true, false}
-use mathlib.Core.List.{List, [], _∷_, _++_, map}
-use Prim.Native.Nat.{ℕ, zero, suc, _+_, _-_, _≤_, _<_}
+use mathlib.Core.List.{List, [], _∷_}
+use Prim.Native.Nat.{ℕ, _+_, _-_, _≤_, _<_}
 use lib.Seq.{take-suc, take-all}
-use lib.ListN.{length, length-map, take, drop, getD, set, length-set}
-use Rattle.metric.specs.Row.{Row, withMark, withThreshold}
-use Rattle.metric.specs.Distance.{distance}
-use Rattle.metric.specs.Lists.{every}
+use lib.ListN.{length, take, getD}
+use Rattle.metric.specs.Row.{Row}
 use Rattle.tree.specs.Sorting.{keyLe}
-use Rattle.tree.specs.Guided.{All, fromSlot}
-use Rattle.tree.specs.Working.{firstKey, ranksWritten, measuredFrom}
+use Rattle.tree.specs.Guided.{All}
+use Rattle.tree.specs.Working.{firstKey}
 use Rattle.tree.proofs.Sorting.{key-le-refl, key-le-trans, key-le-flip}
 use Rattle.tree.proofs.Lists.{all-append, all-weaken}
 use Rattle.tree.proofs.Tests.{all-every}
-use Rattle.tree.proofs.Parts.{writtenTo, written-length, written-at, written-next, written-all, getD-mapped}
-use Rattle.tree.proofs.Arranging.{ranks-length, ranks-at}
 use Rattle.tree.proofs.building.first_at.Statement.{statement}
 use Rattle.tree.proofs.building.first_at.Tie as tie
-use Rattle.tree.proofs.building.first_at.Reads as reads
-use Rattle.tree.proofs.building.first_at.Lts as lts
-use Rattle.tree.proofs.ordering.no_later.Reads as no-later-reads
 
 -- of the first i rows none comes before the row at `at`
 abbrev Least : List Row → ℕ → ℕ → Type 0

@@ -1,6 +1,6 @@
 -- `tree::building::last_distance` meets its contract: the last of l rows behind the first is row l.
 -- Assumes nothing.
-use mathlib.Core.Path.{_≡_, sym, ap}
+use mathlib.Core.Path.{sym, ap}
 use Prim.Native.Nat.{ℕ}
 use lib.ListN.{take, drop}
 use Rattle.metric.specs.Row.{thresholdOf}
@@ -9,8 +9,6 @@ use Rattle.tree.proofs.Arranging.{last-row}
 use borrow.Author.Needs.{needs}
 use Rattle.tree.proofs.building.last_distance.Statement.{statement}
 use Rattle.tree.proofs.building.last_distance.Tie as tie
-use Rattle.tree.proofs.building.last_distance.Reads as reads
-use Rattle.tree.proofs.building.last_distance.Lts as lts
 
 -- src/build.rt:100:28
 mul-result : tie.Need-mul-result

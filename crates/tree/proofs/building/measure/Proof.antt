@@ -1,28 +1,17 @@
 use borrow.Author.Needs.{needs}
 use native.Mathlib.Omega.{arith}
 use native.Mathlib.Numerals.{add-one}
-use mathlib.Core.Path.{_≡_, refl, sym, _∙_, ap, ap₂, subst}
-use mathlib.Core.Logic.{⊎-elim}
-use mathlib.Core.Bool.{true, false}
-use mathlib.Core.List.{List, [], _∷_, _++_, map}
-use Prim.Native.Nat.{ℕ, zero, suc, _+_, _-_, _≤_, _<_}
-use lib.ListN.{length, length-map, take, drop, getD, set, length-set}
+use mathlib.Core.Path.{_≡_, refl, sym, _∙_, ap, ap₂}
+use mathlib.Core.List.{List, [], map}
+use Prim.Native.Nat.{ℕ, _+_, _-_, _≤_, _<_}
+use lib.ListN.{length, length-map, getD, set, length-set}
 use Rattle.metric.specs.Row.{Row, profileOf}
 use Rattle.metric.specs.Distance.{distance}
-use Rattle.metric.specs.Lists.{every}
-use Rattle.tree.specs.Sorting.{keyLe}
-use Rattle.tree.specs.Guided.{All, fromSlot}
-use Rattle.tree.specs.Working.{firstKey, ranksWritten, measuredFrom}
-use Rattle.tree.proofs.Sorting.{key-le-refl, key-le-trans, key-le-flip}
-use Rattle.tree.proofs.Lists.{all-append, all-weaken}
-use Rattle.tree.proofs.Tests.{all-every}
-use Rattle.tree.proofs.Parts.{writtenTo, written-length, written-at, written-next, written-all, getD-mapped}
-use Rattle.tree.proofs.Arranging.{ranks-length, ranks-at}
+use Rattle.tree.specs.Guided.{fromSlot}
+use Rattle.tree.specs.Working.{measuredFrom}
+use Rattle.tree.proofs.Parts.{writtenTo, written-at, written-next, written-all, getD-mapped}
 use Rattle.tree.proofs.building.measure.Statement.{statement}
 use Rattle.tree.proofs.building.measure.Tie as tie
-use Rattle.tree.proofs.building.measure.Reads as reads
-use Rattle.tree.proofs.building.measure.Lts as lts
-use Rattle.metric.proofs.distance_between.Reads as distance-between-reads
 
 module _ (metric : ℕ) (v : Row) (old : List Row) where
   new : List Row

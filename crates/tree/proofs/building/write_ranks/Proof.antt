@@ -2,29 +2,18 @@ use borrow.Author.Needs.{needs}
 use native.Mathlib.Omega.{arith}
 use native.Mathlib.Nat.{zero-add}
 use native.Mathlib.Numerals.{add-one}
-use mathlib.Core.Path.{_≡_, refl, sym, _∙_, ap, ap₂, subst}
-use mathlib.Core.Logic.{⊎-elim}
-use mathlib.Core.Bool.{true, false}
-use mathlib.Core.List.{List, [], _∷_, _++_, map}
-use Prim.Native.Nat.{ℕ, zero, suc, _+_, _-_, _≤_, _<_}
+use mathlib.Core.Path.{_≡_, refl, sym, _∙_, ap, subst}
+use mathlib.Core.List.{List, [], _∷_}
+use Prim.Native.Nat.{ℕ, _+_, _-_, _≤_, _<_}
 use lib.Seq.{take-suc, take-all}
-use lib.ListN.{length, length-map, take, drop, getD, set, length-set}
+use lib.ListN.{length, take, getD, set, length-set}
 use Rattle.metric.specs.Row.{Row, rowWidth, withMark}
-use Rattle.metric.specs.Distance.{distance}
-use Rattle.metric.specs.Lists.{every}
-use Rattle.tree.specs.Sorting.{keyLe}
-use Rattle.tree.specs.Guided.{All, fromSlot}
 use Rattle.tree.specs.Working.{ranksWritten, Whole}
-use Rattle.tree.proofs.Sorting.{key-le-refl, key-le-trans, key-le-flip}
-use Rattle.tree.proofs.Lists.{all-append, all-weaken}
-use Rattle.tree.proofs.Tests.{all-every}
-use Rattle.tree.proofs.Parts.{writtenTo, written-length, written-at, written-next, written-all, getD-mapped}
+use Rattle.tree.proofs.Lists.{all-append}
+use Rattle.tree.proofs.Parts.{writtenTo, written-at, written-next, written-all}
 use Rattle.tree.proofs.Arranging.{ranks-length, ranks-at}
 use Rattle.tree.proofs.building.write_ranks.Statement.{statement}
 use Rattle.tree.proofs.building.write_ranks.Tie as tie
-use Rattle.tree.proofs.building.write_ranks.Reads as reads
-use Rattle.tree.proofs.building.write_ranks.Lts as lts
-use Rattle.tree.proofs.building.with_rank.Reads as with-rank-reads
 
 -- row i is written with rank i
 rank-step :

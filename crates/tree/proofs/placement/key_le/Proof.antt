@@ -6,8 +6,6 @@ use Rattle.tree.specs.InPlace.{keyNumbers}
 use Rattle.tree.proofs.Sorting.{key-le-differ, key-le-tied, key-le-last}
 use Rattle.tree.proofs.placement.key_le.Statement.{statement}
 use Rattle.tree.proofs.placement.key_le.Tie as tie
-use Rattle.tree.proofs.placement.key_le.Reads as reads
-use Rattle.tree.proofs.placement.key_le.Lts as lts
 
 returns : tie.Need-returns
 unfolding keyNumbers

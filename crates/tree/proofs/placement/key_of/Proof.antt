@@ -7,10 +7,6 @@ use Rattle.tree.specs.InPlace.{keyNumbers, slotKey}
 use borrow.Author.Needs.{needs}
 use Rattle.tree.proofs.placement.key_of.Statement.{statement}
 use Rattle.tree.proofs.placement.key_of.Tie as tie
-use Rattle.tree.proofs.placement.key_of.Reads as reads
-use Rattle.tree.proofs.placement.key_of.Lts as lts
-use Rattle.metric.proofs.distance_between.Reads as distance-between-reads
-use Rattle.metric.proofs.tag_of.Reads as tag-of-reads
 
 distance-between-requires : tie.Need-distance-between-requires
 distance-between-requires c κs = search needs

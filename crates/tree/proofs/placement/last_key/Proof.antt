@@ -1,29 +1,22 @@
 -- `tree::placement::last_key` meets its contract. The loop's invariant: the last key of what is left, from the one found so far, is the last of all.
 -- Assumes nothing.
 use borrow.Author.Needs.{needs}
-use borrow.Author.Tests.{le-leb, lt-leb, not-true, not-false}
 use native.Mathlib.Omega.{arith}
 use native.Mathlib.Numerals.{add-one}
 use mathlib.Core.Logic.{⊎-elim}
 use mathlib.Core.Path.{_≡_, refl, sym, _∙_, ap, ap₂}
-use mathlib.Core.Bool.{true, false}
-use mathlib.Core.List.{List, [], _∷_, foldl}
+use mathlib.Core.List.{List, [], foldl}
 use Prim.Native.Nat.{ℕ, _+_, _-_, _≤_, _<_}
-use lib.Dec.{leb}
 use lib.ListN.{length, drop, getD, drop-of-length-le}
 use lib.Seq.{drop-cons}
 use Rattle.metric.specs.declared.Profile.{Profile}
-use Rattle.metric.specs.Row.{Row, tagOf}
+use Rattle.metric.specs.Row.{Row}
 use Rattle.metric.specs.Distance.{distance}
 use Rattle.tree.specs.Sorting.{keyLe}
 use Rattle.tree.specs.InPlace.{later, keyNumbers, slotKey, lastKey}
 use Rattle.tree.proofs.LastKey.{later-known, later-kept}
 use Rattle.tree.proofs.placement.last_key.Statement.{statement}
 use Rattle.tree.proofs.placement.last_key.Tie as tie
-use Rattle.tree.proofs.placement.last_key.Reads as reads
-use Rattle.tree.proofs.placement.last_key.Lts as lts
-use Rattle.tree.proofs.placement.key_le.Reads as key-le-reads
-use Rattle.tree.proofs.placement.key_of.Reads as key-of-reads
 
 -- one slot more: the later of the key so far and the slot's own
 key-step :

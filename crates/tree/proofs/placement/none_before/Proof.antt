@@ -1,26 +1,21 @@
 -- `tree::placement::none_before` meets its contract. The loop's invariant: what is left decides.
 -- Assumes nothing.
 use borrow.Author.Needs.{needs}
-use borrow.Author.Tests.{le-leb, lt-leb, not-true, not-false}
+use borrow.Author.Tests.{not-true, not-false}
 use native.Mathlib.Omega.{arith}
-use mathlib.Core.Path.{_≡_, refl, sym, _∙_, ap, ap₂}
+use mathlib.Core.Path.{_≡_, refl, sym, _∙_, ap}
 use mathlib.Core.Bool.{true, false}
-use mathlib.Core.List.{List, [], _∷_}
-use Prim.Native.Nat.{ℕ, _-_, _≤_}
-use lib.Dec.{leb}
+use mathlib.Core.List.{[]}
+use Prim.Native.Nat.{_-_, _≤_}
 use lib.ListN.{length, drop, getD}
 use Rattle.metric.specs.Lists.{every}
-use Rattle.metric.specs.Row.{Row, tagOf}
+use Rattle.metric.specs.Row.{Row}
 use Rattle.metric.specs.Distance.{distance}
 use Rattle.tree.specs.Sorting.{keyLe}
 use Rattle.tree.specs.InPlace.{keyNumbers, slotKey}
 use Rattle.tree.proofs.Tests.{scan-fails, scan-passes, scan-ends}
 use Rattle.tree.proofs.placement.none_before.Statement.{statement}
 use Rattle.tree.proofs.placement.none_before.Tie as tie
-use Rattle.tree.proofs.placement.none_before.Reads as reads
-use Rattle.tree.proofs.placement.none_before.Lts as lts
-use Rattle.tree.proofs.placement.key_le.Reads as key-le-reads
-use Rattle.tree.proofs.placement.key_of.Reads as key-of-reads
 
 abbrev Inv-loop : tie.InvT-loop
 Inv-loop slots v key metric i₀ i =

@@ -1,25 +1,18 @@
 -- `tree::placement::none_less` meets its contract. The loop's invariant: what is left decides.
 -- Assumes nothing.
 use borrow.Author.Needs.{needs}
-use borrow.Author.Tests.{le-leb, lt-leb, not-true, not-false}
+use borrow.Author.Tests.{le-leb, lt-leb}
 use native.Mathlib.Omega.{arith}
-use mathlib.Core.Path.{_≡_, refl, sym, _∙_, ap, ap₂}
-use mathlib.Core.Bool.{true, false}
-use mathlib.Core.List.{List, [], _∷_}
-use Prim.Native.Nat.{ℕ, _-_, _≤_}
+use mathlib.Core.Path.{_≡_, refl}
+use mathlib.Core.List.{[]}
+use Prim.Native.Nat.{_-_, _≤_}
 use lib.Dec.{leb}
 use lib.ListN.{length, drop, getD}
 use Rattle.metric.specs.Lists.{every}
 use Rattle.metric.specs.Row.{Row, tagOf}
-use Rattle.metric.specs.Distance.{distance}
-use Rattle.tree.specs.Sorting.{keyLe}
-use Rattle.tree.specs.InPlace.{keyNumbers, slotKey}
 use Rattle.tree.proofs.Tests.{scan-fails, scan-passes, scan-ends}
 use Rattle.tree.proofs.placement.none_less.Statement.{statement}
 use Rattle.tree.proofs.placement.none_less.Tie as tie
-use Rattle.tree.proofs.placement.none_less.Reads as reads
-use Rattle.tree.proofs.placement.none_less.Lts as lts
-use Rattle.metric.proofs.tag_of.Reads as tag-of-reads
 
 abbrev Inv-loop : tie.InvT-loop
 Inv-loop slots tag i₀ i = (i ≤ length slots) × (every (λ x. leb tag (tagOf x)) (drop i slots) ≡ every (λ x. leb tag (tagOf x)) slots)

@@ -2,9 +2,9 @@
 -- Assumes nothing.
 use borrow.Author.Tests.{not-true, not-false}
 use native.Mathlib.Omega.{arith}
-use mathlib.Core.Path.{_≡_, refl, sym, _∙_, ap, ap₂}
+use mathlib.Core.Path.{_≡_, sym, _∙_, ap, ap₂}
 use mathlib.Core.Bool.{Bool, true, false, _&&_}
-use mathlib.Core.List.{List, [], _∷_}
+use mathlib.Core.List.{List, []}
 use Prim.Native.Nat.{ℕ, suc, _+_, _-_, _/_, _≤_}
 use lib.Dec.{leb, eqb}
 use lib.ListN.{length, take, drop, getD, length-drop}
@@ -19,12 +19,6 @@ use Rattle.tree.proofs.Parts.{part-rest, left-lent, right-lent}
 use borrow.Author.Needs.{needs}
 use Rattle.tree.proofs.placement.slot_in_place.Statement.{statement}
 use Rattle.tree.proofs.placement.slot_in_place.Tie as tie
-use Rattle.tree.proofs.placement.slot_in_place.Reads as reads
-use Rattle.tree.proofs.placement.slot_in_place.Lts as lts
-use Rattle.metric.proofs.tag_of.Reads as tag-of-reads
-use Rattle.tree.proofs.placement.last_key.Reads as last-key-reads
-use Rattle.tree.proofs.placement.none_before.Reads as none-before-reads
-use Rattle.tree.proofs.placement.none_less.Reads as none-less-reads
 
 module _ (metric : ℕ) (slots : List Row) (full : 1 ≤ length slots) where
   first : Row
