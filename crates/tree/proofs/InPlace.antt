@@ -1,14 +1,13 @@
 -- The test of slots where they lie, node by node: every layout passes it, what passes it guides a search, and slots with distinct tags that
 -- pass it are their own layout, since sorting the rest sorts each half by itself. Marks play no part. Assumes nothing.
-use Prim.Native.Nat.{ℕ, zero, suc, _+_, _-_, _≤_, _<_}
+use Prim.Native.Nat.{ℕ, zero, suc, _+_, _-_, _≤_}
 use native.Mathlib.Omega.{arith}
 use mathlib.Core.Path.{_≡_, refl, sym, _∙_, ap, ap₂, subst}
 use mathlib.Core.Logic.{⊎-elim}
-use mathlib.Core.Bool.{Bool, true, false, _&&_, false≢true}
-use mathlib.Core.List.{List, [], _∷_, _++_, map, foldl, map-append, map-map, List·Permᴰ, List·Permᴰ·trans, Permᴰ·symm}
+use mathlib.Core.Bool.{Bool, true, _&&_}
+use mathlib.Core.List.{List, [], _∷_, _++_, map, foldl, map-append, map-map, Permᴰ·symm}
 use lib.Dec.{leb, eqb}
-use lib.ListN.{length, length-map, getD, take, drop, length-take, length-drop, length-append, take-append-drop}
-use lib.Seq.{take-at, drop-at}
+use lib.ListN.{length, length-map, getD, take, drop, length-take, length-drop, take-append-drop}
 use borrow.Author.Tests.{leb-true, le-leb, eqb-true, eq-eqb}
 use Rattle.metric.specs.declared.Profile.{Profile}
 use Rattle.metric.specs.Lists.{every}
@@ -17,10 +16,10 @@ use Rattle.metric.proofs.Codec.{tag-with-mark, profile-with-mark, threshold-wit
 use Rattle.tree.specs.Sorting.{keyLe, sortBy}
 use Rattle.tree.specs.Layout.{leftSize, Ranked, rankedFrom, tagKey, placed, fromPivot, nearKey, lastDistance, split, layout, isLayout}
 use Rattle.tree.specs.Guided.{All, fromSlot, GuidedWithin, Guided}
-use Rattle.tree.specs.InPlace.{later, slotKey, lastKey, slotInPlace, inPlaceWithin, inPlace}
-use Rattle.tree.proofs.Lists.{Pairs, all-weaken, all-always, all-both, all-append, all-append-left, all-append-right, all-perm, all-map, all-of-map, all-swap, pairs-split, pairs-take, pairs-drop, pairs-across, pairs-weaken, pairs-map, pairs-left, pairs-right, pairs-of-map, pairs-perm, map-take, map-drop, map-alike, perm-map}
+use Rattle.tree.specs.InPlace.{slotKey, lastKey, slotInPlace, inPlaceWithin, inPlace}
+use Rattle.tree.proofs.Lists.{Pairs, all-weaken, all-always, all-both, all-append, all-append-left, all-append-right, all-perm, all-map, all-of-map, all-swap, pairs-split, pairs-take, pairs-drop, pairs-weaken, pairs-map, pairs-left, pairs-right, pairs-of-map, pairs-perm, map-take, map-drop, map-alike, perm-map}
 use Rattle.tree.proofs.Tests.{and-first, and-second, and-pass, pass-alike, every-all, all-every, every-map, same-rows, rows-same}
-use Rattle.tree.proofs.Sorting.{NotAfter, Sorted, Told, key-le-refl, key-le-cases, key-le-less, key-le-same, key-le-trans, key-le-first, sort-perm, sort-length, sort-sorted, sort-append}
+use Rattle.tree.proofs.Sorting.{apart-less, NotAfter, Sorted, Told, key-le-refl, key-le-cases, key-le-less, key-le-same, key-le-trans, key-le-first, sort-perm, sort-length, sort-sorted, sort-append}
 use Rattle.tree.proofs.Placed.{tag-placed, profile-placed, threshold-placed, placed-own}
 use Rattle.tree.proofs.LastKey.{lastOf, later-known, last-perm, last-upper, last-least, least-key, last-key-of}
 use Rattle.tree.proofs.Layouts.{left-fits, take-left, drop-left, split-halves, ranked-length, layout-none, layoutOf, layout-by-nodes, layout-of-length, layout-of-permutes, layout-of-all, layout-reordered, layout-pivot, layout-ranked, layout-permutes, told-by-tag}
@@ -40,9 +39,6 @@ ranked-apart : (n : ℕ) (rows : List Row) → Pairs (λ r s. tagOf r ≡ tagOf 
 unfolding slotOf
 ranked-apart n rows t =
     pairs-of-map slotOf (λ r s. tagOf r ≡ tagOf s → ⊥) (rankedFrom n rows) (subst (Pairs (λ r s. tagOf r ≡ tagOf s → ⊥)) (sym (ranked-slots n rows)) t)
-
-apart-less : (m n : ℕ) → m ≤ n → (m ≡ n → ⊥) → m < n
-apart-less m n h f = omega arith
 
 module _ (dist : Profile → Profile → ℕ) where
   -- what the three tests of a slot v with its halves show

@@ -1,7 +1,7 @@
 -- Lists: what holds of all elements (`All`), of every element and each that stands after it (`Pairs`), and what a permutation keeps.
 -- A relation that reads the same both ways holds of the pairs of a permuted list too. Assumes nothing.
-use Prim.Native.Nat.{ℕ, zero, suc, _+_}
-use mathlib.Core.Path.{_≡_, refl, sym, _∙_, ap, ap₂, subst}
+use Prim.Native.Nat.{ℕ, zero, suc}
+use mathlib.Core.Path.{_≡_, refl, _∙_, ap, ap₂, subst}
 use mathlib.Core.List.{List, [], _∷_, _++_, map, List·Permᴰ, List·Permᴰ·nil, List·Permᴰ·cons, List·Permᴰ·swap, List·Permᴰ·trans, Permᴰ·refl, Permᴰ·append-left, Permᴰ·append-right}
 use lib.ListN.{length, take, drop}
 use Rattle.tree.specs.Guided.{All}

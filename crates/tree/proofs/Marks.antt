@@ -2,18 +2,18 @@
 -- Lists are compared with every mark cleared; profiles, tags and thresholds are read past the mark. Assumes nothing.
 use Prim.Native.Nat.{ℕ, zero, suc, _≤_}
 use mathlib.Core.Path.{_≡_, refl, sym, _∙_, ap, ap₂, subst}
-use mathlib.Core.List.{List, [], _∷_, map, map-map}
+use mathlib.Core.List.{List, [], _∷_, map}
 use lib.ListN.{length, length-map, getD, set, take, drop}
 use lib.Seq.{map-set-same, set-set}
 use Rattle.metric.specs.declared.Profile.{Profile}
 use Rattle.metric.specs.Lists.{alike, sameNumbers}
-use Rattle.metric.specs.Row.{Row, tagOf, profileOf, thresholdOf, withMark, markAt}
+use Rattle.metric.specs.Row.{Row, thresholdOf, withMark, markAt}
 use Rattle.metric.proofs.Codec.{profile-with-mark, threshold-with-mark}
-use Rattle.tree.specs.Layout.{leftSize, Ranked, rankedFrom, placed, layout, isLayout}
+use Rattle.tree.specs.Layout.{leftSize, Ranked, rankedFrom, layout, isLayout}
 use Rattle.tree.specs.Guided.{All, fromSlot, GuidedWithin, Guided}
 use Rattle.tree.proofs.Lists.{all-weaken, all-map, all-of-map, map-take, map-drop}
 use Rattle.tree.proofs.Placed.{placed-with-mark}
-use Rattle.tree.proofs.Layouts.{stripped, layoutOf, layout-ranked, layout-stripped}
+use Rattle.tree.proofs.Layouts.{stripped, layout-ranked, layout-stripped}
 
 -- a slot marked anew is the same, marks aside
 pub mark-aside : (slots : List Row) (i n : ℕ) (other : Row) → map (withMark 0) (set slots i (withMark n (getD slots i other))) ≡ map (withMark 0) slots

@@ -2,10 +2,10 @@
 -- Its two words stand apart from each other and from the tag and the profile. Assumes nothing.
 use Prim.Native.Nat.{ℕ}
 use native.Mathlib.Omega.{arith}
-use mathlib.Core.Path.{_≡_, refl, sym, _∙_, ap}
+use mathlib.Core.Path.{_≡_, _∙_, ap}
 use lib.ListN.{length, set}
 use lib.Seq.{set-set, set-comm, set-getD}
-use Rattle.metric.specs.Row.{Row, rowWidth, thresholdAt, markAt, word, tagOf, profileOf, thresholdOf, withThreshold, withMark}
+use Rattle.metric.specs.Row.{Row, rowWidth, thresholdAt, markAt, tagOf, profileOf, thresholdOf, withThreshold, withMark}
 use Rattle.metric.proofs.Codec.{threshold-with-threshold, tag-with-threshold, profile-with-threshold, threshold-with-mark, tag-with-mark, profile-with-mark}
 use Rattle.tree.specs.Layout.{placed}
 

@@ -1,10 +1,13 @@
 -- Tests as facts: of two joined tests both pass, `every` passes where each element does, and alike lists are equal.
 -- Each by the list. Assumes nothing.
-use Prim.Native.Nat.{ℕ}
+use Prim.Native.Nat.{ℕ, suc, _+_, _≤_, _<_}
+use native.Mathlib.Numerals.{add-one}
 use mathlib.Core.Path.{_≡_, refl, sym, _∙_, ap, ap₂}
 use mathlib.Core.Bool.{Bool, true, false, _&&_, false≢true}
 use mathlib.Core.List.{List, [], _∷_, map}
 use lib.Dec.{eqb}
+use lib.ListN.{length, drop, getD, drop-of-length-le}
+use lib.Seq.{drop-cons}
 use borrow.Author.Tests.{eqb-true, eq-eqb}
 use Rattle.metric.specs.Lists.{every, alike, sameNumbers}
 use Rattle.tree.specs.Guided.{All}
@@ -67,3 +70,20 @@ same-rows = alike-equal sameNumbers (alike-equal eqb eqb-true)
 pub rows-same : (xs ys : List (List ℕ)) → xs ≡ ys → alike sameNumbers xs ys ≡ true
 unfolding sameNumbers
 rows-same = equal-alike sameNumbers (λ r. equal-alike eqb (λ n. eq-eqb n n refl) r r refl)
+
+-- a scan at place i: what is left decides, its first element first
+module _ {A : Type 0} (test : A → Bool) (other : A) (xs : List A) (i : ℕ) (more : i < length xs) where
+  every-at : every test (drop i xs) ≡ (test (getD xs i other) && every test (drop (suc i) xs))
+  unfolding every
+  every-at = ap (every test) (drop-cons xs i other more)
+
+  pub scan-fails : {all : Bool} → every test (drop i xs) ≡ all → test (getD xs i other) ≡ false → false ≡ all
+  scan-fails e f = ap (λ (b : Bool). b && every test (drop (suc i) xs)) (sym f) ∙ sym every-at ∙ e
+
+  pub scan-passes : {all : Bool} → every test (drop i xs) ≡ all → test (getD xs i other) ≡ true → every test (drop (i + 1) xs) ≡ all
+  scan-passes e f =
+      ap (λ (n : ℕ). every test (drop n xs)) (add-one i) ∙ ap (λ (b : Bool). b && every test (drop (suc i) xs)) (sym f) ∙ sym every-at ∙ e
+
+pub scan-ends : {A : Type 0} (test : A → Bool) (xs : List A) (i : ℕ) → length xs ≤ i → {all : Bool} → every test (drop i xs) ≡ all → true ≡ all
+unfolding every
+scan-ends test xs i h e = ap (every test) (sym (drop-of-length-le xs {i = i} h)) ∙ e

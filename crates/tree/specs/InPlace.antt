@@ -8,9 +8,14 @@ use lib.Dec.{leb, eqb}
 use Rattle.metric.specs.declared.Profile.{Profile}
 use Rattle.metric.specs.Lists.{every}
 use Rattle.metric.specs.Row.{Row, tagOf, thresholdOf}
+use Rattle.tree.specs.declared.placement.Key.{Key}
 use Rattle.tree.specs.Sorting.{keyLe}
 use Rattle.tree.specs.Layout.{leftSize}
 use Rattle.tree.specs.Guided.{fromSlot}
+
+-- a key's numbers, in the order in which they decide
+unfoldable pub keyNumbers : Key → List ℕ
+keyNumbers k = k .distance ∷ k .tag ∷ []
 
 -- the key that stands later in the order
 unfoldable pub later : List ℕ → List ℕ → List ℕ

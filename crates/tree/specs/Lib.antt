@@ -2,6 +2,7 @@ pub mod Sorting
 pub mod Layout
 pub mod Guided
 pub mod InPlace
+pub mod Working
 pub mod Range
 pub mod Reached
 pub mod Nearest
