@@ -1,0 +1,29 @@
+-- The laws of this crate's definitions, for its own proofs and for the crates above.
+pub mod Lists
+pub mod Tests
+pub mod Sorting
+pub mod Selecting
+pub mod Pruning
+pub mod RangeLaws
+pub mod Collecting
+pub mod Keep
+pub mod NearestLaws
+pub mod Heap
+pub mod HeapSort
+pub mod Sliding
+pub mod Partition
+pub mod Nearing
+pub mod NearSteps
+pub mod Reaching
+pub mod Cost
+pub mod Placed
+pub mod Layouts
+pub mod LastKey
+mod Merging
+mod Inserting
+mod Parts
+mod Arranging
+mod Halving
+pub mod InPlace
+pub mod Marks
+pub mod OnLayout
