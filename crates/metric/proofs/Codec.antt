@@ -1,6 +1,6 @@
 -- The row codec: the row of a row's fields is that row, and the fields of a row of given fields are those fields.
 -- Word by word: two words make a number and come apart again by division, and a measure's bits are read back (`toZ`, `ofZ`).
-use Prim.Native.Nat.{ℕ, _/_, _%_, _^_, _≤_, _<_}
+use Prim.Native.Nat.{ℕ, suc, _/_, _%_, _^_, _≤_, _<_}
 use native.Mathlib.Omega.{arith}
 use mathlib.Core.Path.{_≡_, refl, _∙_}
 use mathlib.Core.List.{map}
@@ -13,7 +13,8 @@ use lib.Dec.{lit<, lit≤}
 use mir.Facts.{toZ-ofZ, ofZ-toZ, sfits-toZ, sfits-lit, fits-ofZ, fits-of-lt}
 use Rattle.metric.specs.declared.Profile.{Profile}
 use Rattle.metric.specs.Lists.{countFrom}
-use Rattle.metric.specs.Row.{Row, IsRow, IsProfile, rowWidth, thresholdAt, markAt, word, wide, measure, codeWord, tagOf, profileOf, thresholdOf, markOf, rowOf, withThreshold, withMark}
+use Rattle.metric.specs.Row.{Row, IsRow, IsProfile, rowWidth, thresholdAt, markAt, word, wide, measure, codeWord}
+use Rattle.metric.specs.Row.{tagOf, profileOf, thresholdOf, markOf, rowOf, withThreshold, withMark}
 use Rattle.metric.proofs.Elements.{elements, each-at, at-set}
 
 -- the words of a number of two words, and the number of a number's words
@@ -52,12 +53,27 @@ module _ (row : Row) (is : IsRow row) where
   pub row-of-fields : rowOf (tagOf row) (profileOf row) (thresholdOf row) (markOf row) ≡ row
   unfolding rowOf tagOf profileOf thresholdOf markOf countFrom
   row-of-fields =
-      cc (low 0 (word row 1), high 0 (word row 1), bits 2, bits 3, bits 4, bits 5, low 6 (word row 7), high 6 (word row 7), low 8 (word row 9), high 8 (word row 9), twelve)
+      cc (
+        low 0 (word row 1),
+        high 0 (word row 1),
+        bits 2,
+        bits 3,
+        bits 4,
+        bits 5,
+        low 6 (word row 7),
+        high 6 (word row 7),
+        low 8 (word row 9),
+        high 8 (word row 9),
+        twelve,
+      )
 
   -- a row's fields are values of their types
+  two-fit : (i : ℕ) → wide (word row i) (word row (suc i)) < 2 ^ 64
+  two-fit i = wide-fits (word row i) (word row (suc i)) (is .fits i) (is .fits (suc i))
+
   pub tag-fits : tagOf row < 2 ^ 64
   unfolding tagOf
-  tag-fits = wide-fits (word row 0) (word row 1) (is .fits 0) (is .fits 1)
+  tag-fits = two-fit 0
 
   pub threshold-fits : thresholdOf row < 2 ^ 32
   unfolding thresholdOf
@@ -76,8 +92,10 @@ module _ (row : Row) (is : IsRow row) where
       record {
         four = refl;
         two = refl;
-        signed = each-at (SFits w32) (pos 0) (sfits-lit tt) (profileOf row .measures) (signed-fits 2, (signed-fits 3, (signed-fits 4, (signed-fits 5, tt))));
-        wide = each-at (λ n. n < 2 ^ 64) 0 (lit< tt) (profileOf row .code) (wide-fits (word row 6) (word row 7) (is .fits 6) (is .fits 7), (wide-fits (word row 8) (word row 9) (is .fits 8) (is .fits 9), tt));
+        signed =
+            each-at (SFits w32) (pos 0) (sfits-lit tt) (profileOf row .measures)
+            (signed-fits 2, (signed-fits 3, (signed-fits 4, (signed-fits 5, tt))));
+        wide = each-at (λ n. n < 2 ^ 64) 0 (lit< tt) (profileOf row .code) (two-fit 6, (two-fit 8, tt));
       }
 
 -- the fields of a row of given fields
@@ -135,7 +153,16 @@ module _ (row : Row) (n : ℕ) where
     pub profile-past : profileOf (set row at n) ≡ profileOf row
     unfolding profileOf thresholdAt
     profile-past =
-        cc (early 2 (lit< tt), early 3 (lit< tt), early 4 (lit< tt), early 5 (lit< tt), early 6 (lit< tt), early 7 (lit< tt), early 8 (lit< tt), early 9 (lit< tt))
+        cc (
+          early 2 (lit< tt),
+          early 3 (lit< tt),
+          early 4 (lit< tt),
+          early 5 (lit< tt),
+          early 6 (lit< tt),
+          early 7 (lit< tt),
+          early 8 (lit< tt),
+          early 9 (lit< tt),
+        )
 
   pub set-fits : IsRow row → n < 2 ^ 32 → (at : ℕ) → IsRow (set row at n)
   unfolding word

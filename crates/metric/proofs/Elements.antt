@@ -39,7 +39,8 @@ module _ {A : Type 0} where
   each-at P d h (x ∷ xs) e (suc i) = each-at P d h xs (e .1) i
 
   -- what holds at each index, and of an element that is stored, holds at each index after the store
-  pub at-set : (P : A → Type 0) (d : A) {a : A} → P a → (xs : List A) (at : ℕ) → ((i : ℕ) → P (getD xs i d)) → (i : ℕ) → P (getD (set xs at a) i d)
+  pub at-set : (P : A → Type 0) (d : A) {a : A} → P a
+      → (xs : List A) (at : ℕ) → ((i : ℕ) → P (getD xs i d)) → (i : ℕ) → P (getD (set xs at a) i d)
   at-set P d h [] at e i = e i
   at-set P d h (x ∷ xs) zero e zero = h
   at-set P d h (x ∷ xs) zero e (suc i) = e (suc i)

@@ -1,5 +1,5 @@
 -- A word of 32 bits read as a signed number, in two's complement, as the code works with it.
--- Moved up by 2^31 it is the word's sum with 2^31, wrapped, so that signed differences of words are unsigned ones; moved up by 2^32 it is the word again, past one turn.
+-- Moved up by 2^31 it is the word's sum with 2^31, wrapped, so that signed differences are unsigned ones; moved up by 2^32 it is the word again.
 use Prim.Native.Nat.{ℕ, suc, _+_, _-_, _%_, _^_, _≤_, _<_}
 use native.Mathlib.Omega.{arith}
 use mathlib.Core.Path.{_≡_, refl, ap₂, _∙_}

@@ -24,10 +24,6 @@ module _ {A : Type 0} where
   every test [] = true
   every test (x ∷ xs) = test x && every test xs
 
-  unfoldable pub concat : List (List A) → List A
-  concat [] = []
-  concat (xs ∷ xss) = xs ++ concat xss
-
   -- the two lists are alike, element by element
   unfoldable pub alike : (A → A → Bool) → List A → List A → Bool
   alike same [] [] = true

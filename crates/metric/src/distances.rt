@@ -11,29 +11,35 @@ use super::Row;
 use super::rows::joined;
 use super::rows::row_of;
 
-// The absolute difference of the signed numbers that two words hold. Moved up by 2^31 they are unsigned, in the same order and as far apart, and
-// any two of them differ by less than 2^32.
+// What a larger sum is taken as.
+const MOST_DISTANCE: u32 = 0xffff_ffff;
+
+// Half the range of a word.
+const HALF_RANGE: u32 = 0x8000_0000;
+
+// The absolute difference of the signed numbers that two words hold. Moved up by half the range they are unsigned, in the same order and as far
+// apart. So there is no case for each sign, and every difference fits.
 fn gap_of(a: u32, b: u32) -> u32
     ensures { λ r. ⌜ r ≡ natAbs (toZ w32 a -ℤ toZ w32 b) ⌝ }
 {
-    let x = std::num::wrapping_add_u32(a, 0x8000_0000);
-    let y = std::num::wrapping_add_u32(b, 0x8000_0000);
+    let x = std::num::wrapping_add_u32(a, HALF_RANGE);
+    let y = std::num::wrapping_add_u32(b, HALF_RANGE);
     if x < y { y - x } else { x - y }
 }
 
-// The sum of four numbers, or the largest number of 32 bits where it is more.
+// The sum of four numbers, saturated once, at the end.
 fn saturated_sum(a: u32, b: u32, c: u32, d: u32) -> u32
     ensures { λ r. ⌜ r ≡ saturated (a + b + c + d) ⌝ }
 {
     let sum = a as u64 + b as u64 + c as u64 + d as u64;
-    if sum <= 0xffff_ffff {
+    if sum < 0x1_0000_0000 {
         sum as u32
     } else {
-        0xffff_ffff
+        MOST_DISTANCE
     }
 }
 
-// Metric 0.
+// Metric 0: words 2 to 5 are the measures.
 fn measure_distance(a: Row, b: Row) -> u32
     ensures { λ r. ⌜ r ≡ measureDistance (profileOf a) (profileOf b) ⌝ }
 {
@@ -52,7 +58,7 @@ fn differing_bits(a: u64, b: u64) -> u32
     u64::count_ones(a ^ b)
 }
 
-// Metric 1.
+// Metric 1: words 6 to 9 are the code, two numbers of 64 bits.
 fn code_distance(a: Row, b: Row) -> u32
     ensures { λ r. ⌜ r ≡ codeDistance (profileOf a) (profileOf b) ⌝ }
 {
@@ -60,7 +66,8 @@ fn code_distance(a: Row, b: Row) -> u32
         + differing_bits(joined(a[8], a[9]), joined(b[8], b[9]))
 }
 
-// The distance between the profiles of two rows. A search makes its query a row once (`row_of`), so that each slot costs a row against a row.
+// The distance between the profiles of two rows. A number that is no metric reads as 1. A search makes its query a row once (`row_of`), so that
+// each slot costs a row against a row.
 pub fn distance_between(metric: u32, a: Row, b: Row) -> u32
     ensures { λ r. ⌜ r ≡ distance metric (profileOf a) (profileOf b) ⌝ }
 {

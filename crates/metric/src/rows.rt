@@ -1,13 +1,15 @@
 // The row codec: a row from its fields, and each field of a row.
 ghost use mathlib.Core.Path.{_≡_};
-ghost use Prim.Native.Nat.{_+_, _*_, _/_, _%_, _^_};
+ghost use Prim.Native.Nat.{ℕ, _+_, _*_, _/_, _%_, _^_, _<_};
+ghost use mathlib.Core.List.{[]};
+ghost use lib.ListN.{length, getD};
 ghost use mir.Syntax.{w32};
 ghost use mir.Val.{toZ, ofZ};
-ghost use Rattle.metric.specs.Row.{tagOf, profileOf, thresholdOf, markOf, rowOf};
+ghost use Rattle.metric.specs.Row.{IsRow, tagOf, profileOf, thresholdOf, markOf, rowOf};
 use super::Profile;
 use super::Row;
 
-// A word's number as a signed one, in two's complement.
+// The signed number that a word holds, in two's complement.
 fn signed(word: u32) -> i32
     ensures { λ r. ⌜ r ≡ toZ w32 word ⌝ }
 {
@@ -32,6 +34,7 @@ pub fn joined(low: u32, high: u32) -> u64
     low as u64 + high as u64 * 0x1_0000_0000
 }
 
+// The fields of a row.
 pub fn tag_of(row: Row) -> u64
     ensures { λ r. ⌜ r ≡ tagOf row ⌝ }
 {
@@ -77,6 +80,7 @@ fn high(n: u64) -> u32
     (n / 0x1_0000_0000) as u32
 }
 
+// The row of these fields.
 pub fn row_of(tag: u64, profile: Profile, threshold: u32, mark: u32) -> Row
     ensures { λ r. ⌜ r ≡ rowOf tag profile threshold mark ⌝ }
 {
@@ -96,4 +100,19 @@ pub fn row_of(tag: u64, profile: Profile, threshold: u32, mark: u32) -> Row
         threshold,
         mark,
     ]
+}
+
+// Nothing is done here, and nothing is compiled: the caller learns that the row is twelve words of 32 bits. A row that was read from a slice comes
+// without that fact, and a parameter has it by its type.
+pub fn row_fits(row: Row)
+    ensures { λ _. ⌜ IsRow row ⌝ }
+{}
+
+// The same of every row of a slice. The loop has no effect, so it is compiled away.
+pub fn rows_fit(rows: &[Row])
+    ensures { λ _. ⌜ ((i : ℕ) → i < length (now (rows .entry)) → IsRow (getD (now (rows .entry)) i [])) ⌝ }
+{
+    for i in 0..rows.len() {
+        row_fits(rows[i]);
+    }
 }

@@ -11,6 +11,7 @@ const PAST_TAGS: u64 = 1_000_000_000_000_000;
 // The largest size of a measure, in hundredths.
 const MEASURE_LIMIT: i32 = 1_000_000;
 
+// Both ends of a range are tested at once, with no branch.
 pub fn valid_tag(tag: u64) -> bool
     ensures { λ r. ⌜ r ≡ validTag tag ⌝ }
 {

@@ -1,4 +1,5 @@
--- `metric::distances::code_distance`: each count is at most 64, and the words are those of the two profiles' codes (`code-words`).
+-- `metric::distances::code_distance` adds the counts of the two pairs of code words.
+-- Each count is at most 64, and the words joined are the code words of the two profiles (`code-words`).
 use borrow.Author.Needs.{needs}
 use native.Mathlib.Omega.{arith}
 use Prim.Native.Nat.{_+_}

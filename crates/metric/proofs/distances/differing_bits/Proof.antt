@@ -1,4 +1,5 @@
--- `metric::distances::differing_bits`: the ones of the exclusive-or are the digits that differ (`differing-ones`).
+-- `metric::distances::differing_bits` counts the digits in which two words differ.
+-- They are the ones of the exclusive-or (`differing-ones`).
 use mathlib.Core.Path.{sym}
 use Rattle.metric.proofs.Digits.{differing-ones}
 use Rattle.metric.proofs.distances.differing_bits.Statement.{statement}

@@ -1,4 +1,5 @@
 -- `metric::distance_between` goes by the metric number as `distance` does.
+-- Each branch rewrites with what its test says of the number.
 use borrow.Author.Needs.{needs}
 use Rattle.metric.proofs.Laws.{distance-measures, distance-codes}
 use Rattle.metric.proofs.distances.distance_between.Statement.{statement}

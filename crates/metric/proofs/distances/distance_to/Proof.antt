@@ -1,4 +1,5 @@
--- `metric::distance_to`: the query's row has the query for its profile (`profile-of-row`).
+-- `metric::distance_to` compares the row with the query's row.
+-- That row has the query for its profile (`profile-of-row`).
 use borrow.Author.Needs.{needs}
 use Rattle.metric.proofs.Codec.{profile-of-row}
 use Rattle.metric.proofs.Values.{is-profile}

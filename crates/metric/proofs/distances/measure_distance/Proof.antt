@@ -1,4 +1,5 @@
--- `metric::distances::measure_distance`: the four gaps are those of the two profiles' measures.
+-- `metric::distances::measure_distance` adds the four gaps, saturated.
+-- The words read are the measures of the two profiles, by the definitions.
 use borrow.Author.Needs.{needs}
 use Rattle.metric.specs.Row.{profileOf}
 use Rattle.metric.specs.Distance.{measureDistance}

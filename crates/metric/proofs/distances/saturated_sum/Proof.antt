@@ -1,4 +1,5 @@
--- `metric::distances::saturated_sum`: the branch is the minimum that `saturated` is.
+-- `metric::distances::saturated_sum` adds four numbers in 64 bits, where the sum fits.
+-- The branch is the minimum that `saturated` is.
 use borrow.Author.Needs.{needs}
 use native.Mathlib.Omega.{arith}
 use Rattle.metric.specs.Distance.{saturated}

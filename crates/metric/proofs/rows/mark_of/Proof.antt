@@ -1,4 +1,5 @@
--- `metric::mark_of` reads the word that `markOf` names.
+-- `metric::mark_of` reads a word of the row.
+-- It is the word that `markOf` names.
 use borrow.Author.Needs.{needs}
 use mathlib.Core.Path.{refl}
 use Rattle.metric.specs.Row.{markOf}

@@ -1,4 +1,5 @@
--- `metric::profile_of` puts together the numbers that its calls return, each as `profileOf` has it.
+-- `metric::profile_of` puts together the numbers that its calls return.
+-- Each is the number that `profileOf` has in its place.
 use borrow.Author.Needs.{needs}
 use mathlib.Core.Path.{_≡_, _∙_}
 use mathlib.Core.List.{[], _∷_}

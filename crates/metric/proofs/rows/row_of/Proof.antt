@@ -1,4 +1,5 @@
--- `metric::row_of` lays out the words that its calls return, each as `rowOf` has it.
+-- `metric::row_of` lays out the words that its calls return.
+-- Each is the word that `rowOf` has in its place.
 use borrow.Author.Needs.{needs}
 use mathlib.Core.List.{[], _∷_}
 use mir.Syntax.{w32}

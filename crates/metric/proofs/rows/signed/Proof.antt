@@ -1,4 +1,5 @@
--- `metric::rows::signed`: a word with its highest bit set stands for the number that is less by 2^32 (`word-below`).
+-- `metric::rows::signed` reads a word in two's complement.
+-- A word with its highest bit set stands for the number that is less by 2^32 (`word-below`).
 use borrow.Author.Needs.{needs}
 use mathlib.Core.Path.{_≡_, ap, _∙_, subst⁻¹}
 use lib.IntN.{ℤ, pos, _-ℤ_}

@@ -1,4 +1,5 @@
--- `metric::tag_of` returns the number of words 0 and 1.
+-- `metric::tag_of` joins words 0 and 1.
+-- They are the words of which `tagOf` makes the tag.
 use borrow.Author.Needs.{needs}
 use Rattle.metric.specs.Row.{tagOf}
 use Rattle.metric.proofs.rows.tag_of.Statement.{statement}

@@ -1,4 +1,5 @@
--- `metric::threshold_of` reads the word that `thresholdOf` names.
+-- `metric::threshold_of` reads a word of the row.
+-- It is the word that `thresholdOf` names.
 use borrow.Author.Needs.{needs}
 use mathlib.Core.Path.{refl}
 use Rattle.metric.specs.Row.{thresholdOf}

@@ -1,4 +1,5 @@
--- `metric::rows::unsigned`: the measure and 2^32 make an unsigned number, whose lowest 32 bits are the measure's word (`turn-word`).
+-- `metric::rows::unsigned` writes a measure in two's complement.
+-- The measure and 2^32 make an unsigned number, whose lowest 32 bits are the word (`turn-word`).
 use borrow.Author.Needs.{needs}
 use mathlib.Core.Path.{_≡_, ap, _∙_, subst⁻¹}
 use lib.IntN.{ℤ, pos, _+ℤ_, natAbs}

@@ -1,4 +1,5 @@
--- `metric::validity::valid_measure`: the two tests are one of the measure's size (`measure-range`).
+-- `metric::validity::valid_measure` tests a measure against both limits.
+-- The two tests are the one of its size (`measure-range`).
 use borrow.Author.Needs.{needs}
 use mathlib.Core.Path.{sym, ap, _∙_}
 use lib.IntN.{ℤ, pos, negsuc}

@@ -1,4 +1,5 @@
--- `metric::valid_measures`: the four tests are those of the list of measures (`measures-range`).
+-- `metric::valid_measures` tests the four measures.
+-- The four tests are those of the list of measures (`measures-range`).
 use borrow.Author.Needs.{needs}
 use mathlib.Core.Path.{sym, ap₂, _∙_}
 use mathlib.Core.Bool.{_&&_}

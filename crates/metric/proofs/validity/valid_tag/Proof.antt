@@ -1,4 +1,5 @@
--- `metric::valid_tag`: a tag's country is 1 to 999 if the tag is at least 10^12 and below 10^15 (`tag-range`).
+-- `metric::valid_tag` tests a tag against both ends of its range.
+-- The country is 1 to 999 where the tag is at least 10^12 and below 10^15 (`tag-range`).
 use mathlib.Core.Path.{sym}
 use Rattle.metric.proofs.Ranges.{tag-range}
 use Rattle.metric.proofs.validity.valid_tag.Statement.{statement}

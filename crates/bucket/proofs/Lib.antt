@@ -1,0 +1,2 @@
+-- Laws of the table's geometry.
+pub mod Geometry

@@ -1,0 +1,160 @@
+// Runs the metric crate on the vectors of vectors.rt, and prints what tools/metric_vectors.py worked out apart from it.
+mod vectors;
+
+use libc::STDOUT_FILENO;
+use metric::Profile;
+use metric::Row;
+use vectors::COUNT;
+
+fn print_space() {
+    io::write_all(STDOUT_FILENO, b" ");
+}
+
+fn print_end() {
+    io::write_all(STDOUT_FILENO, b"\n");
+}
+
+fn print_number(n: u64) {
+    io::print_decimal(STDOUT_FILENO, n);
+    print_space();
+}
+
+fn print_last(n: u64) {
+    io::print_decimal(STDOUT_FILENO, n);
+    print_end();
+}
+
+fn print_word(n: u32) {
+    io::print_hex(STDOUT_FILENO, n as u64, 8);
+}
+
+// The table's row, profile, tag, threshold and mark of object i.
+fn row_at(i: usize) -> Row {
+    let at = i % COUNT * 12;
+    let w = vectors::WORDS;
+    [
+        w[at],
+        w[at + 1],
+        w[at + 2],
+        w[at + 3],
+        w[at + 4],
+        w[at + 5],
+        w[at + 6],
+        w[at + 7],
+        w[at + 8],
+        w[at + 9],
+        w[at + 10],
+        w[at + 11],
+    ]
+}
+
+fn measures_at(i: usize) -> [i32; 4] {
+    let at = i % COUNT * 4;
+    let m = vectors::MEASURES;
+    [m[at], m[at + 1], m[at + 2], m[at + 3]]
+}
+
+fn code_at(i: usize) -> [u64; 2] {
+    let at = i % COUNT * 2;
+    let c = vectors::CODES;
+    [c[at], c[at + 1]]
+}
+
+fn profile_at(i: usize) -> Profile {
+    Profile {
+        measures: measures_at(i),
+        code: code_at(i),
+    }
+}
+
+fn tag_at(i: usize) -> u64 {
+    vectors::TAGS[i % COUNT]
+}
+
+fn threshold_at(i: usize) -> u32 {
+    vectors::THRESHOLDS[i % COUNT]
+}
+
+fn mark_at(i: usize) -> u32 {
+    vectors::MARKS[i % COUNT]
+}
+
+fn print_words(row: Row) {
+    for k in 0..11 {
+        print_word(row[k]);
+        print_space();
+    }
+    print_word(row[11]);
+    print_end();
+}
+
+// Whether the measures are those expected, one by one, and the code.
+fn print_profile(profile: Profile, expected: [i32; 4]) {
+    let m = profile.measures;
+    let c = profile.code;
+    print_number((m[0] == expected[0]) as u64);
+    print_number((m[1] == expected[1]) as u64);
+    print_number((m[2] == expected[2]) as u64);
+    print_number((m[3] == expected[3]) as u64);
+    io::print_hex(STDOUT_FILENO, c[0], 16);
+    print_space();
+    io::print_hex(STDOUT_FILENO, c[1], 16);
+    print_space();
+}
+
+// The row of object i's fields; then the fields of its row in the table, and whether its tag and its measures are valid.
+fn print_object(i: usize) {
+    let row = row_at(i);
+    print_words(metric::row_of(tag_at(i), profile_at(i), threshold_at(i), mark_at(i)));
+    print_number(metric::tag_of(row));
+    print_profile(metric::profile_of(row), measures_at(i));
+    print_number(metric::threshold_of(row) as u64);
+    print_number(metric::mark_of(row) as u64);
+    print_number(metric::valid_tag(tag_at(i)) as u64);
+    print_last(metric::valid_measures(profile_at(i)) as u64);
+}
+
+fn print_objects() {
+    for i in 0..COUNT {
+        print_object(i);
+    }
+}
+
+// The distances of objects i and j: by each metric and by two numbers that are none, then from a row to a query.
+fn print_pair(i: usize, j: usize) {
+    let a = row_at(i);
+    let b = row_at(j);
+    print_number(metric::distance_between(0, a, b) as u64);
+    print_number(metric::distance_between(1, a, b) as u64);
+    print_number(metric::distance_between(2, a, b) as u64);
+    print_number(metric::distance_between(0xffff_ffff, a, b) as u64);
+    print_number(metric::distance_to(0, a, profile_at(j)) as u64);
+    print_last(metric::distance_to(1, a, profile_at(j)) as u64);
+}
+
+fn print_distances() {
+    for i in 0..COUNT {
+        print_pair(i, i);
+        print_pair(i, i + 1);
+        print_pair(i, i + 5);
+        print_pair(i, i + 11);
+    }
+}
+
+fn print_tag(tag: u64) {
+    print_number(tag);
+    print_last(metric::valid_tag(tag) as u64);
+}
+
+fn print_tags() {
+    let tags = vectors::NEAR_TAGS;
+    for i in 0..vectors::NEAR_COUNT {
+        print_tag(tags[i]);
+    }
+}
+
+fn main() {
+    print_objects();
+    print_distances();
+    print_tags();
+}

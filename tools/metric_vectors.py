@@ -1,0 +1,128 @@
+#!/usr/bin/env python3
+"""Vectors for the metric crate, worked out apart from it by document 01's rules.
+
+Writes crates/metric_vectors/src/vectors.rt (the table) and crates/metric_vectors/stdout (what the program must print).
+With --check it writes nothing and fails where a file differs from what it would write.
+"""
+import random
+import struct
+import sys
+from pathlib import Path
+
+CRATE = Path(__file__).resolve().parent.parent / "crates" / "metric_vectors"
+LOW, HIGH = -(2**31), 2**31 - 1
+WORD = 2**64 - 1
+LIMIT = 1_000_000
+STEPS = (0, 1, 5, 11)
+METRICS = (0, 1, 2, 2**32 - 1)
+
+
+def valid_tag(tag):
+    country, national = divmod(tag, 10**12)
+    return 1 <= country <= 999 and 0 <= national <= 999_999_999_999
+
+
+def valid_measures(measures):
+    return all(-LIMIT <= m <= LIMIT for m in measures)
+
+
+def distance(metric, p, q):
+    if metric == 0:
+        return min(sum(abs(a - b) for a, b in zip(p[0], q[0])), 4_294_967_295)
+    return sum(bin(a ^ b).count("1") for a, b in zip(p[1], q[1]))
+
+
+def row(tag, profile, threshold, mark):
+    """The record of the image, tag first, as twelve little-endian words."""
+    return struct.unpack("<12I", struct.pack("<Q4i2Q2I", tag, *profile[0], *profile[1], threshold, mark))
+
+
+def objects():
+    """Tag, measures, code, threshold, mark. Those that are next to each other are compared."""
+    first, last = 10**12, 999 * 10**12 + 999_999_999_999
+    items = [
+        (first, [0, 0, 0, 0], [0, 0], 0, 0),
+        (last, [LIMIT] * 4, [WORD, WORD], 2**32 - 1, 1),
+        (first - 1, [-LIMIT] * 4, [0, 0], 0, 2**32 - 1),
+        (last + 1, [LOW] * 4, [WORD, 0], 8_000_000, 0),
+        (WORD, [HIGH] * 4, [0, WORD], 1, 2),
+        (0, [LOW] * 4, [1, 2**63], 0, 0),
+        (2**32 - 1, [HIGH, LOW, HIGH, LOW], [2**32, 2**31], 0, 0),
+        (2**32, [LOW, HIGH, LOW, HIGH], [2**32 - 1, 2**63 - 1], 0, 0),
+        # sums of 2^32 - 1 and of 2^32: the largest that is kept, and the first that is not
+        (first + 1, [HIGH, 0, 0, 0], [0, 0], 0, 0),
+        (first + 2, [LOW, 0, 0, 0], [0, 1], 0, 0),
+        (first + 3, [HIGH, 1, 0, 0], [2, 0], 0, 0),
+        (first + 4, [LOW, 0, 0, 0], [0, 0], 0, 0),
+        (first + 5, [-1, 0, 1, 0], [0xAAAAAAAAAAAAAAAA, 0x5555555555555555], 0, 0),
+        (first + 6, [0, -1, 0, 1], [0x5555555555555555, 0xAAAAAAAAAAAAAAAA], 0, 0),
+    ]
+    for at in range(4):
+        for past in (LIMIT + 1, -LIMIT - 1):
+            measures = [LIMIT, -LIMIT, LIMIT, -LIMIT]
+            measures[at] = past
+            items.append((first + 16 + at, measures, [1 << (16 * at), 1 << (63 - 16 * at)], at, at % 2))
+    draw = random.Random(20)
+    for k in range(14):
+        bound = (HIGH, LIMIT, 300)[k % 3]
+        items.append((
+            draw.randint(0, WORD) if k % 2 else draw.randint(first, last),
+            [draw.randint(-bound, bound) for _ in range(4)],
+            [draw.getrandbits(64), draw.getrandbits(64)],
+            draw.getrandbits(32),
+            draw.getrandbits(k),
+        ))
+    return [(tag, (measures, code), threshold, mark) for tag, measures, code, threshold, mark in items]
+
+
+def tags():
+    first, last = 10**12, 10**15 - 1
+    return [0, 1, first - 1, first, first + 1, 36_000_000_000_001, 500 * first, last - 1, last, last + 1,
+            1_000 * first + 1, 2**32, 2**63, 2**63 - 1, WORD]
+
+
+def constant(name, kind, numbers):
+    return [f"pub const {name}: [{kind}; {len(numbers)}] = ["] + [f"    {n}," for n in numbers] + ["];", ""]
+
+
+def table(items, tag_list):
+    lines = ["// The vectors, as tools/metric_vectors.py writes them.", f"pub const COUNT: usize = {len(items)};", ""]
+    lines += ["// The objects' fields, and below them the rows of the same objects."]
+    lines += constant("TAGS", "u64", [o[0] for o in items])
+    lines += constant("MEASURES", "i32", [m for o in items for m in o[1][0]])
+    lines += constant("CODES", "u64", [c for o in items for c in o[1][1]])
+    lines += constant("THRESHOLDS", "u32", [o[2] for o in items])
+    lines += constant("MARKS", "u32", [o[3] for o in items])
+    lines += constant("WORDS", "u32", [w for o in items for w in row(*o)])
+    lines += ["// Numbers that are tags, or nearly.", f"pub const NEAR_COUNT: usize = {len(tag_list)};", ""]
+    lines += constant("NEAR_TAGS", "u64", tag_list)
+    return "\n".join(lines[:-1]) + "\n"
+
+
+def output(items, tag_list):
+    lines = []
+    for item in items:
+        tag, profile, threshold, mark = item
+        words = " ".join(f"{w:08x}" for w in row(*item))
+        code = " ".join(f"{c:016x}" for c in profile[1])
+        lines += [words, f"{tag} 1 1 1 1 {code} {threshold} {mark} {valid_tag(tag):d} {valid_measures(profile[0]):d}"]
+    for i, (_, p, _, _) in enumerate(items):
+        for step in STEPS:
+            q = items[(i + step) % len(items)][1]
+            found = [distance(m, p, q) for m in METRICS] + [distance(m, p, q) for m in METRICS[:2]]
+            lines.append(" ".join(map(str, found)))
+    lines += [f"{t} {valid_tag(t):d}" for t in tag_list]
+    return "\n".join(lines) + "\n"
+
+
+def main():
+    items, tag_list = objects(), tags()
+    files = {CRATE / "src" / "vectors.rt": table(items, tag_list), CRATE / "stdout": output(items, tag_list)}
+    for path, text in files.items():
+        if "--check" not in sys.argv[1:]:
+            path.write_text(text)
+        elif path.read_text() != text:
+            sys.exit(f"{path.name} is not what the script writes")
+
+
+main()
