@@ -4,7 +4,7 @@ use Prim.Native.Nat.{ℕ, zero, suc, _+_, _≤_, _<_}
 use native.Mathlib.Nat.{add-comm}
 use native.Mathlib.Numerals.{add-one}
 use native.Mathlib.Omega.{arith}
-use mathlib.Core.Path.{_≡_, refl, sym, _∙_, ap, ap₂}
+use mathlib.Core.Path.{_≡_, refl, sym, _∙_, ap, ap₂, subst}
 use mathlib.Core.List.{List, [], _∷_, _++_, map, foldl, foldl-append, map-map, List·Permᴰ, List·Permᴰ·cons, List·Permᴰ·swap, List·Permᴰ·trans, Permᴰ·refl, Permᴰ·symm}
 use lib.ListN.{length, length-map, length-drop, length-set, getD, set, take, drop}
 use lib.Seq.{take-suc, getD-drop}
@@ -15,7 +15,7 @@ use Rattle.tree.specs.Sorting.{sortBy}
 use Rattle.tree.specs.Layout.{leftSize, Ranked, rankedFrom, tagKey, placed, fromPivot, nearKey, lastDistance, split, node, layout}
 use Rattle.tree.specs.Guided.{All, fromSlot}
 use Rattle.tree.specs.Working.{workKey, firstKey, rankedOf, ranksWritten, Whole, RanksApart, measuredFrom, sortedFrom, arranged, lastMeasured}
-use Rattle.tree.proofs.Lists.{Pairs, all-always, all-weaken, all-perm, all-take, all-map, pairs-weaken, pairs-perm, pairs-map, perm-map, map-take, map-drop, map-alike}
+use Rattle.tree.proofs.Lists.{Pairs, all-append, all-always, all-weaken, all-perm, all-take, all-map, pairs-weaken, pairs-perm, pairs-map, perm-map, map-take, map-drop, map-alike}
 use Rattle.tree.proofs.Sorting.{NotAfter, Told, sort-cons, sort-perm, sort-length, sort-permuted, insert-first, sort-map}
 use Rattle.tree.proofs.Placed.{placed-with-threshold, placed-with-mark}
 use Rattle.tree.proofs.Layouts.{stripped, layoutOf, layout-ranked, layout-node, layout-stripped}
@@ -283,3 +283,9 @@ pub ranks-written-whole : (n : ℕ) (rows : List Row) → Whole rows → Whole (
 unfolding ranksWritten withMark
 ranks-written-whole n [] w = tt
 ranks-written-whole n (r ∷ rs) w = (length-set r markAt n ∙ w .0, ranks-written-whole (suc n) rs (w .1))
+
+-- rows known one after the other
+pub whole-next : (rows : List Row) (i : ℕ) → i < length rows → Whole (take i rows) → length (getD rows i []) ≡ rowWidth → Whole (take (i + 1) rows)
+whole-next rows i h a w =
+    subst Whole (sym (ap (λ (n : ℕ). take n rows) (add-one i) ∙ take-suc rows i [] h))
+    (all-append (λ r. length r ≡ rowWidth) (take i rows) (getD rows i [] ∷ []) a (w, tt))

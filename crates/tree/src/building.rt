@@ -144,6 +144,7 @@ pub fn build(dst: &mut [Row], src: &mut [Row], metric: u32) -> u64
     ensures laid { λ _. ⌜ now (dst .exit) ≡ layout (distance metric) (now (src .entry)) ⌝ }
     ensures cleared { λ _. ⌜ now (src .exit) ≡ replicate (length (now (src .entry))) zeroRow ⌝ }
     ensures counted { λ r. ⌜ r ≡ cost (length (now (src .entry))) ⌝ }
+    ensures whole { λ _. ⌜ Whole (now (src .entry)) ⌝ }
 {
     write_ranks(src);
     build_part(dst, src, metric)

@@ -5,12 +5,3 @@ mod nearest;
 mod ordering;
 mod placement;
 mod range;
-
-pub use building::build;
-pub use entries::Entry;
-pub use entries::sort_entries;
-pub use nearest::Nearby;
-pub use nearest::nearest_tree;
-pub use placement::in_place;
-pub use range::Found;
-pub use range::range_tree;

@@ -50,7 +50,7 @@ returns c =
           ∙ layout-ranks dist rows (w .ensures .1),
       (
         b .ensures .1 .0 ∙ ap (λ (k : ℕ). replicate k zeroRow) n,
-        b .ensures .1 .1 ∙ ap cost n,
+        (b .ensures .1 .1 ∙ ap cost n, w .ensures .1),
       ),
     )
 

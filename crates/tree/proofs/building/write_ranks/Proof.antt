@@ -3,15 +3,14 @@ use native.Mathlib.Omega.{arith}
 use native.Mathlib.Nat.{zero-add}
 use native.Mathlib.Numerals.{add-one}
 use mathlib.Core.Path.{_≡_, refl, sym, _∙_, ap, subst}
-use mathlib.Core.List.{List, [], _∷_}
+use mathlib.Core.List.{List, []}
 use Prim.Native.Nat.{ℕ, _+_, _-_, _≤_, _<_}
-use lib.Seq.{take-suc, take-all}
+use lib.Seq.{take-all}
 use lib.ListN.{length, take, getD, set, length-set}
-use Rattle.metric.specs.Row.{Row, rowWidth, withMark}
+use Rattle.metric.specs.Row.{Row, withMark}
 use Rattle.tree.specs.Working.{ranksWritten, Whole}
-use Rattle.tree.proofs.Lists.{all-append}
 use Rattle.tree.proofs.Parts.{writtenTo, written-at, written-next, written-all}
-use Rattle.tree.proofs.Arranging.{ranks-length, ranks-at}
+use Rattle.tree.proofs.Arranging.{whole-next, ranks-length, ranks-at}
 use Rattle.tree.proofs.building.write_ranks.Statement.{statement}
 use Rattle.tree.proofs.building.write_ranks.Tie as tie
 
@@ -27,11 +26,6 @@ rank-step old rows i h e =
     ∙ ap (set (writtenTo old (ranksWritten 0 old) i) i) (sym (ranks-at 0 old i h))
     ∙ written-next old (ranksWritten 0 old) (ranks-length 0 old) [] i h
     ∙ ap (writtenTo old (ranksWritten 0 old)) (sym (add-one i))
-
-whole-next : (rows : List Row) (i : ℕ) → i < length rows → Whole (take i rows) → length (getD rows i []) ≡ rowWidth → Whole (take (i + 1) rows)
-whole-next rows i h a w =
-    subst Whole (sym (ap (λ (n : ℕ). take n rows) (add-one i) ∙ take-suc rows i [] h))
-    (all-append (λ r. length r ≡ rowWidth) (take i rows) (getD rows i [] ∷ []) a (w, tt))
 
 abbrev Inv-loop : tie.InvT-loop
 Inv-loop rows₀ i₀ rows i =
