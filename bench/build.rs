@@ -6,8 +6,8 @@ type Row = [u32; 12];
 
 // A slice is handed over as its pointer and its length, which is how Rust passes it here too.
 #[allow(improper_ctypes)]
-extern "C" {
-    fn bench_tree_build(dst: &mut [Row], src: &mut [Row], metric: u32) -> u64;
+unsafe extern "C" {
+    fn tree_export_build(dst: &mut [Row], src: &mut [Row], metric: u32) -> u64;
 }
 
 fn tag(row: &Row) -> u64 {
@@ -110,7 +110,7 @@ fn main() {
                 let mut src = vec![[0; 12]; n];
                 let mut times = [vec![], vec![]];
                 for _ in 0..runs {
-                    let (t, c) = timed(&mut |d, s| unsafe { bench_tree_build(d, s, metric) }, &rows, &mut dst[0], &mut src);
+                    let (t, c) = timed(&mut |d, s| unsafe { tree_export_build(d, s, metric) }, &rows, &mut dst[0], &mut src);
                     times[0].push(t);
                     let (u, e) = timed(&mut |d, s| plain_build(d, s, metric), &rows, &mut dst[1], &mut src);
                     times[1].push(u);

@@ -8,7 +8,7 @@ use lib.Dec.{eqb}
 use Rattle.metric.specs.declared.Profile.{Profile}
 use Rattle.metric.specs.Row.{Row, tagOf, profileOf}
 use Rattle.metric.specs.Validity.{validTag}
-use Rattle.tree.specs.Range.{isLive}
+use Rattle.search.specs.Range.{isLive}
 use Rattle.bucket.specs.declared.LookedUp.{LookedUp}
 use Rattle.bucket.specs.Refusals.{badTag, tagNotLive}
 use Rattle.bucket.specs.Geometry.{bucketsOf}

@@ -7,8 +7,8 @@ use lib.Dec.{leb, eqb}
 use Rattle.metric.specs.declared.Profile.{Profile}
 use Rattle.metric.specs.Validity.{validMeasures}
 use Rattle.metric.specs.Distance.{distance}
-use Rattle.tree.specs.Range.{Entry, Met, entry, nothing, both, ordered, rangeTree}
-use Rattle.tree.specs.Nearest.{Tally, nearestTree}
+use Rattle.search.specs.Range.{Entry, Met, entry, nothing, both, ordered, rangeTree}
+use Rattle.search.specs.Nearest.{Tally, nearestTree}
 use Rattle.bucket.specs.declared.Searched.{Searched}
 use Rattle.bucket.specs.Refusals.{badMeasure, noneAsked, resultShort}
 use Rattle.bucket.specs.Geometry.{bucketsOf}

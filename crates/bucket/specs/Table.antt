@@ -8,7 +8,7 @@ use lib.Dec.{eqb}
 use lib.Seq.{paste}
 use Rattle.metric.specs.Lists.{select, total}
 use Rattle.metric.specs.Row.{Row, word, zeroRow}
-use Rattle.tree.specs.Range.{isLive}
+use Rattle.search.specs.Range.{isLive}
 use Rattle.bucket.specs.Geometry.{room, bucketsOf, headerRow, sizesRow, firstSlot}
 
 abbrev pub Table : Type 0

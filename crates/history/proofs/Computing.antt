@@ -7,8 +7,8 @@ use Rattle.metric.specs.Validity.{nationals, lastCountry, validTag, measureLimi
 use Rattle.metric.specs.Distance.{mostDistance, saturated, gap, measureDistance, differing, codeDistance, distance, lastMetric}
 use Rattle.tree.specs.Sorting.{keyLe, insertBy, sortBy}
 use Rattle.tree.specs.Layout.{leftSize, costWithin, cost, rankedFrom, tagKey, placed, fromPivot, nearKey, lastDistance, split, node, layoutWithin, layout, isLayout}
-use Rattle.tree.specs.Range.{entry, entryDistance, entryKey, ordered, isLive, entersLeft, entersRight, nothing, both, toQuery, entryOf, isHit, visited, rangeWithin, rangeTree}
-use Rattle.tree.specs.Nearest.{keep, worst, opens, taken, turn, halvesInTurn, nearestWithin, nearestTree}
+use Rattle.search.specs.Range.{entry, entryDistance, entryKey, ordered, isLive, entersLeft, entersRight, nothing, both, toQuery, entryOf, isHit, visited, rangeWithin, rangeTree}
+use Rattle.search.specs.Nearest.{keep, worst, opens, taken, turn, halvesInTurn, nearestWithin, nearestTree}
 use Rattle.bucket.specs.Geometry.{leastOrder, mostOrder, validOrder, room, bucketsOf, headerRow, sizesRow, firstSlot, tableRows, workRows}
 use Rattle.bucket.specs.Table.{rowAt, orderOf, metricOf, builtOf, liveOf, inUse, liveTotal, slotsOf, liveSlots, pairRow, putSizes, putBucket, emptied, cleared}
 use Rattle.bucket.specs.Checks.{sizePasses, sizesPass, marksPass, tableRefusal, readRefusal, changeRefusal}

@@ -6,7 +6,7 @@ use lib.ListN.{replicate, take}
 use Rattle.metric.specs.declared.Profile.{Profile}
 use Rattle.metric.specs.Row.{tagOf, thresholdOf, markOf}
 use Rattle.metric.specs.Validity.{nationals}
-use Rattle.tree.specs.Range.{Entry}
+use Rattle.search.specs.Range.{Entry}
 use Rattle.bucket.specs.Table.{Table, slotsOf, builtOf, liveOf}
 use Rattle.history.specs.Calls.{Call, Lent, Reply}
 use Rattle.history.specs.Calls.Call.{fresh, add, remove}

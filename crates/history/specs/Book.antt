@@ -10,8 +10,8 @@ use Rattle.metric.specs.Lists.{select}
 use Rattle.metric.specs.Row.{Row, tagOf, profileOf}
 use Rattle.metric.specs.Validity.{validTag, validMeasures}
 use Rattle.metric.specs.Distance.{distance}
-use Rattle.tree.specs.Range.{Entry, entry, entryDistance, ordered}
-use Rattle.tree.specs.Nearest.{keep}
+use Rattle.search.specs.Range.{Entry, entry, entryDistance, ordered}
+use Rattle.search.specs.Nearest.{keep}
 use Rattle.bucket.specs.Refusals.{badTag, badMeasure, noneAsked, resultShort, tagLive, tagNotLive, tableFull, areaShort}
 use Rattle.bucket.specs.Geometry.{room, tableRows, workRows}
 use Rattle.bucket.specs.LookUp.{noProfile}

@@ -5,7 +5,7 @@ use mathlib.Core.List.{List}
 use lib.ListN.{length}
 use Rattle.metric.specs.declared.Profile.{Profile}
 use Rattle.metric.specs.Row.{Row}
-use Rattle.tree.specs.Range.{Entry}
+use Rattle.search.specs.Range.{Entry}
 use Rattle.bucket.specs.declared.Added.{Added}
 use Rattle.bucket.specs.declared.Removed.{Removed}
 use Rattle.bucket.specs.declared.LookedUp.{LookedUp}

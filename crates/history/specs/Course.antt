@@ -3,7 +3,7 @@ use Prim.Native.Nat.{ℕ, zero, suc, _+_, _-_}
 use mathlib.Core.List.{List, [], _∷_, _++_}
 use lib.ListN.{length, take, drop}
 use Rattle.metric.specs.declared.Profile.{Profile}
-use Rattle.tree.specs.Range.{Entry}
+use Rattle.search.specs.Range.{Entry}
 use Rattle.bucket.specs.Table.{Table}
 use Rattle.bucket.specs.LookUp.{noProfile}
 use Rattle.image.specs.Read.{slotsIn}

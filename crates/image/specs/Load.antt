@@ -9,7 +9,7 @@ use Rattle.metric.specs.Row.{Row, tagOf, profileOf, markOf}
 use Rattle.metric.specs.Validity.{validTag, validMeasures}
 use Rattle.metric.specs.Distance.{distance, lastMetric}
 use Rattle.tree.specs.Layout.{isLayout}
-use Rattle.tree.specs.Range.{isLive}
+use Rattle.search.specs.Range.{isLive}
 use Rattle.bucket.specs.Refusals.{badOrder, badMetric, imageLengthWrong, imageUnsound, areaShort, tableBroken}
 use Rattle.bucket.specs.Geometry.{validOrder, bucketsOf, tableRows}
 use Rattle.bucket.specs.Table.{Table, putBucket}

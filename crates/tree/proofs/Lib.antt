@@ -2,19 +2,6 @@
 pub mod Lists
 pub mod Tests
 pub mod Sorting
-pub mod Selecting
-pub mod Pruning
-pub mod RangeLaws
-pub mod Collecting
-pub mod Keep
-pub mod NearestLaws
-pub mod Heap
-pub mod HeapSort
-pub mod Sliding
-pub mod Partition
-pub mod Nearing
-pub mod NearSteps
-pub mod Reaching
 pub mod Cost
 pub mod Placed
 pub mod Layouts
@@ -26,4 +13,3 @@ mod Arranging
 mod Halving
 pub mod InPlace
 pub mod Marks
-pub mod OnLayout

@@ -3,10 +3,3 @@ pub mod Layout
 pub mod Guided
 pub mod InPlace
 pub mod Working
-pub mod Range
-pub mod Reached
-pub mod Nearest
-pub mod Heap
-pub mod Parting
-pub mod Collected
-pub mod Nearby

@@ -1,7 +1,7 @@
-// One vantage-point tree over a part of rows: its layout, its build, and the searches in it.
+// One vantage-point tree over a part of rows: its layout, its build, and the test that slots are a layout.
 mod building;
-mod entries;
-mod nearest;
 mod ordering;
 mod placement;
-mod range;
+
+pub use building::build;
+pub use placement::in_place;

@@ -8,18 +8,18 @@ use lib.ListN.{length, take}
 use native.Mathlib.Omega.{arith}
 use Rattle.metric.specs.declared.Profile.{Profile}
 use Rattle.metric.specs.Row.{Row}
-use Rattle.tree.specs.declared.range.Found.{Found}
-use Rattle.tree.specs.declared.nearest.Nearby.{Nearby}
+use Rattle.search.specs.declared.range.Found.{Found}
+use Rattle.search.specs.declared.nearest.Nearby.{Nearby}
 use Rattle.tree.specs.Guided.{All}
 use Rattle.tree.specs.Sorting.{sortBy}
-use Rattle.tree.specs.Range.{Entry, ordered, rangeTree}
-use Rattle.tree.specs.Nearest.{nearestTree}
-use Rattle.tree.specs.Heap.{Pair}
-use Rattle.tree.specs.Collected.{foundAfter, collected}
-use Rattle.tree.specs.Nearby.{Ready, Leaves}
-use Rattle.tree.proofs.RangeLaws.{range-count-le, range-hits-le, range-pairs}
-use Rattle.tree.proofs.Collecting.{collected-front}
-use Rattle.tree.proofs.NearSteps.{Sound, sound-tree, not-held, numbers, front}
+use Rattle.search.specs.Range.{Entry, ordered, rangeTree}
+use Rattle.search.specs.Nearest.{nearestTree}
+use Rattle.search.specs.Heap.{Pair}
+use Rattle.search.specs.Collected.{foundAfter, collected}
+use Rattle.search.specs.Nearby.{Ready, Leaves}
+use Rattle.search.proofs.RangeLaws.{range-count-le, range-hits-le, range-pairs}
+use Rattle.search.proofs.Collecting.{collected-front}
+use Rattle.search.proofs.NearSteps.{Sound, sound-tree, not-held, numbers, front}
 use Rattle.tree_export.specs.declared.Reply.{Reply}
 use Rattle.tree_export.specs.Replies.{rangeReply, nearestReply, nothingKept}
 

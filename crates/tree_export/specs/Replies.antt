@@ -2,8 +2,8 @@
 use mathlib.Core.List.{[]}
 use lib.ListN.{length}
 use Rattle.tree_export.specs.declared.Reply.{Reply}
-use Rattle.tree.specs.Range.{Met}
-use Rattle.tree.specs.Nearest.{Tally}
+use Rattle.search.specs.Range.{Met}
+use Rattle.search.specs.Nearest.{Tally}
 
 unfoldable pub rangeReply : Met → Reply
 rangeReply met = record { found = length (met .hits); distances = met .count }

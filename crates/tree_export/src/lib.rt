@@ -1,16 +1,32 @@
-// The searches of one tree under C names, for the measurement in bench/. The query is a row; its tag, threshold and mark play no part.
+// The build and the searches of one tree under C names, for the measurements in bench/. A query is a row; its tag, threshold and mark play no part.
 ghost use mathlib.Core.Path.{_≡_};
 ghost use Prim.Native.Nat.{_<_, _≤_, _^_};
 ghost use lib.ListN.{length, take};
 ghost use Rattle.metric.specs.Row.{profileOf};
 ghost use Rattle.metric.specs.Distance.{distance};
-ghost use Rattle.tree.specs.Range.{ordered, rangeTree};
-ghost use Rattle.tree.specs.Nearest.{nearestTree};
+ghost use Rattle.tree.specs.Layout.{layout, cost};
+ghost use Rattle.search.specs.Range.{ordered, rangeTree};
+ghost use Rattle.search.specs.Nearest.{nearestTree};
 ghost use Rattle.tree_export.specs.Replies.{rangeReply, nearestReply, nothingKept};
 use metric::Row;
-use tree::Entry;
-use tree::Found;
-use tree::Nearby;
+use search::Entry;
+use search::Found;
+use search::Nearby;
+
+// The build, where both areas have the same length, below 2^32.
+#[no_mangle]
+pub extern "C" fn tree_export_build(dst: &mut [Row], src: &mut [Row], metric: u32) -> u64
+    ensures laid { λ _. ⌜ (length (now (dst .entry)) ≡ length (now (src .entry)) → length (now (src .entry)) < 2 ^ 32 → now (dst .exit) ≡ layout (distance metric) (now (src .entry))) ⌝ }
+    ensures counted { λ r. ⌜ (length (now (dst .entry)) ≡ length (now (src .entry)) → length (now (src .entry)) < 2 ^ 32 → r ≡ cost (length (now (src .entry)))) ⌝ }
+{
+    if dst.len() != src.len() {
+        return 0;
+    }
+    if 0xffff_ffff < src.len() {
+        return 0;
+    }
+    tree::build(dst, src, metric)
+}
 
 // How many entries the area would hold, and how many distances were worked out.
 #[repr(C)]
@@ -37,7 +53,7 @@ pub extern "C" fn tree_export_range(
             distances: 0,
         };
     }
-    let f = tree::range_tree(
+    let f = search::range_tree(
         Found { hits: 0, count: 0 },
         slots,
         metric,
@@ -47,7 +63,7 @@ pub extern "C" fn tree_export_range(
     );
     let n = f.hits;
     if n <= area.len() {
-        tree::sort_entries(&mut area[..n]);
+        search::sort_entries(&mut area[..n]);
     }
     Reply {
         found: f.hits as u32,
@@ -73,7 +89,7 @@ pub extern "C" fn tree_export_nearest(
             distances: 0,
         };
     }
-    let n = tree::nearest_tree(
+    let n = search::nearest_tree(
         slots,
         metric,
         query,

@@ -1,0 +1,14 @@
+pub mod Selecting
+pub mod Pruning
+pub mod RangeLaws
+pub mod Collecting
+pub mod Keep
+pub mod NearestLaws
+pub mod Heap
+pub mod HeapSort
+pub mod Sliding
+pub mod Partition
+pub mod Nearing
+pub mod NearSteps
+pub mod Reaching
+pub mod OnLayout

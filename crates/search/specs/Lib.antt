@@ -1,0 +1,7 @@
+pub mod Range
+pub mod Reached
+pub mod Nearest
+pub mod Heap
+pub mod Parting
+pub mod Collected
+pub mod Nearby
