@@ -1,5 +1,5 @@
 // Measures the searches of one tree of 4,096 head, proved, beside two plain Rust programs: (a) a scan of a slice, and (b) the same tree with the
-// same visit rule. All three answer the same queries in the same run, and their answers and counts are compared. Run it by bench/search.sh.
+// same visit rule. All three answer the same queries in the same run, and their answers and counts are compared. Run it by bench/run.sh.
 use std::time::Instant;
 
 const HEAD: usize = 4096;
