@@ -1,7 +1,7 @@
 -- 01, "A head and its distance": the two metrics, and the laws that trees, searches and costs are shown from.
-use Prim.Native.Nat.{ℕ, zero, suc, _+_, _-_, _*_, _/_, _%_, _^_, _≤_, _<_, min}
+use Prim.Native.Nat.{ℕ, zero, suc, _+_, _-_, _/_, _%_, _^_, _≤_, _<_, min}
 use mathlib.Core.Path.{_≡_}
-use lib.IntN.{ℤ, _-ℤ_, natAbs}
+use lib.IntN.{_-ℤ_, natAbs}
 use lib.Bits.{differ}
 use Rattle.metric.specs.declared.Profile.{Profile}
 use Rattle.metric.specs.Row.{measure, codeWord}

@@ -1,7 +1,7 @@
 -- Plain operations on lists that the rules are written with. Nothing here is particular to the index.
 use Prim.Native.Nat.{ℕ, zero, suc, _+_}
 use mathlib.Core.Bool.{Bool, true, false, _&&_}
-use mathlib.Core.List.{List, [], _∷_, _++_, map}
+use mathlib.Core.List.{List, [], _∷_}
 use lib.Dec.{eqb}
 
 -- the n numbers from `first` on, in order

@@ -3,7 +3,7 @@
 -- the interface's ("A slot's row": the image's fields in the image's order, each number's low word first).
 use Prim.Native.Nat.{ℕ, _+_, _*_, _/_, _%_, _^_, _<_}
 use mathlib.Core.Path.{_≡_}
-use mathlib.Core.List.{List, [], _∷_, _++_, map}
+use mathlib.Core.List.{List, [], _∷_, _++_}
 use lib.IntN.{ℤ, pos}
 use lib.ListN.{length, getD, set, replicate}
 use mir.Syntax.{w32}

@@ -1,6 +1,6 @@
 -- `keep` is a fold of insertions, each cut to the first k: so it absorbs what was kept before, does not depend on the order of its list,
 -- and drops what is farther than the last of k kept. Entries are pairs, so two with the same key are the same.
-use Prim.Native.Nat.{ℕ, zero, suc, _+_, _≤_, _<_, min}
+use Prim.Native.Nat.{ℕ, zero, suc, _≤_, _<_, min}
 use mathlib.Core.Path.{_≡_, refl, sym, ap, ap₂, _∙_}
 use mathlib.Core.Logic.{⊎-elim}
 use mathlib.Core.Bool.{Bool, true, false}

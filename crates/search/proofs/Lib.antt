@@ -1,3 +1,4 @@
+-- The laws of range and nearest over one tree, for the proofs of this crate and for the crates above.
 pub mod Selecting
 pub mod Pruning
 pub mod RangeLaws

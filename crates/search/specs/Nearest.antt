@@ -1,5 +1,5 @@
 -- 01, "Searching", nearest: the visit of one tree's slots with the k best so far passed through every step.
-use Prim.Native.Nat.{ℕ, zero, suc, _+_}
+use Prim.Native.Nat.{ℕ, zero, suc}
 use mathlib.Core.Bool.{Bool, true, false, _||_}
 use mathlib.Core.List.{List, [], _∷_, foldl}
 use lib.ListN.{length, take, drop}

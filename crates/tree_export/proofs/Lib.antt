@@ -1,1 +1,2 @@
+-- What the exported calls promise, from what the searches leave.
 mod Replied
