@@ -1,3 +1,5 @@
+-- `tree::building::measure` meets its contract. The loop's invariant: the first i rows of both slices are the new ones, and i distances are worked out.
+-- Assumes nothing.
 use borrow.Author.Needs.{needs}
 use native.Mathlib.Omega.{arith}
 use native.Mathlib.Numerals.{add-one}

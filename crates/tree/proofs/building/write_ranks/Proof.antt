@@ -1,3 +1,5 @@
+-- `tree::building::write_ranks` meets its contract. The loop's invariant: the first i rows carry their ranks, and have all their words.
+-- Assumes nothing.
 use borrow.Author.Needs.{needs}
 use native.Mathlib.Omega.{arith}
 use native.Mathlib.Nat.{zero-add}
