@@ -50,225 +50,75 @@ abbrev build-part-below : ℕ → In 2 build-part-kinds.ps
 build-part-below t =
     and 2 build-part-kinds.ps (falls 2 build-part-kinds.ps _<_ μ-build-part t) build-part.Pre
 
-build-part-returns : (t : ℕ) → build-part-lts.Need-returns (
-  arrange-reads.Asked,
-  arrange-reads.Learnt,
-  last-distance-reads.Asked,
-  last-distance-reads.Learnt,
-  place-reads.Asked,
-  place-reads.Learnt,
-  build-part-below t,
-  build-part.Post,
-) (build-part-at t) build-part.Post
+abbrev build-part-callees : ℕ → build-part-lts.Claims
+build-part-callees t = (arrange-reads.Asked, arrange-reads.Learnt, last-distance-reads.Asked, last-distance-reads.Learnt, place-reads.Asked, place-reads.Learnt, build-part-below t, build-part.Post)
+
+build-part-returns : (t : ℕ) → build-part-lts.Need-returns (build-part-callees t) (build-part-at t) build-part.Post
 build-part-returns t c =
     let s = c .before in
     none-built (distance (s .args .metric)) (s .args .dst .now) (s .args .src .now) (s .pre .1 .0) (c .if1 .taken)
 
-build-part-arrange-requires : (t : ℕ) → build-part-lts.Need-arrange-requires (
-  arrange-reads.Asked,
-  arrange-reads.Learnt,
-  last-distance-reads.Asked,
-  last-distance-reads.Learnt,
-  place-reads.Asked,
-  place-reads.Learnt,
-  build-part-below t,
-  build-part.Post,
-) (build-part-at t) build-part.Post
+build-part-arrange-requires : (t : ℕ) → build-part-lts.Need-arrange-requires (build-part-callees t) (build-part-at t) build-part.Post
 build-part-arrange-requires t c κs =
     let s = c .before .before .before in
     (s .pre .1 .0, not-zero (length (s .args .src .now)) (c .before .before .if1 .left), s .pre .1 .3)
 
-build-part-add-end : (t : ℕ) → build-part-lts.Need-add-end (
-  arrange-reads.Asked,
-  arrange-reads.Learnt,
-  last-distance-reads.Asked,
-  last-distance-reads.Learnt,
-  place-reads.Asked,
-  place-reads.Learnt,
-  build-part-below t,
-  build-part.Post,
-) (build-part-at t) build-part.Post
+build-part-add-end : (t : ℕ) → build-part-lts.Need-add-end (build-part-callees t) (build-part-at t) build-part.Post
 build-part-add-end t c = omega arith
 
-build-part-slice-copy-out-place : (t : ℕ) → build-part-lts.Need-slice-copy-out-place (
-  arrange-reads.Asked,
-  arrange-reads.Learnt,
-  last-distance-reads.Asked,
-  last-distance-reads.Learnt,
-  place-reads.Asked,
-  place-reads.Learnt,
-  build-part-below t,
-  build-part.Post,
-) (build-part-at t) build-part.Post
+build-part-slice-copy-out-place : (t : ℕ) → build-part-lts.Need-slice-copy-out-place (build-part-callees t) (build-part-at t) build-part.Post
 build-part-slice-copy-out-place t c = omega arith
 
-build-part-last-distance-requires : (t : ℕ) → build-part-lts.Need-last-distance-requires (
-  arrange-reads.Asked,
-  arrange-reads.Learnt,
-  last-distance-reads.Asked,
-  last-distance-reads.Learnt,
-  place-reads.Asked,
-  place-reads.Learnt,
-  build-part-below t,
-  build-part.Post,
-) (build-part-at t) build-part.Post
+build-part-last-distance-requires : (t : ℕ) → build-part-lts.Need-last-distance-requires (build-part-callees t) (build-part-at t) build-part.Post
 build-part-last-distance-requires t c κs =
     omega (arith, c .before .before .before .before .arrange .kept .1 .0, not-zero (length (c .before .before .before .before .before .before .before .before .args .src .now)) (c .before .before .before .before .before .before .before .if1 .left))
 
-build-part-place-requires : (t : ℕ) → build-part-lts.Need-place-requires (
-  arrange-reads.Asked,
-  arrange-reads.Learnt,
-  last-distance-reads.Asked,
-  last-distance-reads.Learnt,
-  place-reads.Asked,
-  place-reads.Learnt,
-  build-part-below t,
-  build-part.Post,
-) (build-part-at t) build-part.Post
+build-part-place-requires : (t : ℕ) → build-part-lts.Need-place-requires (build-part-callees t) (build-part-at t) build-part.Post
 build-part-place-requires t c κs = search needs
 
-build-part-slice-set-from-src : (t : ℕ) → build-part-lts.Need-slice-set-from-src (
-  arrange-reads.Asked,
-  arrange-reads.Learnt,
-  last-distance-reads.Asked,
-  last-distance-reads.Learnt,
-  place-reads.Asked,
-  place-reads.Learnt,
-  build-part-below t,
-  build-part.Post,
-) (build-part-at t) build-part.Post
+build-part-slice-set-from-src : (t : ℕ) → build-part-lts.Need-slice-set-from-src (build-part-callees t) (build-part-at t) build-part.Post
 build-part-slice-set-from-src t c = omega arith
 
-build-part-slice-set-from-src-2 : (t : ℕ) → build-part-lts.Need-slice-set-from-src-2 (
-  arrange-reads.Asked,
-  arrange-reads.Learnt,
-  last-distance-reads.Asked,
-  last-distance-reads.Learnt,
-  place-reads.Asked,
-  place-reads.Learnt,
-  build-part-below t,
-  build-part.Post,
-) (build-part-at t) build-part.Post
+build-part-slice-set-from-src-2 : (t : ℕ) → build-part-lts.Need-slice-set-from-src-2 (build-part-callees t) (build-part-at t) build-part.Post
 build-part-slice-set-from-src-2 t c = omega arith
 
-build-part-sub-build-part : (t : ℕ) → build-part-lts.Need-sub-build-part (
-  arrange-reads.Asked,
-  arrange-reads.Learnt,
-  last-distance-reads.Asked,
-  last-distance-reads.Learnt,
-  place-reads.Asked,
-  place-reads.Learnt,
-  build-part-below t,
-  build-part.Post,
-) (build-part-at t) build-part.Post
+build-part-sub-build-part : (t : ℕ) → build-part-lts.Need-sub-build-part (build-part-callees t) (build-part-at t) build-part.Post
 build-part-sub-build-part t c = omega arith
 
-build-part-part-build-part-start : (t : ℕ) → build-part-lts.Need-part-build-part-start (
-  arrange-reads.Asked,
-  arrange-reads.Learnt,
-  last-distance-reads.Asked,
-  last-distance-reads.Learnt,
-  place-reads.Asked,
-  place-reads.Learnt,
-  build-part-below t,
-  build-part.Post,
-) (build-part-at t) build-part.Post
+build-part-part-build-part-start : (t : ℕ) → build-part-lts.Need-part-build-part-start (build-part-callees t) (build-part-at t) build-part.Post
 build-part-part-build-part-start t c = omega arith
 
-build-part-part-build-part-end : (t : ℕ) → build-part-lts.Need-part-build-part-end (
-  arrange-reads.Asked,
-  arrange-reads.Learnt,
-  last-distance-reads.Asked,
-  last-distance-reads.Learnt,
-  place-reads.Asked,
-  place-reads.Learnt,
-  build-part-below t,
-  build-part.Post,
-) (build-part-at t) build-part.Post
+build-part-part-build-part-end : (t : ℕ) → build-part-lts.Need-part-build-part-end (build-part-callees t) (build-part-at t) build-part.Post
 build-part-part-build-part-end t c =
     let s = c .before .before .before .before .before .before .before .before .before .before in
     let a = c .before .before .before .before .before .before .arrange in
     let x = c .place .result in
     omega (arith, length-set (a .last .0) 0 x, length-set (a .last .1 .0) 0 zeros, a .kept .0, a .kept .1 .0, s .pre .1 .0)
 
-build-part-sub-build-part-2 : (t : ℕ) → build-part-lts.Need-sub-build-part-2 (
-  arrange-reads.Asked,
-  arrange-reads.Learnt,
-  last-distance-reads.Asked,
-  last-distance-reads.Learnt,
-  place-reads.Asked,
-  place-reads.Learnt,
-  build-part-below t,
-  build-part.Post,
-) (build-part-at t) build-part.Post
+build-part-sub-build-part-2 : (t : ℕ) → build-part-lts.Need-sub-build-part-2 (build-part-callees t) (build-part-at t) build-part.Post
 build-part-sub-build-part-2 t c = omega arith
 
-build-part-part-build-part-start-2 : (t : ℕ) → build-part-lts.Need-part-build-part-start-2 (
-  arrange-reads.Asked,
-  arrange-reads.Learnt,
-  last-distance-reads.Asked,
-  last-distance-reads.Learnt,
-  place-reads.Asked,
-  place-reads.Learnt,
-  build-part-below t,
-  build-part.Post,
-) (build-part-at t) build-part.Post
+build-part-part-build-part-start-2 : (t : ℕ) → build-part-lts.Need-part-build-part-start-2 (build-part-callees t) (build-part-at t) build-part.Post
 build-part-part-build-part-start-2 t c = omega arith
 
-build-part-part-build-part-end-2 : (t : ℕ) → build-part-lts.Need-part-build-part-end-2 (
-  arrange-reads.Asked,
-  arrange-reads.Learnt,
-  last-distance-reads.Asked,
-  last-distance-reads.Learnt,
-  place-reads.Asked,
-  place-reads.Learnt,
-  build-part-below t,
-  build-part.Post,
-) (build-part-at t) build-part.Post
+build-part-part-build-part-end-2 : (t : ℕ) → build-part-lts.Need-part-build-part-end-2 (build-part-callees t) (build-part-at t) build-part.Post
 build-part-part-build-part-end-2 t c =
     let s = c .before .before .before .before .before .before .before .before .before .before .before in
     let a = c .before .before .before .before .before .before .before .arrange in
     let x = c .before .place .result in
     omega (arith, length-set (a .last .0) 0 x, length-set (a .last .1 .0) 0 zeros, a .kept .0, a .kept .1 .0, s .pre .1 .0)
 
-build-part-build-part-requires : (t : ℕ) → build-part-lts.Need-build-part-requires (
-  arrange-reads.Asked,
-  arrange-reads.Learnt,
-  last-distance-reads.Asked,
-  last-distance-reads.Learnt,
-  place-reads.Asked,
-  place-reads.Learnt,
-  build-part-below t,
-  build-part.Post,
-) (build-part-at t) build-part.Post
+build-part-build-part-requires : (t : ℕ) → build-part-lts.Need-build-part-requires (build-part-callees t) (build-part-at t) build-part.Post
 build-part-build-part-requires t c κs =
     let s = c .before .before .before .before .before .before .before .before .before .before .before .before in
     let a = c .before .before .before .before .before .before .before .before .arrange in
     let x = c .before .before .place .result in
     left-asks (distance (s .args .metric)) (s .args .src .now) (a .last .1 .0) (not-zero (length (s .args .src .now)) (c .before .before .before .before .before .before .before .before .before .before .before .if1 .left)) (s .pre .1 .1) (s .pre .1 .2) (s .pre .1 .3) (a .ensures .0) (a .last .0) (a .kept .0 ∙ s .pre .1 .0) x zeros t (s .pre .0)
 
-build-part-mul-build-part : (t : ℕ) → build-part-lts.Need-mul-build-part (
-  arrange-reads.Asked,
-  arrange-reads.Learnt,
-  last-distance-reads.Asked,
-  last-distance-reads.Learnt,
-  place-reads.Asked,
-  place-reads.Learnt,
-  build-part-below t,
-  build-part.Post,
-) (build-part-at t) build-part.Post
+build-part-mul-build-part : (t : ℕ) → build-part-lts.Need-mul-build-part (build-part-callees t) (build-part-at t) build-part.Post
 build-part-mul-build-part t c = omega arith
 
-build-part-sub-build-part-3 : (t : ℕ) → build-part-lts.Need-sub-build-part-3 (
-  arrange-reads.Asked,
-  arrange-reads.Learnt,
-  last-distance-reads.Asked,
-  last-distance-reads.Learnt,
-  place-reads.Asked,
-  place-reads.Learnt,
-  build-part-below t,
-  build-part.Post,
-) (build-part-at t) build-part.Post
+build-part-sub-build-part-3 : (t : ℕ) → build-part-lts.Need-sub-build-part-3 (build-part-callees t) (build-part-at t) build-part.Post
 build-part-sub-build-part-3 t c =
     let s = c .before .before .before .before .before .before .before .before .before .before .before .before .before .before .before in
     let a = c .before .before .before .before .before .before .before .before .before .before .before .arrange in
@@ -276,16 +126,7 @@ build-part-sub-build-part-3 t c =
     let b = c .before .before .build-part in
     omega (arith, target-length (distance (s .args .metric)) (s .args .src .now) (a .last .1 .0) (not-zero (length (s .args .src .now)) (c .before .before .before .before .before .before .before .before .before .before .before .before .before .before .if1 .left)) (s .pre .1 .1) (s .pre .1 .2) (s .pre .1 .3) (a .ensures .0) (a .last .0) (a .kept .0 ∙ s .pre .1 .0) x zeros (b .last .0) (b .last .1 .0) (b .kept .0) (b .kept .1 .0), source-length (distance (s .args .metric)) (s .args .src .now) (a .last .1 .0) (not-zero (length (s .args .src .now)) (c .before .before .before .before .before .before .before .before .before .before .before .before .before .before .if1 .left)) (s .pre .1 .1) (s .pre .1 .2) (s .pre .1 .3) (a .ensures .0) (a .last .0) (a .kept .0 ∙ s .pre .1 .0) x zeros (b .last .0) (b .last .1 .0) (b .kept .0) (b .kept .1 .0))
 
-build-part-part-build-part-start-3 : (t : ℕ) → build-part-lts.Need-part-build-part-start-3 (
-  arrange-reads.Asked,
-  arrange-reads.Learnt,
-  last-distance-reads.Asked,
-  last-distance-reads.Learnt,
-  place-reads.Asked,
-  place-reads.Learnt,
-  build-part-below t,
-  build-part.Post,
-) (build-part-at t) build-part.Post
+build-part-part-build-part-start-3 : (t : ℕ) → build-part-lts.Need-part-build-part-start-3 (build-part-callees t) (build-part-at t) build-part.Post
 build-part-part-build-part-start-3 t c =
     let s = c .before .before .before .before .before .before .before .before .before .before .before .before .before .before .before in
     let a = c .before .before .before .before .before .before .before .before .before .before .before .arrange in
@@ -293,40 +134,13 @@ build-part-part-build-part-start-3 t c =
     let b = c .before .before .build-part in
     omega (arith, target-length (distance (s .args .metric)) (s .args .src .now) (a .last .1 .0) (not-zero (length (s .args .src .now)) (c .before .before .before .before .before .before .before .before .before .before .before .before .before .before .if1 .left)) (s .pre .1 .1) (s .pre .1 .2) (s .pre .1 .3) (a .ensures .0) (a .last .0) (a .kept .0 ∙ s .pre .1 .0) x zeros (b .last .0) (b .last .1 .0) (b .kept .0) (b .kept .1 .0), source-length (distance (s .args .metric)) (s .args .src .now) (a .last .1 .0) (not-zero (length (s .args .src .now)) (c .before .before .before .before .before .before .before .before .before .before .before .before .before .before .if1 .left)) (s .pre .1 .1) (s .pre .1 .2) (s .pre .1 .3) (a .ensures .0) (a .last .0) (a .kept .0 ∙ s .pre .1 .0) x zeros (b .last .0) (b .last .1 .0) (b .kept .0) (b .kept .1 .0))
 
-build-part-part-build-part-end-3 : (t : ℕ) → build-part-lts.Need-part-build-part-end-3 (
-  arrange-reads.Asked,
-  arrange-reads.Learnt,
-  last-distance-reads.Asked,
-  last-distance-reads.Learnt,
-  place-reads.Asked,
-  place-reads.Learnt,
-  build-part-below t,
-  build-part.Post,
-) (build-part-at t) build-part.Post
+build-part-part-build-part-end-3 : (t : ℕ) → build-part-lts.Need-part-build-part-end-3 (build-part-callees t) (build-part-at t) build-part.Post
 build-part-part-build-part-end-3 t c = omega arith
 
-build-part-mul-build-part-2 : (t : ℕ) → build-part-lts.Need-mul-build-part-2 (
-  arrange-reads.Asked,
-  arrange-reads.Learnt,
-  last-distance-reads.Asked,
-  last-distance-reads.Learnt,
-  place-reads.Asked,
-  place-reads.Learnt,
-  build-part-below t,
-  build-part.Post,
-) (build-part-at t) build-part.Post
+build-part-mul-build-part-2 : (t : ℕ) → build-part-lts.Need-mul-build-part-2 (build-part-callees t) (build-part-at t) build-part.Post
 build-part-mul-build-part-2 t c = omega arith
 
-build-part-sub-build-part-4 : (t : ℕ) → build-part-lts.Need-sub-build-part-4 (
-  arrange-reads.Asked,
-  arrange-reads.Learnt,
-  last-distance-reads.Asked,
-  last-distance-reads.Learnt,
-  place-reads.Asked,
-  place-reads.Learnt,
-  build-part-below t,
-  build-part.Post,
-) (build-part-at t) build-part.Post
+build-part-sub-build-part-4 : (t : ℕ) → build-part-lts.Need-sub-build-part-4 (build-part-callees t) (build-part-at t) build-part.Post
 build-part-sub-build-part-4 t c =
     let s = c .before .before .before .before .before .before .before .before .before .before .before .before .before .before .before .before in
     let a = c .before .before .before .before .before .before .before .before .before .before .before .before .arrange in
@@ -334,16 +148,7 @@ build-part-sub-build-part-4 t c =
     let b = c .before .before .before .build-part in
     omega (arith, target-length (distance (s .args .metric)) (s .args .src .now) (a .last .1 .0) (not-zero (length (s .args .src .now)) (c .before .before .before .before .before .before .before .before .before .before .before .before .before .before .before .if1 .left)) (s .pre .1 .1) (s .pre .1 .2) (s .pre .1 .3) (a .ensures .0) (a .last .0) (a .kept .0 ∙ s .pre .1 .0) x zeros (b .last .0) (b .last .1 .0) (b .kept .0) (b .kept .1 .0), source-length (distance (s .args .metric)) (s .args .src .now) (a .last .1 .0) (not-zero (length (s .args .src .now)) (c .before .before .before .before .before .before .before .before .before .before .before .before .before .before .before .if1 .left)) (s .pre .1 .1) (s .pre .1 .2) (s .pre .1 .3) (a .ensures .0) (a .last .0) (a .kept .0 ∙ s .pre .1 .0) x zeros (b .last .0) (b .last .1 .0) (b .kept .0) (b .kept .1 .0))
 
-build-part-part-build-part-start-4 : (t : ℕ) → build-part-lts.Need-part-build-part-start-4 (
-  arrange-reads.Asked,
-  arrange-reads.Learnt,
-  last-distance-reads.Asked,
-  last-distance-reads.Learnt,
-  place-reads.Asked,
-  place-reads.Learnt,
-  build-part-below t,
-  build-part.Post,
-) (build-part-at t) build-part.Post
+build-part-part-build-part-start-4 : (t : ℕ) → build-part-lts.Need-part-build-part-start-4 (build-part-callees t) (build-part-at t) build-part.Post
 build-part-part-build-part-start-4 t c =
     let s = c .before .before .before .before .before .before .before .before .before .before .before .before .before .before .before .before in
     let a = c .before .before .before .before .before .before .before .before .before .before .before .before .arrange in
@@ -351,28 +156,10 @@ build-part-part-build-part-start-4 t c =
     let b = c .before .before .before .build-part in
     omega (arith, target-length (distance (s .args .metric)) (s .args .src .now) (a .last .1 .0) (not-zero (length (s .args .src .now)) (c .before .before .before .before .before .before .before .before .before .before .before .before .before .before .before .if1 .left)) (s .pre .1 .1) (s .pre .1 .2) (s .pre .1 .3) (a .ensures .0) (a .last .0) (a .kept .0 ∙ s .pre .1 .0) x zeros (b .last .0) (b .last .1 .0) (b .kept .0) (b .kept .1 .0), source-length (distance (s .args .metric)) (s .args .src .now) (a .last .1 .0) (not-zero (length (s .args .src .now)) (c .before .before .before .before .before .before .before .before .before .before .before .before .before .before .before .if1 .left)) (s .pre .1 .1) (s .pre .1 .2) (s .pre .1 .3) (a .ensures .0) (a .last .0) (a .kept .0 ∙ s .pre .1 .0) x zeros (b .last .0) (b .last .1 .0) (b .kept .0) (b .kept .1 .0))
 
-build-part-part-build-part-end-4 : (t : ℕ) → build-part-lts.Need-part-build-part-end-4 (
-  arrange-reads.Asked,
-  arrange-reads.Learnt,
-  last-distance-reads.Asked,
-  last-distance-reads.Learnt,
-  place-reads.Asked,
-  place-reads.Learnt,
-  build-part-below t,
-  build-part.Post,
-) (build-part-at t) build-part.Post
+build-part-part-build-part-end-4 : (t : ℕ) → build-part-lts.Need-part-build-part-end-4 (build-part-callees t) (build-part-at t) build-part.Post
 build-part-part-build-part-end-4 t c = omega arith
 
-build-part-build-part-requires-2 : (t : ℕ) → build-part-lts.Need-build-part-requires-2 (
-  arrange-reads.Asked,
-  arrange-reads.Learnt,
-  last-distance-reads.Asked,
-  last-distance-reads.Learnt,
-  place-reads.Asked,
-  place-reads.Learnt,
-  build-part-below t,
-  build-part.Post,
-) (build-part-at t) build-part.Post
+build-part-build-part-requires-2 : (t : ℕ) → build-part-lts.Need-build-part-requires-2 (build-part-callees t) (build-part-at t) build-part.Post
 build-part-build-part-requires-2 t c κs =
     let s = c .before .before .before .before .before .before .before .before .before .before .before .before .before .before .before .before .before in
     let a = c .before .before .before .before .before .before .before .before .before .before .before .before .before .arrange in
@@ -380,16 +167,7 @@ build-part-build-part-requires-2 t c κs =
     let b = c .before .before .before .before .build-part in
     right-asks (distance (s .args .metric)) (s .args .src .now) (a .last .1 .0) (not-zero (length (s .args .src .now)) (c .before .before .before .before .before .before .before .before .before .before .before .before .before .before .before .before .if1 .left)) (s .pre .1 .1) (s .pre .1 .2) (s .pre .1 .3) (a .ensures .0) (a .last .0) (a .kept .0 ∙ s .pre .1 .0) x zeros (b .last .0) (b .last .1 .0) (b .kept .0) (b .kept .1 .0) t (s .pre .0)
 
-build-part-add-result : (t : ℕ) → build-part-lts.Need-add-result (
-  arrange-reads.Asked,
-  arrange-reads.Learnt,
-  last-distance-reads.Asked,
-  last-distance-reads.Learnt,
-  place-reads.Asked,
-  place-reads.Learnt,
-  build-part-below t,
-  build-part.Post,
-) (build-part-at t) build-part.Post
+build-part-add-result : (t : ℕ) → build-part-lts.Need-add-result (build-part-callees t) (build-part-at t) build-part.Post
 build-part-add-result t c =
     let s = c .before .before .before .before .before .before .before .before .before .before .before .before .before .before .before .before .before .before .before .before in
     let a = c .before .before .before .before .before .before .before .before .before .before .before .before .before .before .before .before .arrange in
@@ -398,16 +176,7 @@ build-part-add-result t c =
     let d = c .before .before .build-part2 in
     omega (arith, part-count (distance (s .args .metric)) (s .args .src .now) (a .last .1 .0) (not-zero (length (s .args .src .now)) (c .before .before .before .before .before .before .before .before .before .before .before .before .before .before .before .before .before .before .before .if1 .left)) (s .pre .1 .1) (s .pre .1 .2) (s .pre .1 .3) (a .ensures .0) (a .last .0) (a .kept .0 ∙ s .pre .1 .0) x zeros (b .last .0) (b .last .1 .0) (b .kept .0) (b .kept .1 .0) (a .result) (b .result) (d .result) (a .ensures .1) (b .ensures .1 .1) (d .ensures .1 .1), cost-bound 32 (length (s .args .src .now)) (s .pre .1 .1))
 
-build-part-add-result-2 : (t : ℕ) → build-part-lts.Need-add-result-2 (
-  arrange-reads.Asked,
-  arrange-reads.Learnt,
-  last-distance-reads.Asked,
-  last-distance-reads.Learnt,
-  place-reads.Asked,
-  place-reads.Learnt,
-  build-part-below t,
-  build-part.Post,
-) (build-part-at t) build-part.Post
+build-part-add-result-2 : (t : ℕ) → build-part-lts.Need-add-result-2 (build-part-callees t) (build-part-at t) build-part.Post
 build-part-add-result-2 t c =
     let s = c .before .before .before .before .before .before .before .before .before .before .before .before .before .before .before .before .before .before .before .before in
     let a = c .before .before .before .before .before .before .before .before .before .before .before .before .before .before .before .before .arrange in
@@ -416,16 +185,7 @@ build-part-add-result-2 t c =
     let d = c .before .before .build-part2 in
     omega (arith, part-count (distance (s .args .metric)) (s .args .src .now) (a .last .1 .0) (not-zero (length (s .args .src .now)) (c .before .before .before .before .before .before .before .before .before .before .before .before .before .before .before .before .before .before .before .if1 .left)) (s .pre .1 .1) (s .pre .1 .2) (s .pre .1 .3) (a .ensures .0) (a .last .0) (a .kept .0 ∙ s .pre .1 .0) x zeros (b .last .0) (b .last .1 .0) (b .kept .0) (b .kept .1 .0) (a .result) (b .result) (d .result) (a .ensures .1) (b .ensures .1 .1) (d .ensures .1 .1), cost-bound 32 (length (s .args .src .now)) (s .pre .1 .1))
 
-build-part-same-length : (t : ℕ) → build-part-lts.Need-same-length (
-  arrange-reads.Asked,
-  arrange-reads.Learnt,
-  last-distance-reads.Asked,
-  last-distance-reads.Learnt,
-  place-reads.Asked,
-  place-reads.Learnt,
-  build-part-below t,
-  build-part.Post,
-) (build-part-at t) build-part.Post
+build-part-same-length : (t : ℕ) → build-part-lts.Need-same-length (build-part-callees t) (build-part-at t) build-part.Post
 build-part-same-length t c =
     let s = c .before .before .before .before .before .before .before .before .before .before .before .before .before .before .before .before .before .before .before .before in
     let a = c .before .before .before .before .before .before .before .before .before .before .before .before .before .before .before .before .arrange in
@@ -434,16 +194,7 @@ build-part-same-length t c =
     let d = c .before .before .build-part2 in
     target-back-length (distance (s .args .metric)) (s .args .src .now) (a .last .1 .0) (not-zero (length (s .args .src .now)) (c .before .before .before .before .before .before .before .before .before .before .before .before .before .before .before .before .before .before .before .if1 .left)) (s .pre .1 .1) (s .pre .1 .2) (s .pre .1 .3) (a .ensures .0) (a .last .0) (a .kept .0 ∙ s .pre .1 .0) x zeros (b .last .0) (b .last .1 .0) (b .kept .0) (b .kept .1 .0) (d .last .0) (d .kept .0) ∙ a .kept .0
 
-build-part-same-length-2 : (t : ℕ) → build-part-lts.Need-same-length-2 (
-  arrange-reads.Asked,
-  arrange-reads.Learnt,
-  last-distance-reads.Asked,
-  last-distance-reads.Learnt,
-  place-reads.Asked,
-  place-reads.Learnt,
-  build-part-below t,
-  build-part.Post,
-) (build-part-at t) build-part.Post
+build-part-same-length-2 : (t : ℕ) → build-part-lts.Need-same-length-2 (build-part-callees t) (build-part-at t) build-part.Post
 build-part-same-length-2 t c =
     let s = c .before .before .before .before .before .before .before .before .before .before .before .before .before .before .before .before .before .before .before .before in
     let a = c .before .before .before .before .before .before .before .before .before .before .before .before .before .before .before .before .arrange in
@@ -452,16 +203,7 @@ build-part-same-length-2 t c =
     let d = c .before .before .build-part2 in
     source-back-length (distance (s .args .metric)) (s .args .src .now) (a .last .1 .0) (not-zero (length (s .args .src .now)) (c .before .before .before .before .before .before .before .before .before .before .before .before .before .before .before .before .before .before .before .if1 .left)) (s .pre .1 .1) (s .pre .1 .2) (s .pre .1 .3) (a .ensures .0) (a .last .0) (a .kept .0 ∙ s .pre .1 .0) x zeros (b .last .0) (b .last .1 .0) (b .kept .0) (b .kept .1 .0) (d .last .1 .0) (d .kept .1 .0)
 
-build-part-returns-2 : (t : ℕ) → build-part-lts.Need-returns-2 (
-  arrange-reads.Asked,
-  arrange-reads.Learnt,
-  last-distance-reads.Asked,
-  last-distance-reads.Learnt,
-  place-reads.Asked,
-  place-reads.Learnt,
-  build-part-below t,
-  build-part.Post,
-) (build-part-at t) build-part.Post
+build-part-returns-2 : (t : ℕ) → build-part-lts.Need-returns-2 (build-part-callees t) (build-part-at t) build-part.Post
 unfolding zeroRow
 build-part-returns-2 t c =
     let s = c .before .before .before .before .before .before .before .before .before .before .before .before .before .before .before .before .before .before .before .before in
@@ -480,16 +222,7 @@ build-part-returns-2 t c =
     )
 
 pub +build-part-spec : {M : Type 1} → statement M
-+build-part-spec = close μ-build-part λ t. build-part-lts.spec (
-  arrange-reads.Asked,
-  arrange-reads.Learnt,
-  last-distance-reads.Asked,
-  last-distance-reads.Learnt,
-  place-reads.Asked,
-  place-reads.Learnt,
-  build-part-below t,
-  build-part.Post,
-)
++build-part-spec = close μ-build-part λ t. build-part-lts.spec (build-part-callees t)
     (build-part-at t)
     build-part.Post
     (build-part-returns t)

@@ -90,83 +90,41 @@ abbrev in-place-below : ℕ → In 1 in-place-kinds.ps
 in-place-below t =
     and 1 in-place-kinds.ps (falls 1 in-place-kinds.ps _<_ μ-in-place t) in-place.Pre
 
-in-place-returns : (t : ℕ) → in-place-lts.Need-returns (
-  slot-in-place-reads.Asked,
-  slot-in-place-reads.Learnt,
-  in-place-below t,
-  in-place.Post,
-) (in-place-at t) in-place.Post
+abbrev in-place-callees : ℕ → in-place-lts.Claims
+in-place-callees t = (slot-in-place-reads.Asked, slot-in-place-reads.Learnt, in-place-below t, in-place.Post)
+
+in-place-returns : (t : ℕ) → in-place-lts.Need-returns (in-place-callees t) (in-place-at t) in-place.Post
 in-place-returns t c = sym (none-tested (distance (c .before .args .metric)) (c .before .args .slots .now) (c .if1 .taken))
 
-in-place-slot-in-place-requires : (t : ℕ) → in-place-lts.Need-slot-in-place-requires (
-  slot-in-place-reads.Asked,
-  slot-in-place-reads.Learnt,
-  in-place-below t,
-  in-place.Post,
-) (in-place-at t) in-place.Post
+in-place-slot-in-place-requires : (t : ℕ) → in-place-lts.Need-slot-in-place-requires (in-place-callees t) (in-place-at t) in-place.Post
 in-place-slot-in-place-requires t c κs = not-zero (length (c .before .args .slots .now)) (c .if1 .left)
 
-in-place-returns-2 : (t : ℕ) → in-place-lts.Need-returns-2 (
-  slot-in-place-reads.Asked,
-  slot-in-place-reads.Learnt,
-  in-place-below t,
-  in-place.Post,
-) (in-place-at t) in-place.Post
+in-place-returns-2 : (t : ℕ) → in-place-lts.Need-returns-2 (in-place-callees t) (in-place-at t) in-place.Post
 in-place-returns-2 t c =
     let s = c .before .before .before in
     let i = c .before .slot-in-place in
     sym (first-tested (s .args .metric) (s .args .slots .now) (c .before .before .if1 .left) false (sym (i .ensures) ∙ not-true (i .result) (c .if2 .taken)))
 
-in-place-add-in-place : (t : ℕ) → in-place-lts.Need-add-in-place (
-  slot-in-place-reads.Asked,
-  slot-in-place-reads.Learnt,
-  in-place-below t,
-  in-place.Post,
-) (in-place-at t) in-place.Post
+in-place-add-in-place : (t : ℕ) → in-place-lts.Need-add-in-place (in-place-callees t) (in-place-at t) in-place.Post
 in-place-add-in-place t c = omega arith
 
-in-place-sub-in-place : (t : ℕ) → in-place-lts.Need-sub-in-place (
-  slot-in-place-reads.Asked,
-  slot-in-place-reads.Learnt,
-  in-place-below t,
-  in-place.Post,
-) (in-place-at t) in-place.Post
+in-place-sub-in-place : (t : ℕ) → in-place-lts.Need-sub-in-place (in-place-callees t) (in-place-at t) in-place.Post
 in-place-sub-in-place t c = omega arith
 
-in-place-part-in-place-start : (t : ℕ) → in-place-lts.Need-part-in-place-start (
-  slot-in-place-reads.Asked,
-  slot-in-place-reads.Learnt,
-  in-place-below t,
-  in-place.Post,
-) (in-place-at t) in-place.Post
+in-place-part-in-place-start : (t : ℕ) → in-place-lts.Need-part-in-place-start (in-place-callees t) (in-place-at t) in-place.Post
 in-place-part-in-place-start t c = omega arith
 
-in-place-part-in-place-end : (t : ℕ) → in-place-lts.Need-part-in-place-end (
-  slot-in-place-reads.Asked,
-  slot-in-place-reads.Learnt,
-  in-place-below t,
-  in-place.Post,
-) (in-place-at t) in-place.Post
+in-place-part-in-place-end : (t : ℕ) → in-place-lts.Need-part-in-place-end (in-place-callees t) (in-place-at t) in-place.Post
 in-place-part-in-place-end t c = omega arith
 
-in-place-in-place-requires : (t : ℕ) → in-place-lts.Need-in-place-requires (
-  slot-in-place-reads.Asked,
-  slot-in-place-reads.Learnt,
-  in-place-below t,
-  in-place.Post,
-) (in-place-at t) in-place.Post
+in-place-in-place-requires : (t : ℕ) → in-place-lts.Need-in-place-requires (in-place-callees t) (in-place-at t) in-place.Post
 in-place-in-place-requires t c κs =
     let s = c .before .before .before .before in
     let l : length (take (1 + length (s .args .slots .now) / 2 - 1) (drop 1 (s .args .slots .now))) < t =
     left-less (s .args .slots .now) t (s .pre .0) (c .before .before .before .if1 .left) in
     (l, tt)
 
-in-place-returns-3 : (t : ℕ) → in-place-lts.Need-returns-3 (
-  slot-in-place-reads.Asked,
-  slot-in-place-reads.Learnt,
-  in-place-below t,
-  in-place.Post,
-) (in-place-at t) in-place.Post
+in-place-returns-3 : (t : ℕ) → in-place-lts.Need-returns-3 (in-place-callees t) (in-place-at t) in-place.Post
 in-place-returns-3 t c =
     let s = c .before .before .before .before .before .before in
     let i = c .before .before .before .before .slot-in-place in
@@ -174,64 +132,29 @@ in-place-returns-3 t c =
     sym (left-tested (s .args .metric) (s .args .slots .now) (c .before .before .before .before .before .if1 .left) false (sym (i .ensures) ∙ not-false (i .result) (c .before .before .before .if2 .left))
     (sym (l .ensures) ∙ not-true (l .result) (c .if3 .taken)))
 
-in-place-add-in-place-2 : (t : ℕ) → in-place-lts.Need-add-in-place-2 (
-  slot-in-place-reads.Asked,
-  slot-in-place-reads.Learnt,
-  in-place-below t,
-  in-place.Post,
-) (in-place-at t) in-place.Post
+in-place-add-in-place-2 : (t : ℕ) → in-place-lts.Need-add-in-place-2 (in-place-callees t) (in-place-at t) in-place.Post
 in-place-add-in-place-2 t c = omega arith
 
-in-place-mul-in-place : (t : ℕ) → in-place-lts.Need-mul-in-place (
-  slot-in-place-reads.Asked,
-  slot-in-place-reads.Learnt,
-  in-place-below t,
-  in-place.Post,
-) (in-place-at t) in-place.Post
+in-place-mul-in-place : (t : ℕ) → in-place-lts.Need-mul-in-place (in-place-callees t) (in-place-at t) in-place.Post
 in-place-mul-in-place t c = omega arith
 
-in-place-sub-in-place-2 : (t : ℕ) → in-place-lts.Need-sub-in-place-2 (
-  slot-in-place-reads.Asked,
-  slot-in-place-reads.Learnt,
-  in-place-below t,
-  in-place.Post,
-) (in-place-at t) in-place.Post
+in-place-sub-in-place-2 : (t : ℕ) → in-place-lts.Need-sub-in-place-2 (in-place-callees t) (in-place-at t) in-place.Post
 in-place-sub-in-place-2 t c = omega arith
 
-in-place-part-in-place-start-2 : (t : ℕ) → in-place-lts.Need-part-in-place-start-2 (
-  slot-in-place-reads.Asked,
-  slot-in-place-reads.Learnt,
-  in-place-below t,
-  in-place.Post,
-) (in-place-at t) in-place.Post
+in-place-part-in-place-start-2 : (t : ℕ) → in-place-lts.Need-part-in-place-start-2 (in-place-callees t) (in-place-at t) in-place.Post
 in-place-part-in-place-start-2 t c = omega arith
 
-in-place-part-in-place-end-2 : (t : ℕ) → in-place-lts.Need-part-in-place-end-2 (
-  slot-in-place-reads.Asked,
-  slot-in-place-reads.Learnt,
-  in-place-below t,
-  in-place.Post,
-) (in-place-at t) in-place.Post
+in-place-part-in-place-end-2 : (t : ℕ) → in-place-lts.Need-part-in-place-end-2 (in-place-callees t) (in-place-at t) in-place.Post
 in-place-part-in-place-end-2 t c = omega arith
 
-in-place-in-place-requires-2 : (t : ℕ) → in-place-lts.Need-in-place-requires-2 (
-  slot-in-place-reads.Asked,
-  slot-in-place-reads.Learnt,
-  in-place-below t,
-  in-place.Post,
-) (in-place-at t) in-place.Post
+in-place-in-place-requires-2 : (t : ℕ) → in-place-lts.Need-in-place-requires-2 (in-place-callees t) (in-place-at t) in-place.Post
 in-place-in-place-requires-2 t c κs =
     let s = c .before .before .before .before .before .before .before in
     let l : length (take (length (s .args .slots .now) - (1 + length (s .args .slots .now) / 2)) (drop (1 + length (s .args .slots .now) / 2) (s .args .slots .now))) < t =
     right-less (s .args .slots .now) t (s .pre .0) (c .before .before .before .before .before .before .if1 .left) in
     (l, tt)
 
-in-place-returns-4 : (t : ℕ) → in-place-lts.Need-returns-4 (
-  slot-in-place-reads.Asked,
-  slot-in-place-reads.Learnt,
-  in-place-below t,
-  in-place.Post,
-) (in-place-at t) in-place.Post
+in-place-returns-4 : (t : ℕ) → in-place-lts.Need-returns-4 (in-place-callees t) (in-place-at t) in-place.Post
 in-place-returns-4 t c =
     let s = c .before .before .before .before .before .before .before .before in
     let i = c .before .before .before .before .before .before .slot-in-place in
@@ -241,12 +164,7 @@ in-place-returns-4 t c =
     (sym (l .ensures) ∙ not-false (l .result) (c .before .before .if3 .left)))
 
 pub +in-place-spec : {M : Type 1} → statement M
-+in-place-spec = close μ-in-place λ t. in-place-lts.spec (
-  slot-in-place-reads.Asked,
-  slot-in-place-reads.Learnt,
-  in-place-below t,
-  in-place.Post,
-)
++in-place-spec = close μ-in-place λ t. in-place-lts.spec (in-place-callees t)
     (in-place-at t)
     in-place.Post
     (in-place-returns t)
