@@ -5,46 +5,25 @@ use mathlib.Core.Path.{_≡_, refl, sym, ap, ap₂, _∙_}
 use mathlib.Core.List.{List, [], _∷_, _++_, map, append-assoc, flatten}
 use native.Mathlib.Nat.{mul-suc, le-of-suc-le-suc, not-suc-le-zero}
 use native.Mathlib.Omega.{arith}
-use lib.ListN.{length, getD, take, drop, length-append}
+use lib.ListN.{length, getD, length-append}
 use lib.Seq.{getD-at}
 use Rattle.metric.specs.Lists.{total, countFrom}
 use Rattle.metric.specs.Row.{word}
 use Rattle.tree.specs.Guided.{All}
+use Rattle.tree.proofs.Lists.{all-append}
 
--- what holds of every element holds of parts of the list and of the lists it is put together from
+-- what holds of every element of some lists holds of every element of them put end to end, and of the one at a place
 module _ {A : Type 0} (P : A → Type 0) where
-  pub all-of : ((x : A) → P x) → (xs : List A) → All P xs
-  all-of f [] = tt
-  all-of f (x ∷ xs) = (f x, all-of f xs)
-
-  pub all-map : (Q : A → Type 0) → ((x : A) → P x → Q x) → (xs : List A) → All P xs → All Q xs
-  all-map Q f [] h = tt
-  all-map Q f (x ∷ xs) h = (f x (h .0), all-map Q f xs (h .1))
-
-  all-append : (xs ys : List A) → All P xs → All P ys → All P (xs ++ ys)
-  all-append [] ys h g = g
-  all-append (x ∷ xs) ys h g = (h .0, all-append xs ys (h .1) g)
-
   pub all-flatten : (s : ℕ → List A) (a n : ℕ) → ((k : ℕ) → k < a + n → All P (s k)) → All P (flatten (map s (countFrom a n)))
   unfolding flatten countFrom
   all-flatten s a zero h = tt
   all-flatten s a (suc n) h =
-      all-append (s a) (flatten (map s (countFrom (suc a) n))) (h a (omega arith)) (all-flatten s (suc a) n (λ k l. h k (omega arith)))
+      all-append P (s a) (flatten (map s (countFrom (suc a) n))) (h a (omega arith)) (all-flatten s (suc a) n (λ k l. h k (omega arith)))
 
   pub all-at : (xs : List A) (i : ℕ) (d : A) → All P xs → i < length xs → P (getD xs i d)
   all-at [] i d h l = absurd (not-suc-le-zero l)
   all-at (x ∷ xs) zero d h l = h .0
   all-at (x ∷ xs) (suc i) d h l = all-at xs i d (h .1) (le-of-suc-le-suc l)
-
-  pub all-take : (n : ℕ) (xs : List A) → All P xs → All P (take n xs)
-  all-take zero xs h = tt
-  all-take (suc n) [] h = tt
-  all-take (suc n) (x ∷ xs) h = (h .0, all-take n xs (h .1))
-
-  pub all-drop : (n : ℕ) (xs : List A) → All P xs → All P (drop n xs)
-  all-drop zero xs h = h
-  all-drop (suc n) [] h = tt
-  all-drop (suc n) (x ∷ xs) h = all-drop n xs (h .1)
 
 -- what holds of the element at every place holds of every element
 pub all-words : (xs : List ℕ) → ((i : ℕ) → word xs i < 2 ^ 32) → All (λ x. x < 2 ^ 32) xs

@@ -8,7 +8,8 @@ use native.Mathlib.Omega.{arith}
 use lib.ListN.{length, length-append}
 use lib.Seq.{take-at, drop-at}
 use Rattle.tree.specs.Guided.{All}
-use Rattle.image.proofs.Blocks.{all-of, length-blocks}
+use Rattle.tree.proofs.Lists.{all-always}
+use Rattle.image.proofs.Blocks.{length-blocks}
 use Rattle.image.specs.Bytes.{bytesOf, numberOf, bytesOfWords, wordBytes}
 use Rattle.image.specs.Read.{numberAt, wordsAt}
 
@@ -26,7 +27,7 @@ number-bytes (suc w) n h =
 
 pub length-words : (ws : List ℕ) → length (bytesOfWords ws) ≡ 4 * length ws
 unfolding bytesOfWords wordBytes
-length-words ws = length-blocks (bytesOf 4) 4 ws (all-of (λ x. length (bytesOf 4 x) ≡ 4) (length-bytes 4) ws)
+length-words ws = length-blocks (bytesOf 4) 4 ws (all-always {P = λ x. length (bytesOf 4 x) ≡ 4} (length-bytes 4) ws)
 
 -- what stands after a list of length `at`
 pub number-at : (a : List ℕ) (w n : ℕ) (c : List ℕ) (at : ℕ) → length a ≡ at → n < 256 ^ w → numberAt (a ++ (bytesOf w n ++ c)) w at ≡ n

@@ -9,13 +9,14 @@ use lib.ListN.{length, getD, take, drop, length-append, length-take, length-drop
 use Rattle.metric.specs.Lists.{total, countFrom}
 use Rattle.metric.specs.Row.{Row, IsRow, rowWidth}
 use Rattle.tree.specs.Guided.{All}
+use Rattle.tree.proofs.Lists.{all-always, all-weaken, all-take, all-drop}
 use Rattle.bucket.specs.Geometry.{bucketsOf}
 use Rattle.bucket.specs.Table.{Table, orderOf, metricOf, builtOf, liveOf, slotsOf}
 use Rattle.image.specs.Bytes.{bytesOf, bytesOfWords, wordBytes, headBytes, sizeBytes, pairBytes, sizesEnd, tagWords}
 use Rattle.image.specs.Write.{headerOf, sizesOf, tagsOf, recordsOf, allSlots, imageOf}
 use Rattle.image.specs.Read.{wordsAt, orderIn, metricIn, builtIn, liveIn, slotsBefore, slotsIn, rowIn, bucketIn}
 use Rattle.image.proofs.Bytes.{length-bytes, length-words, number-at, words-in}
-use Rattle.image.proofs.Blocks.{all-of, all-map, all-flatten, all-at, all-words, all-take, all-drop, Block, block-at, length-blocks, length-count, getD-count, part-at, length-flatten, map-count, picked}
+use Rattle.image.proofs.Blocks.{all-flatten, all-at, all-words, Block, block-at, length-blocks, length-count, getD-count, part-at, length-flatten, map-count, picked}
 
 -- the fields fit: sizes of 16 bits, as many rows in each bucket as its built size, and rows of twelve 32-bit words
 pub record FitsImage (t : Table) : Type 0 where
@@ -55,7 +56,7 @@ module _ (t : Table) (fit : FitsImage t) where
   pair-at k h =
       let e : getD (countFrom 0 (suc (orderOf t))) k 0 ≡ k = getD-count 0 (suc (orderOf t)) k 0 (omega arith) ∙ omega arith in
       subst (Block pair 4 (countFrom 0 (suc (orderOf t))) k) e
-      (block-at pair 4 (countFrom 0 (suc (orderOf t))) k 0 (all-of (λ x. length (pair x) ≡ 4) length-pair (countFrom 0 (suc (orderOf t)))) (omega (arith, length-count 0 (suc (orderOf t)))))
+      (block-at pair 4 (countFrom 0 (suc (orderOf t))) k 0 (all-always {P = λ x. length (pair x) ≡ 4} length-pair (countFrom 0 (suc (orderOf t)))) (omega (arith, length-count 0 (suc (orderOf t)))))
 
   -- the pair of bucket k stands after 4 + 4·k bytes
   split-at : (k : ℕ) (h : k ≤ orderOf t)
@@ -120,14 +121,14 @@ module _ (t : Table) (fit : FitsImage t) where
   tag-blocks : All (λ row. length (tagBlock row) ≡ 8) rows
   unfolding tagBlock rowWidth
   tag-blocks =
-      all-map IsRow (λ row. length (tagBlock row) ≡ 8)
+      all-weaken {P = IsRow} {Q = λ row. length (tagBlock row) ≡ 8}
       (λ row r. omega (arith, length-words (take 2 row), length-take 2 row, r .width))
       rows all-rows
 
   record-blocks : All (λ row. length (recordBlock row) ≡ 40) rows
   unfolding recordBlock rowWidth
   record-blocks =
-      all-map IsRow (λ row. length (recordBlock row) ≡ 40)
+      all-weaken {P = IsRow} {Q = λ row. length (recordBlock row) ≡ 40}
       (λ row r. omega (arith, length-words (drop 2 row), length-drop 2 row, r .width))
       rows all-rows
 
@@ -139,7 +140,7 @@ module _ (t : Table) (fit : FitsImage t) where
   unfolding sizes head headerOf sizesEnd headBytes pairBytes sizeBytes
   length-sizes =
       let n = countFrom 0 (suc (orderOf t)) in
-      omega (arith, length-blocks pair 4 n (all-of (λ x. length (pair x) ≡ 4) length-pair n), length-count 0 (suc (orderOf t)))
+      omega (arith, length-blocks pair 4 n (all-always {P = λ x. length (pair x) ≡ 4} length-pair n), length-count 0 (suc (orderOf t)))
 
   image-parts : imageOf t ≡ sizes ++ (flatten (map tagBlock rows) ++ flatten (map recordBlock rows))
   unfolding sizes after-sizes tagBlock recordBlock rows tagsOf recordsOf tagWords
