@@ -9,7 +9,11 @@ pub mod Heap
 pub mod HeapSort
 pub mod Sliding
 pub mod Partition
+pub mod Pending
+pub mod RangeTurns
+pub mod Sending
 pub mod Nearing
 pub mod NearSteps
+pub mod NearTurns
 pub mod Reaching
 pub mod OnLayout

@@ -215,7 +215,7 @@ module _ {k : ℕ} (m n : ℕ) (first second : Tally → Tally)
       (leaves-as mid last s (ap second (tally-after (first (tallyOf area near)) area mid r l e)) q)
 
 module _ (dist : Profile → Profile → ℕ) (query : Profile) (k : ℕ) where
-  pub near-empty : (slots : List Row) (t : Tally) → length slots ≡ 0 → t ≡ nearestTree dist query k t slots
+  near-empty : (slots : List Row) (t : Tally) → length slots ≡ 0 → t ≡ nearestTree dist query k t slots
   near-empty [] t e = sym (nearest-none dist query k t)
   near-empty (s ∷ rest) t e = absurd (omega arith)
 

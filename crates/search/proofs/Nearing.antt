@@ -2,12 +2,12 @@
 -- The entries kept are in order, so keeping one more is putting it in its place.
 use Prim.Native.Nat.{ℕ, suc, _+_, _-_, _≤_, _<_}
 use mathlib.Core.Path.{_≡_, refl, sym, ap, subst, _∙_}
-use mathlib.Core.Bool.{Bool, true, false, _||_, or-true}
+use mathlib.Core.Bool.{Bool, true, false, _||_}
 use mathlib.Core.List.{List, [], _∷_, _++_, foldl}
 use lib.ListN.{length, take, drop, getD, length-take, take-append-drop, drop-of-length-le}
 use lib.Seq.{length-take-le, getD-take, take-all, take-at, take-suc}
-use lib.Dec.{leb, ltb}
-use borrow.Author.Tests.{lt-ltb, le-ltb, le-leb, lt-leb, leb-true, leb-false, eq-eqb, ne-eqb}
+use lib.Dec.{leb, ltb, eqb}
+use borrow.Author.Tests.{lt-ltb, le-ltb, le-leb, lt-leb, leb-true, leb-false, eq-eqb, ne-eqb, eqb-true, eqb-false}
 use native.Mathlib.Omega.{arith}
 use Rattle.metric.specs.Row.{Row, tagOf, markOf}
 use Rattle.search.specs.declared.nearest.Nearby.{Nearby}
@@ -32,44 +32,48 @@ worst-last (e ∷ es) h =
     let n : length es ≡ length (e ∷ es) - 1 = omega arith in
     last-from 0 e es ∙ ap (λ (i : ℕ). entryDistance (getD (e ∷ es) i [])) n
 
-module _ (area : List Entry) (kept k a b : ℕ) (within : kept ≤ length area) where
+module _ (area : List Entry) (kept k gap : ℕ) (within : kept ≤ length area) where
   size : length (take kept area) ≡ kept
   size = length-take-le kept area within
 
-  pub open-below : kept < k → true ≡ opens k (entersLeft a b) (take kept area)
+  pub open-below : kept < k → true ≡ opens k (entersLeft gap 0) (take kept area)
   unfolding opens
-  open-below h = sym (ap (λ (p : Bool). p || entersLeft a b (worst (take kept area))) (lt-ltb (length (take kept area)) k (omega (arith, size))))
+  open-below h = sym (ap (λ (p : Bool). p || entersLeft gap 0 (worst (take kept area))) (lt-ltb (length (take kept area)) k (omega (arith, size))))
 
-  pub open-near : a ≤ b → true ≡ opens k (entersLeft a b) (take kept area)
+  open-full : k ≤ kept → opens k (entersLeft gap 0) (take kept area) ≡ leb gap (0 + worst (take kept area))
   unfolding opens entersLeft
-  open-near h = sym (ap (λ (p : Bool). ltb (length (take kept area)) k || p) (le-leb a (b + worst (take kept area)) (omega arith)) ∙ or-true (ltb (length (take kept area)) k))
+  open-full h = ap (λ (p : Bool). p || leb gap (0 + worst (take kept area))) (le-ltb (length (take kept area)) k (omega (arith, size)))
 
-  shut-full : k ≤ kept → opens k (entersLeft a b) (take kept area) ≡ leb a (b + worst (take kept area))
-  unfolding opens entersLeft
-  shut-full h = ap (λ (p : Bool). p || leb a (b + worst (take kept area))) (le-ltb (length (take kept area)) k (omega (arith, size)))
-
-  pub shut-empty : k ≤ kept → b < a → kept ≡ 0 → false ≡ opens k (entersLeft a b) (take kept area)
+  pub open-empty : k ≤ kept → kept ≡ 0 → eqb gap 0 ≡ opens k (entersLeft gap 0) (take kept area)
   unfolding worst
-  shut-empty h g e =
-      let none : worst (take kept area) ≡ 0 = ap (λ (n : ℕ). worst (take n area)) e in
-      sym (shut-full h ∙ lt-leb a (b + worst (take kept area)) (omega arith))
+  open-empty h e = go (eqb gap 0) refl ∙ ap (λ (n : ℕ). leb gap (0 + n)) (sym none) ∙ sym (open-full h)
+    where
+      none : worst (take kept area) ≡ 0
+      none = ap (λ (n : ℕ). worst (take n area)) e
 
-  pub open-last : k ≤ kept → b < a → 0 < kept → leb (a - b) (getD (getD area (kept - 1) []) 1 0) ≡ opens k (entersLeft a b) (take kept area)
+      go : (p : Bool) → eqb gap 0 ≡ p → p ≡ leb gap 0
+      go true f = sym (le-leb gap 0 (omega (arith, eqb-true gap 0 f)))
+      go false f = sym (lt-leb gap 0 (omega (arith, eqb-false gap 0 f)))
+
+  pub open-last : k ≤ kept → 0 < kept → leb gap (getD (getD area (kept - 1) []) 1 0) ≡ opens k (entersLeft gap 0) (take kept area)
   unfolding entryDistance
-  open-last h g z =
+  open-last h z =
       let last : getD (getD area (kept - 1) []) 1 0 ≡ worst (take kept area) =
       sym
       (worst-last (take kept area) (omega (arith, size))
       ∙ ap (λ (e : Entry). entryDistance e) (ap (λ (n : ℕ). getD (take kept area) (n - 1) []) size ∙ getD-take kept area (kept - 1) [] (omega arith)))
       in
-      ap (leb (a - b)) last ∙ by-sum (worst (take kept area)) ∙ sym (shut-full h)
-    where
-      by-sum : (r : ℕ) → leb (a - b) r ≡ leb a (b + r)
-      by-sum r = go (leb (a - b) r) refl
-        where
-          go : (p : Bool) → leb (a - b) r ≡ p → p ≡ leb a (b + r)
-          go true e = sym (le-leb a (b + r) (omega (arith, leb-true (a - b) r e)))
-          go false e = sym (lt-leb a (b + r) (omega (arith, leb-false (a - b) r e)))
+      let same : getD (getD area (kept - 1) []) 1 0 ≡ 0 + worst (take kept area) = omega (arith, last) in
+      ap (leb gap) same ∙ sym (open-full h)
+
+-- a test on a and b is one on the excess of a over b
+pub opens-gap : (k a b gap : ℕ) → gap ≡ a - b → (es : List Entry) → opens k (entersLeft gap 0) es ≡ opens k (entersLeft a b) es
+unfolding opens entersLeft
+opens-gap k a b gap e es = ap (λ (p : Bool). ltb (length es) k || p) (go (leb gap (0 + worst es)) refl)
+  where
+    go : (p : Bool) → leb gap (0 + worst es) ≡ p → p ≡ leb a (b + worst es)
+    go true f = sym (le-leb a (b + worst es) (omega (arith, leb-true gap (0 + worst es) f)))
+    go false f = sym (lt-leb a (b + worst es) (omega (arith, leb-false gap (0 + worst es) f)))
 
 near-eq : {a b c d : ℕ} → a ≡ b → c ≡ d → _≡_ {A = Nearby} (record { kept = a; count = c; over = false }) (record { kept = b; count = d; over = false })
 near-eq p q = λ i. record { kept = p i; count = q i; over = false }

@@ -5,3 +5,4 @@ pub mod Heap
 pub mod Parting
 pub mod Collected
 pub mod Nearby
+pub mod Waiting

@@ -2,6 +2,7 @@
 mod entries;
 mod nearest;
 mod range;
+mod waiting;
 
 pub use entries::Entry;
 pub use entries::sort_entries;

@@ -1,5 +1,5 @@
 -- Each step leaves what its definition says or word that the area is too short, and the next step starts from that: a slot's own head, then
--- the two halves in their turns. The measures are three times the slots' number, and one or two more below a slot. Assumes nothing.
+-- the two halves in their turns; few slots are the loop's. The measures are three times the slots' number, and one or two more below a slot. Assumes nothing.
 use mathlib.Core.Path.{_≡_, refl, sym, _∙_}
 use native.Mathlib.Omega.{arith}
 use borrow.Author.Needs.{needs}
@@ -8,7 +8,7 @@ use Rattle.metric.specs.Row.{profileOf}
 use Rattle.metric.specs.Distance.{distance}
 use Rattle.search.specs.Range.{toQuery, entersLeft}
 use Rattle.search.specs.Nearby.{tallyOf}
-use Rattle.search.proofs.Nearing.{leaves-as}
+use Rattle.search.proofs.Nearing.{leaves-as, opens-gap}
 use Rattle.search.proofs.NearSteps.{
   ready-less,
   leaves-same,
@@ -18,7 +18,6 @@ use Rattle.search.proofs.NearSteps.{
   turn-empty,
   turn-open,
   turn-shut,
-  near-empty,
   tree-stop,
   tree-ready,
   tree-leave,
@@ -45,7 +44,9 @@ use Rattle.search.proofs.nearest.+nearest_halves+nearest_tree+nearest_t
 use Rattle.metric.proofs.distance_between.Reads as distance-between-reads
 use Rattle.metric.proofs.threshold_of.Reads as threshold-of-reads
 use Rattle.search.proofs.nearest.lets_in.Reads as lets-in-reads
+use Rattle.search.proofs.nearest.nearest_few.Reads as nearest-few-reads
 use Rattle.search.proofs.nearest.take_in.Reads as take-in-reads
+use Rattle.search.proofs.waiting.excess.Reads as excess-reads
 use Rattle.search.proofs.nearest.+nearest_halves+nearest_tree+nearest_turn.{statement}
 use Rattle.search.proofs.nearest.+nearest_halves+nearest_tree+nearest_turn.Tie.{close}
 
@@ -102,10 +103,10 @@ abbrev nearest-halves-callees : ℕ → nearest-halves-lts.Claims
 nearest-halves-callees t = (nearest-turn-below t, nearest-turn.Post)
 
 abbrev nearest-tree-callees : ℕ → nearest-tree-lts.Claims
-nearest-tree-callees t = (distance-between-reads.Asked, distance-between-reads.Learnt, take-in-reads.Asked, take-in-reads.Learnt, threshold-of-reads.Asked, threshold-of-reads.Learnt, nearest-halves-below t, nearest-halves.Post)
+nearest-tree-callees t = (nearest-few-reads.Asked, nearest-few-reads.Learnt, distance-between-reads.Asked, distance-between-reads.Learnt, take-in-reads.Asked, take-in-reads.Learnt, threshold-of-reads.Asked, threshold-of-reads.Learnt, nearest-halves-below t, nearest-halves.Post)
 
 abbrev nearest-turn-callees : ℕ → nearest-turn-lts.Claims
-nearest-turn-callees t = (lets-in-reads.Asked, lets-in-reads.Learnt, nearest-tree-below t, nearest-tree.Post)
+nearest-turn-callees t = (excess-reads.Asked, excess-reads.Learnt, lets-in-reads.Asked, lets-in-reads.Learnt, nearest-tree-below t, nearest-tree.Post)
 
 nearest-halves-sub-l : (t : ℕ) → nearest-halves-lts.Need-sub-l (nearest-halves-callees t) (nearest-halves-at t) nearest-halves.Post
 nearest-halves-sub-l t c = search needs
@@ -253,11 +254,14 @@ nearest-halves-returns-4 t c =
     (a .area .now) (a .near) (ready-less (omega (arith, sum)) (start .pre .1)) (c .before .before .before .before .before .before .nearest-turn3 .last .1 .1 .1 .1 .1 .1 .0) (c .before .before .before .before .before .before .nearest-turn3 .result) (c .before .before .before .before .before .before .nearest-turn3 .ensures) (c .before .before .before .before .if3 .left)
     (c .before .nearest-turn4 .last .1 .1 .1 .1 .1 .1 .0) (c .before .nearest-turn4 .result) (c .before .nearest-turn4 .ensures))
 
+nearest-tree-nearest-few-requires : (t : ℕ) → nearest-tree-lts.Need-nearest-few-requires (nearest-tree-callees t) (nearest-tree-at t) nearest-tree.Post
+nearest-tree-nearest-few-requires t c κs = (c .before .if1 .taken, c .before .before .pre .1)
+
+nearest-tree-same-length : (t : ℕ) → nearest-tree-lts.Need-same-length (nearest-tree-callees t) (nearest-tree-at t) nearest-tree.Post
+nearest-tree-same-length t c = c .before .nearest-few .kept .1 .1 .1 .1 .0
+
 nearest-tree-returns : (t : ℕ) → nearest-tree-lts.Need-returns (nearest-tree-callees t) (nearest-tree-at t) nearest-tree.Post
-nearest-tree-returns t c =
-    let a = c .before .args in
-    leaves-as (a .area .now) _ _ (near-empty (distance (a .metric)) (profileOf (a .query .now)) (a .k) (a .slots .now) (tallyOf (a .area .now) (a .near)) (c .if1 .taken))
-    (leaves-same (a .area .now) (a .near) (c .before .pre .1))
+nearest-tree-returns t c = c .before .nearest-few .ensures
 
 nearest-tree-shared-slice-copy-out-row : (t : ℕ) → nearest-tree-lts.Need-shared-slice-copy-out-row (nearest-tree-callees t) (nearest-tree-at t) nearest-tree.Post
 nearest-tree-shared-slice-copy-out-row t c = search needs
@@ -268,8 +272,8 @@ nearest-tree-distance-between-requires t c κs = search needs
 nearest-tree-take-in-requires : (t : ℕ) → nearest-tree-lts.Need-take-in-requires (nearest-tree-callees t) (nearest-tree-at t) nearest-tree.Post
 nearest-tree-take-in-requires t c κs = ready-less (omega (arith, c .before .before .before .before .if1 .left)) (c .before .before .before .before .before .pre .1)
 
-nearest-tree-same-length : (t : ℕ) → nearest-tree-lts.Need-same-length (nearest-tree-callees t) (nearest-tree-at t) nearest-tree.Post
-nearest-tree-same-length t c = c .before .before .take-in .kept .1 .1 .1 .0
+nearest-tree-same-length-2 : (t : ℕ) → nearest-tree-lts.Need-same-length-2 (nearest-tree-callees t) (nearest-tree-at t) nearest-tree.Post
+nearest-tree-same-length-2 t c = c .before .before .take-in .kept .1 .1 .1 .0
 
 nearest-tree-returns-2 : (t : ℕ) → nearest-tree-lts.Need-returns-2 (nearest-tree-callees t) (nearest-tree-at t) nearest-tree.Post
 unfolding toQuery
@@ -303,8 +307,8 @@ nearest-tree-nearest-halves-requires t c κs =
           (c .before .before .before .before .before .before .before .distance-between .result) (c .before .before .before .before .before .before .before .distance-between .ensures) (c .before .before .before .before .before .take-in .last .1 .1 .1 .0) (c .before .before .before .before .before .take-in .result) (c .before .before .before .before .before .take-in .ensures) (c .before .before .before .if2 .left),
     )
 
-nearest-tree-same-length-2 : (t : ℕ) → nearest-tree-lts.Need-same-length-2 (nearest-tree-callees t) (nearest-tree-at t) nearest-tree.Post
-nearest-tree-same-length-2 t c = c .before .nearest-halves .kept .1 .1 .1 .1 .1 .1 .0 ∙ c .before .before .before .before .before .before .before .take-in .kept .1 .1 .1 .0
+nearest-tree-same-length-3 : (t : ℕ) → nearest-tree-lts.Need-same-length-3 (nearest-tree-callees t) (nearest-tree-at t) nearest-tree.Post
+nearest-tree-same-length-3 t c = c .before .nearest-halves .kept .1 .1 .1 .1 .1 .1 .0 ∙ c .before .before .before .before .before .before .before .take-in .kept .1 .1 .1 .0
 
 nearest-tree-returns-3 : (t : ℕ) → nearest-tree-lts.Need-returns-3 (nearest-tree-callees t) (nearest-tree-at t) nearest-tree.Post
 unfolding toQuery
@@ -321,12 +325,15 @@ nearest-turn-returns t c =
     leaves-as (a .area .now) _ _ (sym (turn-empty (distance (a .metric)) (profileOf (a .query .now)) (a .k) (entersLeft (a .a) (a .b)) (a .half .now) (tallyOf (a .area .now) (a .near)) (c .if1 .taken)))
     (leaves-same (a .area .now) (a .near) (c .before .pre .1))
 
+nearest-turn-excess-requires : (t : ℕ) → nearest-turn-lts.Need-excess-requires (nearest-turn-callees t) (nearest-turn-at t) nearest-turn.Post
+nearest-turn-excess-requires t c κs = search needs
+
 nearest-turn-lets-in-requires : (t : ℕ) → nearest-turn-lts.Need-lets-in-requires (nearest-turn-callees t) (nearest-turn-at t) nearest-turn.Post
-nearest-turn-lets-in-requires t c κs = c .before .before .pre .1 .within
+nearest-turn-lets-in-requires t c κs = c .before .before .before .pre .1 .within
 
 nearest-turn-nearest-tree-requires : (t : ℕ) → nearest-turn-lts.Need-nearest-tree-requires (nearest-turn-callees t) (nearest-turn-at t) nearest-turn.Post
 nearest-turn-nearest-tree-requires t c κs =
-    let start = c .before .before .before .before .before in
+    let start = c .before .before .before .before .before .before in
     (omega (arith, start .pre .0), start .pre .1)
 
 nearest-turn-same-length : (t : ℕ) → nearest-turn-lts.Need-same-length (nearest-turn-callees t) (nearest-turn-at t) nearest-turn.Post
@@ -334,9 +341,10 @@ nearest-turn-same-length t c = c .before .nearest-tree .kept .1 .1 .1 .1 .0
 
 nearest-turn-returns-2 : (t : ℕ) → nearest-turn-lts.Need-returns-2 (nearest-turn-callees t) (nearest-turn-at t) nearest-turn.Post
 nearest-turn-returns-2 t c =
-    let start = c .before .before .before .before .before .before .before in
+    let start = c .before .before .before .before .before .before .before .before in
     let a = start .args in
-    let opened = sym (c .before .before .before .before .lets-in .ensures) ∙ c .before .before .before .if2 .taken in
+    let gap = c .before .before .before .before .before .excess in
+    let opened = sym (opens-gap (a .k) (a .a) (a .b) (gap .result) (gap .ensures) (take (a .near .kept) (a .area .now))) ∙ sym (c .before .before .before .before .lets-in .ensures) ∙ c .before .before .before .if2 .taken in
     leaves-as (a .area .now) _ _ (sym (turn-open (distance (a .metric)) (profileOf (a .query .now)) (a .k) (entersLeft (a .a) (a .b)) _ (tallyOf (a .area .now) (a .near)) opened))
     (c .before .nearest-tree .ensures)
 
@@ -345,9 +353,10 @@ nearest-turn-same-length-2 t c = refl
 
 nearest-turn-returns-3 : (t : ℕ) → nearest-turn-lts.Need-returns-3 (nearest-turn-callees t) (nearest-turn-at t) nearest-turn.Post
 nearest-turn-returns-3 t c =
-    let start = c .before .before .before .before in
+    let start = c .before .before .before .before .before in
     let a = start .args in
-    let shut = sym (c .before .lets-in .ensures) ∙ c .if2 .left in
+    let gap = c .before .before .excess in
+    let shut = sym (opens-gap (a .k) (a .a) (a .b) (gap .result) (gap .ensures) (take (a .near .kept) (a .area .now))) ∙ sym (c .before .lets-in .ensures) ∙ c .if2 .left in
     leaves-as (a .area .now) _ _ (sym (turn-shut (distance (a .metric)) (profileOf (a .query .now)) (a .k) (entersLeft (a .a) (a .b)) _ (tallyOf (a .area .now) (a .near)) shut))
     (leaves-same (a .area .now) (a .near) (start .pre .1))
 
@@ -380,22 +389,25 @@ pub +nearest-halves+nearest-tree+nearest-turn-spec : {M : Type 1} → statement 
     (nearest-halves-returns-4 t))
     (λ t. nearest-tree-lts.spec (nearest-tree-callees t) (nearest-tree-at t)
     nearest-tree.Post
+    (nearest-tree-nearest-few-requires t)
+    (nearest-tree-same-length t)
     (nearest-tree-returns t)
     (nearest-tree-shared-slice-copy-out-row t)
     (nearest-tree-distance-between-requires t)
     (nearest-tree-take-in-requires t)
-    (nearest-tree-same-length t)
+    (nearest-tree-same-length-2 t)
     (nearest-tree-returns-2 t)
     (nearest-tree-sub-nearest-halves t)
     (nearest-tree-part-nearest-halves-start t)
     (nearest-tree-part-nearest-halves-end t)
     (nearest-tree-threshold-of-requires t)
     (nearest-tree-nearest-halves-requires t)
-    (nearest-tree-same-length-2 t)
+    (nearest-tree-same-length-3 t)
     (nearest-tree-returns-3 t))
     λ t. nearest-turn-lts.spec (nearest-turn-callees t) (nearest-turn-at t)
     nearest-turn.Post
     (nearest-turn-returns t)
+    (nearest-turn-excess-requires t)
     (nearest-turn-lets-in-requires t)
     (nearest-turn-nearest-tree-requires t)
     (nearest-turn-same-length t)

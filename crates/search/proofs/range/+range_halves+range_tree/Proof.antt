@@ -1,4 +1,4 @@
--- A slot's visit and its halves' add up to the tree's, and the two halves' turns to the halves'.
+-- A slot's visit and its halves' add up to the tree's, and the two halves' turns to the halves'; few slots are `range_few`'s.
 -- The measures are twice the slots' number, and one more for the halves. Assumes nothing.
 use mathlib.Core.Path.{_≡_, refl, sym, ap, _∙_}
 use mathlib.Core.Logic.{⊎-elim}
@@ -14,7 +14,7 @@ use Rattle.tree.specs.Layout.{leftSize}
 use Rattle.search.specs.Range.{Met, nothing, entersLeft, entersRight, toQuery, rangeTree}
 use Rattle.search.specs.Collected.{foundAfter, collected, ifEntered, metInHalves}
 use Rattle.search.proofs.RangeLaws.{range-count-le, range-hits-le}
-use Rattle.search.proofs.Collecting.{empty-half, entered, skipped, left-size, half-found, found-nothing, collected-nothing, collected-length, alone-found, two-turns, tree-empty, tree-visit, part-to-end}
+use Rattle.search.proofs.Collecting.{empty-half, entered, skipped, left-size, half-found, found-nothing, collected-nothing, collected-length, alone-found, two-turns, tree-visit, part-to-end}
 use Prim.Native.Nat.{ℕ, suc, _+_, _-_, _*_, _/_, _^_, _<_}
 use native.Mathlib.Omega.{arith}
 use borrow.Author.Needs.{needs}
@@ -31,6 +31,7 @@ use Rattle.search.proofs.range.+range_halves+range_tree.Lts-range_tree 
 use Rattle.metric.proofs.distance_between.Reads as distance-between-reads
 use Rattle.metric.proofs.threshold_of.Reads as threshold-of-reads
 use Rattle.search.proofs.range.meet.Reads as meet-reads
+use Rattle.search.proofs.range.range_few.Reads as range-few-reads
 use Rattle.search.proofs.range.+range_halves+range_tree.{statement}
 use Rattle.search.proofs.range.+range_halves+range_tree.Tie.{close}
 
@@ -64,7 +65,7 @@ abbrev range-halves-callees : ℕ → range-halves-lts.Claims
 range-halves-callees t = (range-tree-below t, range-tree.Post)
 
 abbrev range-tree-callees : ℕ → range-tree-lts.Claims
-range-tree-callees t = (distance-between-reads.Asked, distance-between-reads.Learnt, meet-reads.Asked, meet-reads.Learnt, threshold-of-reads.Asked, threshold-of-reads.Learnt, range-halves-below t, range-halves.Post)
+range-tree-callees t = (range-few-reads.Asked, range-few-reads.Learnt, distance-between-reads.Asked, distance-between-reads.Learnt, meet-reads.Asked, meet-reads.Learnt, threshold-of-reads.Asked, threshold-of-reads.Learnt, range-halves-below t, range-halves.Post)
 
 -- what a tree of some slots gives
 abbrev tree : ℕ → Row → ℕ → List Row → Met
@@ -211,13 +212,14 @@ range-halves-returns-2 t c =
     (sym (found-nothing (j .if1 .met)) ∙ ap (foundAfter (j .if1 .met)) e)
     (sym (collected-nothing (j .if1 .area) (j .if1 .met)) ∙ ap (collected (j .if1 .area) (j .if1 .met)) e)
 
+range-tree-range-few-requires : (t : ℕ) → range-tree-lts.Need-range-few-requires (range-tree-callees t) (range-tree-at t) range-tree.Post
+range-tree-range-few-requires t c κs = (c .before .if1 .taken, c .before .before .pre .1 .0, c .before .before .pre .1 .1)
+
+range-tree-same-length : (t : ℕ) → range-tree-lts.Need-same-length (range-tree-callees t) (range-tree-at t) range-tree.Post
+range-tree-same-length t c = c .before .range-few .kept .1 .1 .1 .1 .1 .0
+
 range-tree-returns : (t : ℕ) → range-tree-lts.Need-returns (range-tree-callees t) (range-tree-at t) range-tree.Post
-range-tree-returns t c =
-    let a = c .before .args in
-    let e = sym (tree-empty (distance (a .metric)) (profileOf (a .query .now)) (a .radius) (a .slots .now) (c .if1 .taken)) in (
-      sym (found-nothing (a .found)) ∙ ap (foundAfter (a .found)) e,
-      sym (collected-nothing (a .area .now) (a .found)) ∙ ap (collected (a .area .now) (a .found)) e,
-    )
+range-tree-returns t c = c .before .range-few .ensures
 
 range-tree-shared-slice-copy-out-row : (t : ℕ) → range-tree-lts.Need-shared-slice-copy-out-row (range-tree-callees t) (range-tree-at t) range-tree.Post
 range-tree-shared-slice-copy-out-row t c = search needs
@@ -252,8 +254,8 @@ range-tree-range-halves-requires t c κs =
       (omega (arith, size, few .0, ap (λ (g : Found). g .hits) (met .ensures .0)), omega (arith, size, few .1, ap (λ (g : Found). g .count) (met .ensures .0))),
     )
 
-range-tree-same-length : (t : ℕ) → range-tree-lts.Need-same-length (range-tree-callees t) (range-tree-at t) range-tree.Post
-range-tree-same-length t c =
+range-tree-same-length-2 : (t : ℕ) → range-tree-lts.Need-same-length-2 (range-tree-callees t) (range-tree-at t) range-tree.Post
+range-tree-same-length-2 t c =
     c .before .range-halves .kept .1 .1 .1 .1 .1 .1 .0 ∙ c .before .before .before .before .before .before .meet .kept .1 .1 .1 .0
 
 range-tree-returns-2 : (t : ℕ) → range-tree-lts.Need-returns-2 (range-tree-callees t) (range-tree-at t) range-tree.Post
@@ -287,6 +289,8 @@ pub +range-halves+range-tree-spec : {M : Type 1} → statement M
     (range-halves-returns-2 t))
     λ t. range-tree-lts.spec (range-tree-callees t) (range-tree-at t)
     range-tree.Post
+    (range-tree-range-few-requires t)
+    (range-tree-same-length t)
     (range-tree-returns t)
     (range-tree-shared-slice-copy-out-row t)
     (range-tree-distance-between-requires t)
@@ -296,5 +300,5 @@ pub +range-halves+range-tree-spec : {M : Type 1} → statement M
     (range-tree-part-range-halves-end t)
     (range-tree-threshold-of-requires t)
     (range-tree-range-halves-requires t)
-    (range-tree-same-length t)
+    (range-tree-same-length-2 t)
     (range-tree-returns-2 t)

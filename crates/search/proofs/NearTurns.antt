@@ -1,0 +1,285 @@
+-- A tree in one loop: what is kept and the turns of the parts that wait, the last part first, make up the tree's search at any time.
+-- A part that is entered is its first slot's own head and the turns of its halves, so that these may wait in its place.
+use Prim.Native.Nat.{ℕ, _+_, _-_, _/_, _≤_, _<_}
+use mathlib.Core.Path.{_≡_, refl, sym, ap, ap₂, subst, _∙_}
+use mathlib.Core.Bool.{Bool, true, false, _||_, or-true}
+use mathlib.Core.List.{List, [], _∷_, _++_}
+use lib.ListN.{length, take, drop, getD, length-take, length-drop, length-append}
+use lib.Seq.{take-all, take-take, drop-drop}
+use lib.Dec.{leb, ltb, eqb}
+use borrow.Author.Tests.{eqb-true, leb-true, leb-false, le-leb}
+use native.Mathlib.Omega.{arith}
+use Rattle.metric.specs.declared.Profile.{Profile}
+use Rattle.metric.specs.Row.{Row, thresholdOf}
+use Rattle.search.specs.declared.nearest.Nearby.{Nearby}
+use Rattle.search.specs.Range.{Entry, ordered, toQuery, entersLeft}
+use Rattle.search.specs.Nearest.{Tally, worst, opens, turn, nearestTree}
+use Rattle.search.specs.Nearby.{tallyOf, Ready, Leaves, takenAt, nearInHalves}
+use Rattle.search.specs.Waiting.{Part, waits, leftPart, rightPart, sent}
+use Rattle.search.proofs.Pending.{startOf, sizeOf, Fits, Stacked, stacked-append, stacked-front, stacked-last, stacked-few, slotsOf, slots-one-more, drop-front, first-of-part, behind-first}
+use Rattle.search.proofs.Sending.{sent-near, sent-far, stacked-one, stacked-sent, slots-append, slots-waits, slots-sent}
+use Rattle.search.proofs.Nearing.{leaves-as, opens-gap}
+use Rattle.search.proofs.NearSteps.{
+  Sound,
+  sound-turn,
+  sound-taken,
+  ready-less,
+  ready-few,
+  leaves-same,
+  leaves-stopped,
+  tally-after,
+  ready-after,
+  leaves-then,
+  leftTurn,
+  rightTurn,
+  halves-near,
+  halves-far,
+  near-first,
+  turn-open,
+  turn-shut,
+  turn-empty,
+}
+
+-- the slots of a part
+abbrev slotsAt : List Row → Part → List Row
+slotsAt slots p = take (sizeOf p) (drop (startOf p) slots)
+
+module _ (dist : Profile → Profile → ℕ) (query : Profile) (k : ℕ) (slots : List Row) where
+  -- a part's turn: its test is made on what is kept by then
+  unfoldable partTurn : Part → Tally → Tally
+  partTurn p u = turn dist query k (entersLeft (getD p 2 0) 0) (λ v. nearestTree dist query k v (slotsAt slots p)) u
+
+  -- the turns of parts that wait, the last one's first
+  unfoldable pub after : Tally → List Part → Tally
+  unfolding partTurn
+  after u [] = u
+  after u (p ∷ ps) = partTurn p (after u ps)
+
+  after-append : (u : Tally) (ps qs : List Part) → after u (ps ++ qs) ≡ after (after u qs) ps
+  unfolding after
+  after-append u [] qs = refl
+  after-append u (p ∷ ps) qs = ap (partTurn p) (after-append u ps qs)
+
+  part-size : (p : Part) → length (slotsAt slots p) ≤ sizeOf p
+  part-size p = simp length-take (omega arith)
+
+  after-waits : (u : Tally) (p : Part) → after u (waits p) ≡ partTurn p u
+  unfolding after waits partTurn
+  after-waits u p = go (eqb (sizeOf p) 0) refl
+    where
+      go : (b : Bool) → eqb (sizeOf p) 0 ≡ b → after u (elim b [ true ↦ [] | false ↦ p ∷ [] ]) ≡ partTurn p u
+      go true e = sym (turn-empty dist query k (entersLeft (getD p 2 0) 0) (slotsAt slots p) u (omega (arith, part-size p, eqb-true (sizeOf p) 0 e)))
+      go false e = refl
+
+  sound-after : (ps : List Part) (t : Tally) → ordered (t .kept) ≡ t .kept → length (t .kept) ≤ k → Sound k (slotsOf ps) t (after t ps)
+  unfolding after partTurn slotsOf
+  sound-after [] t h few = record { in-order = h; few = few; grows = omega arith; most = omega arith }
+  sound-after (p ∷ ps) t h few =
+      let a = sound-after ps t h few in
+      let b = sound-turn dist query k (entersLeft (getD p 2 0) 0) (slotsAt slots p) (after t ps) (a .in-order) (a .few) in
+      record { in-order = b .in-order; few = b .few; grows = omega (arith, a .grows, b .grows); most = omega (arith, a .most, b .most, part-size p) }
+
+  -- a turn's test is on the excess
+  turn-gap : (a b : ℕ) (f : Tally → Tally) (u : Tally) → turn dist query k (entersLeft (a - b) 0) f u ≡ turn dist query k (entersLeft a b) f u
+  unfolding turn
+  turn-gap a b f u = ap (λ (p : Bool). elim p [ true ↦ f u | false ↦ u ]) (opens-gap k a b (a - b) refl (u .kept))
+
+  -- a part of some slots
+  module _ (p : Part) (some : 0 < sizeOf p) (inside : startOf p + sizeOf p ≤ length slots) where
+    size : length (slotsAt slots p) ≡ sizeOf p
+    size = simp (length-take, length-drop) (omega arith)
+
+    rest : List Row
+    rest = take (length (slotsAt slots p) - 1) (drop 1 (slotsAt slots p))
+
+    -- what is behind the first slot
+    rest-is : rest ≡ take (sizeOf p - 1) (drop (startOf p + 1) slots)
+    unfolding rest
+    rest-is =
+        ap₂ (λ (n : ℕ) (xs : List Row). take (n - 1) xs) size (behind-first slots [] (startOf p) (sizeOf p) some)
+        ∙ take-take (sizeOf p - 1) (sizeOf p - 1) (drop (startOf p + 1) slots) (omega arith)
+
+    rest-size : length rest ≡ sizeOf p - 1
+    rest-size = ap length rest-is ∙ simp (length-take, length-drop) (omega arith)
+
+    half : length rest - length rest / 2 ≡ sizeOf p / 2
+    half = omega (arith, rest-size)
+
+    left-half : take (length rest - length rest / 2) rest ≡ take (sizeOf p / 2) (drop (startOf p + 1) slots)
+    left-half =
+        ap₂ (λ (n : ℕ) (xs : List Row). take n xs) half rest-is
+        ∙ take-take (sizeOf p / 2) (sizeOf p - 1) (drop (startOf p + 1) slots) (omega arith)
+
+    right-half : take (length rest - (length rest - length rest / 2)) (drop (length rest - length rest / 2) rest) ≡ take (sizeOf p - 1 - sizeOf p / 2) (drop (startOf p + 1 + sizeOf p / 2) slots)
+    right-half =
+        let l = sizeOf p / 2 in
+        ap₂ (λ (n i : ℕ). take (n - i) (drop i rest)) rest-size half
+        ∙ ap (λ (xs : List Row). take (sizeOf p - 1 - l) (drop l xs)) rest-is
+        ∙ ap (take (sizeOf p - 1 - l)) (drop-front l (sizeOf p - 1 - l) (sizeOf p - 1) (drop (startOf p + 1) slots) (omega arith))
+        ∙ take-take (sizeOf p - 1 - l) (sizeOf p - 1 - l) (drop l (drop (startOf p + 1) slots)) (omega arith)
+        ∙ ap (take (sizeOf p - 1 - l)) (drop-drop l (startOf p + 1) slots)
+
+    left-turn : (d m : ℕ) (u : Tally) → partTurn (leftPart p (d - m)) u ≡ leftTurn dist query k d m rest u
+    unfolding partTurn leftPart leftTurn
+    left-turn d m u =
+        turn-gap d m (λ v. nearestTree dist query k v (take (sizeOf p / 2) (drop (startOf p + 1) slots))) u
+        ∙ ap (λ (xs : List Row). turn dist query k (entersLeft d m) (λ v. nearestTree dist query k v xs) u) (sym left-half)
+
+    right-turn : (d m : ℕ) (u : Tally) → partTurn (rightPart p (m - d)) u ≡ rightTurn dist query k d m rest u
+    unfolding partTurn rightPart rightTurn
+    right-turn d m u =
+        turn-gap m d (λ v. nearestTree dist query k v (take (sizeOf p - 1 - sizeOf p / 2) (drop (startOf p + 1 + sizeOf p / 2) slots))) u
+        ∙ ap (λ (xs : List Row). turn dist query k (entersLeft m d) (λ v. nearestTree dist query k v xs) u) (sym right-half)
+
+    two-waits : (u : Tally) (a b : Part) → after u (waits a ++ waits b) ≡ partTurn a (partTurn b u)
+    two-waits u a b = after-append u (waits a) (waits b) ∙ ap (λ (v : Tally). after v (waits a)) (after-waits u b) ∙ after-waits (partTurn b u) a
+
+    -- the halves that are sent are the halves in their turns
+    after-sent : (d m : ℕ) (u : Tally) → after u (sent p d m) ≡ nearInHalves dist query k d m rest u
+    after-sent d m u = go (leb d m) refl
+      where
+        go : (b : Bool) → leb d m ≡ b → after u (sent p d m) ≡ nearInHalves dist query k d m rest u
+        go true e =
+            ap (after u) (sent-near p d m (d - m) (m - d) refl refl (leb-true d m e))
+            ∙ two-waits u (rightPart p (m - d)) (leftPart p (d - m))
+            ∙ right-turn d m (partTurn (leftPart p (d - m)) u)
+            ∙ ap (rightTurn dist query k d m rest) (left-turn d m u)
+            ∙ halves-near dist query k d m rest u (leb-true d m e)
+        go false e =
+            ap (after u) (sent-far p d m (d - m) (m - d) refl refl (leb-false d m e))
+            ∙ two-waits u (leftPart p (d - m)) (rightPart p (m - d))
+            ∙ left-turn d m (partTurn (rightPart p (m - d)) u)
+            ∙ ap (leftTurn dist query k d m rest) (right-turn d m u)
+            ∙ halves-far dist query k d m rest u (leb-false d m e)
+
+    -- a part that is entered: its first slot's own head, and its halves wait
+    entered : (t : Tally) (d m : ℕ) → d ≡ toQuery dist query (getD slots (startOf p) []) → m ≡ thresholdOf (getD slots (startOf p) [])
+        → opens k (entersLeft (getD p 2 0) 0) (t .kept) ≡ true → after (takenAt k t (getD slots (startOf p) []) d) (sent p d m) ≡ partTurn p t
+    unfolding partTurn rest
+    entered t d m at mt opened =
+        after-sent d m (takenAt k t (getD slots (startOf p) []) d)
+        ∙ ap₂ (λ (x y : ℕ). nearInHalves dist query k x y rest (takenAt k t (getD slots (startOf p) []) x)) at mt
+        ∙ ap (λ (s : Row). nearInHalves dist query k (toQuery dist query s) (thresholdOf s) rest (takenAt k t s (toQuery dist query s))) (sym (first-of-part slots [] (startOf p) (sizeOf p) some))
+        ∙ near-first dist query k (slotsAt slots p) t (omega (arith, size))
+        ∙ sym (turn-open dist query k (entersLeft (getD p 2 0) 0) (λ v. nearestTree dist query k v (slotsAt slots p)) t opened)
+
+  -- a search on its way to the tally `end`, with the parts that wait, from an area as it was at first
+  pub record Going (end : Tally) (first : List Entry) (parts : List Part) (area : List Entry) (near : Nearby) : Type 0 where
+    pub whole : after (tallyOf area near) parts ≡ end
+    pub ready : Ready k (slotsOf parts) area near
+    pub left : Leaves (tallyOf area near) first area near
+    pub fit : Stacked (length slots) 6 parts
+
+  abbrev all : Part
+  all = 0 ∷ length slots ∷ 0 ∷ []
+
+  pub going-start : {area : List Entry} {near : Nearby} → length slots < 64 → Ready k (length slots) area near
+      → Going (nearestTree dist query k (tallyOf area near) slots) area (waits all) area near
+  unfolding partTurn opens entersLeft
+  going-start {area} {near} few r =
+      record {
+        whole =
+            after-waits (tallyOf area near) all
+            ∙ turn-open dist query k (entersLeft 0 0) (λ v. nearestTree dist query k v (slotsAt slots all)) (tallyOf area near) passes
+            ∙ ap (nearestTree dist query k (tallyOf area near)) (take-all (length slots) slots (omega arith));
+        ready = ready-less (omega (arith, slots-waits all)) r;
+        left = leaves-same area near r;
+        fit = stacked-one (length slots) 6 all (λ h. record { some = h; few = few; inside = omega arith });
+      }
+    where
+      passes : opens k (entersLeft 0 0) (take (near .kept) area) ≡ true
+      passes =
+          ap (λ (p : Bool). ltb (length (take (near .kept) area)) k || p) (le-leb 0 (0 + worst (take (near .kept) area)) (omega arith))
+          ∙ or-true (ltb (length (take (near .kept) area)) k)
+
+module _ {dist : Profile → Profile → ℕ} {query : Profile} {k : ℕ} {slots : List Row} {end : Tally} {first : List Entry} where
+  pub going-few : {parts : List Part} {area : List Entry} {near : Nearby} → Going dist query k slots end first parts area near → length parts ≤ 6
+  going-few {parts} g = stacked-few (length slots) 6 parts (g .fit)
+
+  pub going-end : (parts : List Part) {area : List Entry} {near : Nearby} → length parts ≡ 0 → Going dist query k slots end first parts area near → Leaves end first area near
+  unfolding after
+  going-end [] {area} {near} e g = leaves-as first area near (g .whole) (g .left)
+  going-end (p ∷ parts) e g = absurd (omega arith)
+
+  -- the last part's turn has come
+  module _ (parts : List Part) (p : Part) {area : List Entry} {near : Nearby} (g : Going dist query k slots end first (parts ++ (p ∷ [])) area near) where
+    pub fits : Fits (length slots) (6 - length parts) p
+    fits = stacked-last (length slots) 6 parts p (g .fit)
+
+    sum : slotsOf (parts ++ (p ∷ [])) ≡ slotsOf parts + sizeOf p
+    sum = slots-one-more parts p
+
+    next : after dist query k slots (partTurn dist query k slots p (tallyOf area near)) parts ≡ end
+    unfolding after
+    next = sym (after-append dist query k slots (tallyOf area near) parts (p ∷ [])) ∙ g .whole
+
+    -- it is not entered
+    pub going-shut : opens k (entersLeft (getD p 2 0) 0) (take (near .kept) area) ≡ false → Going dist query k slots end first parts area near
+    unfolding partTurn
+    going-shut e =
+        record {
+          whole =
+              ap (λ (u : Tally). after dist query k slots u parts)
+              (sym (turn-shut dist query k (entersLeft (getD p 2 0) 0) (λ v. nearestTree dist query k v (slotsAt slots p)) (tallyOf area near) e))
+              ∙ next;
+          ready = ready-less (omega (arith, sum)) (g .ready);
+          left = g .left;
+          fit = stacked-front (length slots) 6 parts p (g .fit);
+        }
+
+    pub fewer-shut : slotsOf parts < slotsOf (parts ++ (p ∷ []))
+    fewer-shut = omega (arith, sum, fits .some)
+
+    -- it is entered: its first slot's own head is taken in, and there is room for its halves
+    pub head-ready : Ready k 1 area near
+    head-ready = ready-less (omega (arith, sum, fits .some)) (g .ready)
+
+    next-fit : (d m : ℕ) → Stacked (length slots) 6 (parts ++ sent p d m)
+    next-fit d m = stacked-append (length slots) 6 parts (sent p d m) (stacked-front (length slots) 6 parts p (g .fit)) (stacked-sent (length slots) (6 - length parts) p d m fits)
+
+    pub room : (d m : ℕ) → length parts + length (sent p d m) ≤ 6
+    room d m = omega (arith, length-append parts (sent p d m), stacked-few (length slots) 6 (parts ++ sent p d m) (next-fit d m))
+
+    pub fewer-sent : (d m : ℕ) → slotsOf (parts ++ sent p d m) + 1 ≡ slotsOf (parts ++ (p ∷ []))
+    fewer-sent d m = omega (arith, sum, slots-append parts (sent p d m), slots-sent p d m (fits .some))
+
+    module _ (opened : opens k (entersLeft (getD p 2 0) 0) (take (near .kept) area) ≡ true)
+        {d m : ℕ} (at : d ≡ toQuery dist query (getD slots (startOf p) [])) (mt : m ≡ thresholdOf (getD slots (startOf p) []))
+        {mid : List Entry} {r : Nearby} (l : Leaves (takenAt k (tallyOf area near) (getD slots (startOf p) []) d) area mid r) where
+      taken : Tally
+      taken = takenAt k (tallyOf area near) (getD slots (startOf p) []) d
+
+      sound : Sound k 1 (tallyOf area near) taken
+      unfolding taken
+      sound =
+          subst (λ (x : ℕ). Sound k 1 (tallyOf area near) (takenAt k (tallyOf area near) (getD slots (startOf p) []) x)) (sym at)
+          (sound-taken dist query k (getD slots (startOf p) []) (tallyOf area near) (g .ready .in-order) (ready-few area near (g .ready)))
+
+      goes : after dist query k slots taken (parts ++ sent p d m) ≡ end
+      unfolding taken
+      goes =
+          after-append dist query k slots taken parts (sent p d m)
+          ∙ ap (λ (u : Tally). after dist query k slots u parts) (entered dist query k slots p (fits .some) (fits .inside) (tallyOf area near) d m at mt opened)
+          ∙ next
+
+      so-far : Leaves taken first mid r
+      unfolding taken
+      so-far = leaves-then (tallyOf area near) first area near (g .left) (g .ready .holds) taken mid r (sound .grows) l
+
+      -- the area is too short for it, and so for all
+      pub going-stop : r .over ≡ true → Leaves end first mid r
+      going-stop e =
+          leaves-as first mid r goes
+          (leaves-stopped taken first mid r so-far (after dist query k slots taken (parts ++ sent p d m)) (sound-after dist query k slots (parts ++ sent p d m) taken (sound .in-order) (sound .few) .grows) e)
+
+      -- the halves wait in the part's place
+      pub going-on : r .over ≡ false → Going dist query k slots end first (parts ++ sent p d m) mid r
+      unfolding taken
+      going-on e =
+          let same : tallyOf mid r ≡ taken = tally-after taken area mid r l e in
+          record {
+            whole = ap (λ (u : Tally). after dist query k slots u (parts ++ sent p d m)) same ∙ goes;
+            ready = ready-after taken area mid r l e (tallyOf area near) sound (omega (arith, fewer-sent d m, g .ready .counts));
+            left = leaves-as first mid r (sym same) so-far;
+            fit = next-fit d m;
+          }
