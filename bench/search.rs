@@ -1,5 +1,6 @@
-// Measures the searches of one tree of 4,096 head, proved, beside two plain Rust programs: (a) a scan of a slice, and (b) the same tree with the
-// same visit rule. All three answer the same queries in the same run, and their answers and counts are compared. Run it by bench/run.sh.
+// Measures the searches of one tree of 4,096 head, proved, beside plain Rust programs: (a) a scan of a slice that keeps the ten best, for range
+// also a scan that sorts its hits, and (b) the same tree with the same visit rule. All answer the same queries in the same run, and the answers
+// and counts are compared. Run it by bench/run.sh.
 use std::time::Instant;
 
 const HEAD: usize = 4096;
@@ -128,7 +129,7 @@ fn keep(best: &mut Vec<Entry>, k: usize, e: Entry) {
     best.insert(at, e);
 }
 
-// (a) the scan
+// (a) the scan that keeps the best, and the one that gives a range search's list
 fn scan_nearest(metric: u32, slots: &[Slot], query: &Slot, k: usize, best: &mut Vec<Entry>) {
     best.clear();
     for s in slots {
@@ -207,9 +208,9 @@ fn median(mut times: Vec<f64>) -> f64 {
     times[times.len() / 2]
 }
 
-// Nanoseconds for a query: the median over the rounds of a round's mean. The three take turns within a round.
-fn measure(mut work: [&mut dyn FnMut(usize); 3]) -> [f64; 3] {
-    let mut times = [vec![], vec![], vec![]];
+// Nanoseconds for a query: the median over the rounds of a round's mean. The programs take turns within a round.
+fn measure<const N: usize>(mut work: [&mut dyn FnMut(usize); N]) -> [f64; N] {
+    let mut times = [const { vec![] }; N];
     for _ in 0..ROUNDS {
         for (w, t) in work.iter_mut().zip(times.iter_mut()) {
             let start = Instant::now();
@@ -222,15 +223,20 @@ fn measure(mut work: [&mut dyn FnMut(usize); 3]) -> [f64; 3] {
     times.map(median)
 }
 
-fn report(herd: &str, metric: u32, what: &str, visited: f64, found: f64, t: [f64; 3]) {
-    println!(
-        "{herd:9} | {metric} | {what:11} | {found:7.1} | {visited:7.1} | {:9.0} | {:9.0} | {:9.0} | {:5.2} | {:5.2}",
-        t[0], t[1], t[2], t[0] / t[1], t[0] / t[2]
-    );
+// One line: the times, the proved one first, and its ratio to each of the others.
+fn report(herd: &str, metric: u32, what: &str, visited: f64, found: f64, times: &[f64]) {
+    let mut line = format!("{herd:9} | {metric} | {what:11} | {found:7.1} | {visited:7.1}");
+    for t in times {
+        line += &format!(" | {t:8.0}");
+    }
+    for t in &times[1..] {
+        line += &format!(" | {:5.2}", times[0] / t);
+    }
+    println!("{line}");
 }
 
 fn main() {
-    println!("herd      | m | search      |   found | visited | proved ns |   (b) ns  |   (a) ns  |  /(b) |  /(a)");
+    println!("herd | metric | search | found | visited | ns: proved | (b) | (a) | range: sorting scan | ratio: /(b) | /(a) | range: /sorting scan");
     // How tight a cluster is decides what metric 1 can leave out, so two are measured: 8 bits, and 4.
     for (name, flips) in [("cluster 8", Some(8)), ("cluster 4", Some(4)), ("even", None)] {
         for metric in [0, 1] {
@@ -275,7 +281,7 @@ fn run(name: &str, metric: u32, slots: &[Slot], rows: &[[u32; 12]], queries: &[S
             std::hint::black_box(&scan);
         },
     ]);
-    report(name, metric, "nearest 10", mean(visited), mean(found), times);
+    report(name, metric, "nearest 10", mean(visited), mean(found), &times);
     for hits in [10, 1000] {
         run_range(name, metric, slots, rows, queries, asked, hits);
     }
@@ -283,7 +289,7 @@ fn run(name: &str, metric: u32, slots: &[Slot], rows: &[[u32; 12]], queries: &[S
 
 fn run_range(name: &str, metric: u32, slots: &[Slot], rows: &[[u32; 12]], queries: &[Slot], asked: &[[u32; 12]], hits: usize) {
     let mut area = vec![[0u64; 2]; HEAD];
-    let (mut tree, mut scan) = (Vec::with_capacity(HEAD), Vec::with_capacity(HEAD));
+    let (mut tree, mut best, mut scan) = (Vec::with_capacity(HEAD), Vec::with_capacity(HEAD), Vec::with_capacity(HEAD));
     let (mut visited, mut found) = (0u64, 0u64);
     let radii: Vec<u32> = queries
         .iter()
@@ -318,9 +324,13 @@ fn run_range(name: &str, metric: u32, slots: &[Slot], rows: &[[u32; 12]], querie
             std::hint::black_box((&tree, count));
         },
         &mut |q| {
+            scan_nearest(metric, slots, &queries[q], 10, &mut best);
+            std::hint::black_box(&best);
+        },
+        &mut |q| {
             scan_range(metric, slots, &queries[q], radii[q], &mut scan);
             std::hint::black_box(&scan);
         },
     ]);
-    report(name, metric, &format!("range ~{hits}"), mean(visited), mean(found), times);
+    report(name, metric, &format!("range ~{hits}"), mean(visited), mean(found), &times);
 }
