@@ -1,15 +1,17 @@
--- The row codec: the row of a row's fields is that row, and the fields of a row of given fields are those fields.
+-- The row codec: the row of a row's fields is that row, the fields of a row of given fields are those fields, and tags are in the order of their words.
 -- Word by word: two words make a number and come apart again by division, and a measure's bits are read back (`toZ`, `ofZ`).
 use Prim.Native.Nat.{ℕ, suc, _/_, _%_, _^_, _≤_, _<_}
 use native.Mathlib.Omega.{arith}
-use mathlib.Core.Path.{_≡_, refl, _∙_}
+use mathlib.Core.Path.{_≡_, refl, ap₂, _∙_}
+use mathlib.Core.Bool.{Bool, true, false}
 use mathlib.Core.List.{map}
 use lib.IntN.{pos}
 use lib.ListN.{length, set, length-set}
 use lib.Seq.{getD-set-same, getD-set-other}
 use mir.Syntax.{w32}
 use mir.Val.{toZ, ofZ, SFits}
-use lib.Dec.{lit<, lit≤}
+use lib.Dec.{ltb, lit<, lit≤}
+use borrow.Author.Tests.{ltb-true, ltb-false, lt-ltb, le-ltb}
 use mir.Facts.{toZ-ofZ, ofZ-toZ, sfits-toZ, sfits-lit, fits-ofZ, fits-of-lt}
 use Rattle.metric.specs.declared.Profile.{Profile}
 use Rattle.metric.specs.Lists.{countFrom}
@@ -33,6 +35,32 @@ wide-words n = omega arith
 pub wide-fits : (a b : ℕ) → a < 2 ^ 32 → b < 2 ^ 32 → wide a b < 2 ^ 64
 unfolding wide
 wide-fits a b h k = omega arith
+
+-- two tags are told apart and put in order by their words, the high word first
+module _ (x y : Row) where
+  pub tags-by-high : IsRow x → IsRow y → (word x 1 ≡ word y 1 → ⊥) → (tagOf x ≡ tagOf y → ⊥) × (ltb (tagOf x) (tagOf y) ≡ ltb (word x 1) (word y 1))
+  unfolding tagOf wide
+  tags-by-high is-x is-y n = (λ e. n (omega (arith, is-x .fits 0, is-y .fits 0)), go (ltb (word x 1) (word y 1)) refl)
+    where
+      go : (b : Bool) → ltb (word x 1) (word y 1) ≡ b → ltb (tagOf x) (tagOf y) ≡ b
+      go true e = lt-ltb (tagOf x) (tagOf y) (omega (arith, is-x .fits 0, is-y .fits 0, ltb-true (word x 1) (word y 1) e))
+      go false e = back (ltb (word y 1) (word x 1)) refl
+        where
+          back : (b : Bool) → ltb (word y 1) (word x 1) ≡ b → ltb (tagOf x) (tagOf y) ≡ false
+          back true f = le-ltb (tagOf x) (tagOf y) (omega (arith, is-x .fits 0, is-y .fits 0, ltb-true (word y 1) (word x 1) f))
+          back false f = absurd (n (omega (arith, ltb-false (word x 1) (word y 1) e, ltb-false (word y 1) (word x 1) f)))
+
+  pub tags-by-low : word x 1 ≡ word y 1 → (tagOf x ≡ tagOf y → word x 0 ≡ word y 0) × (ltb (tagOf x) (tagOf y) ≡ ltb (word x 0) (word y 0))
+  unfolding tagOf wide
+  tags-by-low h = (λ e. omega arith, go (ltb (word x 0) (word y 0)) refl)
+    where
+      go : (b : Bool) → ltb (word x 0) (word y 0) ≡ b → ltb (tagOf x) (tagOf y) ≡ b
+      go true e = lt-ltb (tagOf x) (tagOf y) (omega (arith, ltb-true (word x 0) (word y 0) e))
+      go false e = le-ltb (tagOf x) (tagOf y) (omega (arith, ltb-false (word x 0) (word y 0) e))
+
+  pub tags-alike : word x 1 ≡ word y 1 → word x 0 ≡ word y 0 → tagOf x ≡ tagOf y
+  unfolding tagOf
+  tags-alike h l = ap₂ wide l h
 
 module _ (row : Row) (is : IsRow row) where
   -- a row is the list of its twelve words
