@@ -41,7 +41,8 @@ fn meet(row: Row, d: u32, radius: u32, area: &mut [Entry], found: Found) -> Foun
     }
 }
 
-// A tree of few slots in one loop, which is faster than a call for each slot: a part, told by its first slot and its size, has its turn while right halves wait. Sizes halve, so four places are enough.
+// A tree of few slots in one loop, which is faster than a call for each slot: a part, told by its first slot and its size, has its turn while right
+// halves wait. Sizes halve, so four places are enough.
 fn range_few(
     found: Found,
     slots: &[Row],
