@@ -83,8 +83,8 @@ impl Random {
 }
 
 // The herd and the queries: in 64 clusters, codes with up to so many bits flipped, or evenly spread.
-fn herd(flips: Option<u32>) -> (Vec<Slot>, Vec<Slot>) {
-    let mut random = Random(0x9E37_79B9_7F4A_7C15);
+fn herd(seed: u64, flips: Option<u32>) -> (Vec<Slot>, Vec<Slot>) {
+    let mut random = Random(seed);
     let centres: Vec<Slot> = (0..64).map(|_| random.even(0)).collect();
     let mut one = |tag: u64| {
         match flips {
@@ -118,23 +118,33 @@ fn build(metric: u32, part: &mut [Slot]) {
 
 type Entry = (u32, u64);
 
-fn keep(best: &mut Vec<Entry>, k: usize, e: Entry) {
+// The entry is put in its order among the best, of which there are at most k.
+fn insert(best: &mut Vec<Entry>, k: usize, e: Entry) {
     if best.len() == k {
-        if e >= best[k - 1] {
-            return;
-        }
         best.pop();
     }
     let at = best.partition_point(|x| *x < e);
     best.insert(at, e);
 }
 
-// (a) the scan that keeps the best, and the one that gives a range search's list
+fn keep(best: &mut Vec<Entry>, k: usize, e: Entry) {
+    if best.len() < k || e < best[k - 1] {
+        insert(best, k, e);
+    }
+}
+
+// (a) the scan that keeps the best, and the one that gives a range search's list. The worst entry kept is at hand: read from the list at each slot, it
+// made the scan slower by up to a fifth.
 fn scan_nearest(metric: u32, slots: &[Slot], query: &Slot, k: usize, best: &mut Vec<Entry>) {
     best.clear();
+    let mut worst = (u32::MAX, u64::MAX);
     for s in slots {
-        if s.mark == 0 {
-            keep(best, k, (distance(metric, s, query), s.tag));
+        let e = (distance(metric, s, query), s.tag);
+        if s.mark == 0 && e < worst {
+            insert(best, k, e);
+            if best.len() == k {
+                worst = best[k - 1];
+            }
         }
     }
 }
@@ -235,12 +245,14 @@ fn report(herd: &str, metric: u32, what: &str, visited: f64, found: f64, times: 
     println!("{line}");
 }
 
+// The herds' seed may be given in hexadecimal, other than 0.
 fn main() {
+    let seed = std::env::args().nth(1).map_or(0x9E37_79B9_7F4A_7C15, |s| u64::from_str_radix(&s, 16).expect("a seed in hexadecimal"));
     println!("herd | metric | search | found | visited | ns: proved | (b) | (a) | range: sorting scan | ratio: /(b) | /(a) | range: /sorting scan");
-    // How tight a cluster is decides what metric 1 can leave out, so two are measured: 8 bits, and 4.
-    for (name, flips) in [("cluster 8", Some(8)), ("cluster 4", Some(4)), ("even", None)] {
+    // How tight a cluster is decides what metric 1 can leave out, so three are measured: 8 bits, 6 and 4.
+    for (name, flips) in [("cluster 8", Some(8)), ("cluster 6", Some(6)), ("cluster 4", Some(4)), ("even", None)] {
         for metric in [0, 1] {
-            let (mut slots, queries) = herd(flips);
+            let (mut slots, queries) = herd(seed, flips);
             build(metric, &mut slots);
             let rows: Vec<[u32; 12]> = slots.iter().map(row).collect();
             let asked: Vec<[u32; 12]> = queries.iter().map(row).collect();

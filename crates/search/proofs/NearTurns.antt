@@ -1,24 +1,25 @@
--- A tree in one loop: what is kept and the turns of the parts that wait, the last part first, make up the tree's search at any time.
--- A part that is entered is its first slot's own head and the turns of its halves, so that these may wait in its place.
-use Prim.Native.Nat.{ℕ, _+_, _-_, _/_, _≤_, _<_}
+-- A tree in one loop: what is kept and the turns of the parts to come, the last part first, make up the tree's search at any time.
+-- A part that is entered is its first slot's own head and the turns of its halves, so that these may come in its place.
+use Prim.Native.Nat.{ℕ, _+_, _-_, _/_, _≤_, _<_, _^_}
 use mathlib.Core.Path.{_≡_, refl, sym, ap, ap₂, subst, _∙_}
 use mathlib.Core.Bool.{Bool, true, false, _||_, or-true}
-use mathlib.Core.List.{List, [], _∷_, _++_}
+use mathlib.Core.List.{List, [], _∷_, _++_, append-nil}
 use lib.ListN.{length, take, drop, getD, length-take, length-drop, length-append}
-use lib.Seq.{take-all, take-take, drop-drop}
+use lib.Seq.{length-take-le, take-all, take-take, drop-drop}
 use lib.Dec.{leb, ltb, eqb}
 use borrow.Author.Tests.{eqb-true, leb-true, leb-false, le-leb}
 use native.Mathlib.Omega.{arith}
 use Rattle.metric.specs.declared.Profile.{Profile}
 use Rattle.metric.specs.Row.{Row, thresholdOf}
 use Rattle.search.specs.declared.nearest.Nearby.{Nearby}
+use Rattle.search.specs.declared.waiting.Turn.{Turn}
 use Rattle.search.specs.Range.{Entry, ordered, toQuery, entersLeft}
 use Rattle.search.specs.Nearest.{Tally, worst, opens, turn, nearestTree}
-use Rattle.search.specs.Nearby.{tallyOf, Ready, Leaves, takenAt, nearInHalves}
-use Rattle.search.specs.Waiting.{Part, waits, leftPart, rightPart, sent}
+use Rattle.search.specs.Nearby.{reach, tallyOf, Ready, Leaves, takenAt, nearInHalves}
+use Rattle.search.specs.Waiting.{Part, waits, leftPart, rightPart, sent, inHand, upcoming, ToCome, Slotted}
 use Rattle.search.proofs.Pending.{startOf, sizeOf, Fits, Stacked, stacked-append, stacked-front, stacked-last, stacked-few, slotsOf, slots-one-more, drop-front, first-of-part, behind-first}
-use Rattle.search.proofs.Sending.{sent-near, sent-far, stacked-one, stacked-sent, slots-append, slots-waits, slots-sent}
-use Rattle.search.proofs.Nearing.{leaves-as, opens-gap}
+use Rattle.search.proofs.Sending.{waits-none, waits-some, sent-near, sent-far, stacked-slotted, stacked-one, stacked-sent, slots-append, slots-waits, slots-sent}
+use Rattle.search.proofs.Nearing.{leaves-as, leaves-beyond, opens-gap, opens-within, shut-beyond}
 use Rattle.search.proofs.NearSteps.{
   Sound,
   sound-turn,
@@ -27,6 +28,8 @@ use Rattle.search.proofs.NearSteps.{
   ready-few,
   leaves-same,
   leaves-stopped,
+  held,
+  numbers,
   tally-after,
   ready-after,
   leaves-then,
@@ -49,7 +52,7 @@ module _ (dist : Profile → Profile → ℕ) (query : Profile) (k : ℕ) (slots
   unfoldable partTurn : Part → Tally → Tally
   partTurn p u = turn dist query k (entersLeft (getD p 2 0) 0) (λ v. nearestTree dist query k v (slotsAt slots p)) u
 
-  -- the turns of parts that wait, the last one's first
+  -- the turns of parts to come, the last one's first
   unfoldable pub after : Tally → List Part → Tally
   unfolding partTurn
   after u [] = u
@@ -163,17 +166,30 @@ module _ (dist : Profile → Profile → ℕ) (query : Profile) (k : ℕ) (slots
         ∙ near-first dist query k (slotsAt slots p) t (omega (arith, size))
         ∙ sym (turn-open dist query k (entersLeft (getD p 2 0) 0) (λ v. nearestTree dist query k v (slotsAt slots p)) t opened)
 
-  -- a search on its way to the tally `end`, with the parts that wait, from an area as it was at first
+  -- a search on its way to the tally `end`, with these parts to come, from an area as it was at first
   pub record Going (end : Tally) (first : List Entry) (parts : List Part) (area : List Entry) (near : Nearby) : Type 0 where
     pub whole : after (tallyOf area near) parts ≡ end
     pub ready : Ready k (slotsOf parts) area near
     pub left : Leaves (tallyOf area near) first area near
-    pub fit : Stacked (length slots) 6 parts
+    pub fit : Stacked (length slots) 8 parts
+
+  -- where a turn begins or ends: what is to come, waiting or in hand, and how far the search reaches
+  pub record Stands (end : Tally) (first : List Entry) (pending : List Part) (t : Turn) (area : List Entry) (near : Nearby) (bound : ℕ) : Type 0 where
+    pub going : Going end first (upcoming pending t) area near
+    pub size : length pending ≡ 8
+    pub places : t .depth ≤ length pending
+    pub same : length area ≡ length first
+    pub bound-is : bound ≡ reach k (take (near .kept) area)
+
+  -- the turn of a part is over, of n slots that were to come
+  pub record Turned (n : ℕ) (end : Tally) (first : List Entry) (pending : List Part) (t : Turn) (area : List Entry) (near : Nearby) (bound : ℕ) : Type 0 where
+    pub stands : Stands end first pending t area near bound
+    pub fewer : slotsOf (upcoming pending t) < n
 
   abbrev all : Part
   all = 0 ∷ length slots ∷ 0 ∷ []
 
-  pub going-start : {area : List Entry} {near : Nearby} → length slots < 64 → Ready k (length slots) area near
+  going-start : {area : List Entry} {near : Nearby} → length slots < 256 → Ready k (length slots) area near
       → Going (nearestTree dist query k (tallyOf area near) slots) area (waits all) area near
   unfolding partTurn opens entersLeft
   going-start {area} {near} few r =
@@ -184,7 +200,7 @@ module _ (dist : Profile → Profile → ℕ) (query : Profile) (k : ℕ) (slots
             ∙ ap (nearestTree dist query k (tallyOf area near)) (take-all (length slots) slots (omega arith));
         ready = ready-less (omega (arith, slots-waits all)) r;
         left = leaves-same area near r;
-        fit = stacked-one (length slots) 6 all (λ h. record { some = h; few = few; inside = omega arith });
+        fit = stacked-one (length slots) 8 all (λ h. record { some = h; few = few; inside = omega arith });
       }
     where
       passes : opens k (entersLeft 0 0) (take (near .kept) area) ≡ true
@@ -192,19 +208,24 @@ module _ (dist : Profile → Profile → ℕ) (query : Profile) (k : ℕ) (slots
           ap (λ (p : Bool). ltb (length (take (near .kept) area)) k || p) (le-leb 0 (0 + worst (take (near .kept) area)) (omega arith))
           ∙ or-true (ltb (length (take (near .kept) area)) k)
 
-module _ {dist : Profile → Profile → ℕ} {query : Profile} {k : ℕ} {slots : List Row} {end : Tally} {first : List Entry} where
-  pub going-few : {parts : List Part} {area : List Entry} {near : Nearby} → Going dist query k slots end first parts area near → length parts ≤ 6
-  going-few {parts} g = stacked-few (length slots) 6 parts (g .fit)
+  pub stands-start : {area : List Entry} {near : Nearby} {t : Turn} {bound : ℕ} (pending : List Part) → length pending ≡ 8 → length slots < 256 → Ready k (length slots) area near
+      → t ≡ record { depth = 0; start = 0; size = length slots; gap = 0 } → bound ≡ reach k (take (near .kept) area)
+      → Stands (nearestTree dist query k (tallyOf area near) slots) area pending t area near bound
+  unfolding upcoming
+  stands-start {area} {near} {t} {bound} pending size few r e b =
+      subst (λ (u : Turn). Stands (nearestTree dist query k (tallyOf area near) slots) area pending u area near bound) (sym e)
+      (record { going = going-start few r; size = size; places = omega arith; same = refl; bound-is = b })
 
-  pub going-end : (parts : List Part) {area : List Entry} {near : Nearby} → length parts ≡ 0 → Going dist query k slots end first parts area near → Leaves end first area near
+module _ {dist : Profile → Profile → ℕ} {query : Profile} {k : ℕ} {slots : List Row} {end : Tally} {first : List Entry} where
+  going-end : (parts : List Part) {area : List Entry} {near : Nearby} → length parts ≡ 0 → Going dist query k slots end first parts area near → Leaves end first area near
   unfolding after
   going-end [] {area} {near} e g = leaves-as first area near (g .whole) (g .left)
   going-end (p ∷ parts) e g = absurd (omega arith)
 
   -- the last part's turn has come
   module _ (parts : List Part) (p : Part) {area : List Entry} {near : Nearby} (g : Going dist query k slots end first (parts ++ (p ∷ [])) area near) where
-    pub fits : Fits (length slots) (6 - length parts) p
-    fits = stacked-last (length slots) 6 parts p (g .fit)
+    fits : Fits (length slots) (8 - length parts) p
+    fits = stacked-last (length slots) 8 parts p (g .fit)
 
     sum : slotsOf (parts ++ (p ∷ [])) ≡ slotsOf parts + sizeOf p
     sum = slots-one-more parts p
@@ -214,7 +235,7 @@ module _ {dist : Profile → Profile → ℕ} {query : Profile} {k : ℕ} {slots
     next = sym (after-append dist query k slots (tallyOf area near) parts (p ∷ [])) ∙ g .whole
 
     -- it is not entered
-    pub going-shut : opens k (entersLeft (getD p 2 0) 0) (take (near .kept) area) ≡ false → Going dist query k slots end first parts area near
+    going-shut : opens k (entersLeft (getD p 2 0) 0) (take (near .kept) area) ≡ false → Going dist query k slots end first parts area near
     unfolding partTurn
     going-shut e =
         record {
@@ -224,23 +245,23 @@ module _ {dist : Profile → Profile → ℕ} {query : Profile} {k : ℕ} {slots
               ∙ next;
           ready = ready-less (omega (arith, sum)) (g .ready);
           left = g .left;
-          fit = stacked-front (length slots) 6 parts p (g .fit);
+          fit = stacked-front (length slots) 8 parts p (g .fit);
         }
 
-    pub fewer-shut : slotsOf parts < slotsOf (parts ++ (p ∷ []))
+    fewer-shut : slotsOf parts < slotsOf (parts ++ (p ∷ []))
     fewer-shut = omega (arith, sum, fits .some)
 
     -- it is entered: its first slot's own head is taken in, and there is room for its halves
-    pub head-ready : Ready k 1 area near
+    head-ready : Ready k 1 area near
     head-ready = ready-less (omega (arith, sum, fits .some)) (g .ready)
 
-    next-fit : (d m : ℕ) → Stacked (length slots) 6 (parts ++ sent p d m)
-    next-fit d m = stacked-append (length slots) 6 parts (sent p d m) (stacked-front (length slots) 6 parts p (g .fit)) (stacked-sent (length slots) (6 - length parts) p d m fits)
+    next-fit : (d m : ℕ) → Stacked (length slots) 8 (parts ++ sent p d m)
+    next-fit d m = stacked-append (length slots) 8 parts (sent p d m) (stacked-front (length slots) 8 parts p (g .fit)) (stacked-sent (length slots) (8 - length parts) p d m fits)
 
-    pub room : (d m : ℕ) → length parts + length (sent p d m) ≤ 6
-    room d m = omega (arith, length-append parts (sent p d m), stacked-few (length slots) 6 (parts ++ sent p d m) (next-fit d m))
+    room : (d m : ℕ) → length parts + length (sent p d m) ≤ 8
+    room d m = omega (arith, length-append parts (sent p d m), stacked-few (length slots) 8 (parts ++ sent p d m) (next-fit d m))
 
-    pub fewer-sent : (d m : ℕ) → slotsOf (parts ++ sent p d m) + 1 ≡ slotsOf (parts ++ (p ∷ []))
+    fewer-sent : (d m : ℕ) → slotsOf (parts ++ sent p d m) + 1 ≡ slotsOf (parts ++ (p ∷ []))
     fewer-sent d m = omega (arith, sum, slots-append parts (sent p d m), slots-sent p d m (fits .some))
 
     module _ (opened : opens k (entersLeft (getD p 2 0) 0) (take (near .kept) area) ≡ true)
@@ -267,13 +288,13 @@ module _ {dist : Profile → Profile → ℕ} {query : Profile} {k : ℕ} {slots
       so-far = leaves-then (tallyOf area near) first area near (g .left) (g .ready .holds) taken mid r (sound .grows) l
 
       -- the area is too short for it, and so for all
-      pub going-stop : r .over ≡ true → Leaves end first mid r
+      going-stop : r .over ≡ true → Leaves end first mid r
       going-stop e =
           leaves-as first mid r goes
           (leaves-stopped taken first mid r so-far (after dist query k slots taken (parts ++ sent p d m)) (sound-after dist query k slots (parts ++ sent p d m) taken (sound .in-order) (sound .few) .grows) e)
 
-      -- the halves wait in the part's place
-      pub going-on : r .over ≡ false → Going dist query k slots end first (parts ++ sent p d m) mid r
+      -- the halves come in the part's place
+      going-on : r .over ≡ false → Going dist query k slots end first (parts ++ sent p d m) mid r
       unfolding taken
       going-on e =
           let same : tallyOf mid r ≡ taken = tally-after taken area mid r l e in
@@ -282,4 +303,126 @@ module _ {dist : Profile → Profile → ℕ} {query : Profile} {k : ℕ} {slots
             ready = ready-after taken area mid r l e (tallyOf area near) sound (omega (arith, fewer-sent d m, g .ready .counts));
             left = leaves-as first mid r (sym same) so-far;
             fit = next-fit d m;
+          }
+
+-- a slot has been met: what is kept is what taking it in leaves, and the reach is that of what is kept
+pub record Met (k : ℕ) (taken : Tally) (area mid : List Entry) (r : Nearby) (bound : ℕ) : Type 0 where
+  pub left : Leaves taken area mid r
+  pub through : r .over ≡ false
+  pub same : length mid ≡ length area
+  pub bound-is : bound ≡ reach k (take (r .kept) mid)
+
+-- the same of equal values, as where branches meet
+pub met-as : {k : ℕ} {taken : Tally} {area mid last : List Entry} {r near : Nearby} {bound next : ℕ} → last ≡ mid → near ≡ r → next ≡ bound → Met k taken area mid r bound → Met k taken area last near next
+met-as {k} {taken} {area} p q e m = coe 1 0 (i. Met k taken area (p i) (q i) (e i)) m
+
+pub turned-as : {dist : Profile → Profile → ℕ} {query : Profile} {k n : ℕ} {slots : List Row} {end : Tally} {first area last : List Entry} {pending after : List Part} {t then : Turn} {r near : Nearby} {bound next : ℕ}
+    → last ≡ area → after ≡ pending → near ≡ r → next ≡ bound → then ≡ t → Turned dist query k slots n end first pending t area r bound → Turned dist query k slots n end first after then last near next
+turned-as {dist} {query} {k} {n} {slots} {end} {first} p q e f g t = coe 1 0 (i. Turned dist query k slots n end first (q i) (g i) (p i) (e i) (f i)) t
+
+-- a slot within reach is taken in, where the area holds what is kept then
+pub met-within : {k : ℕ} {taken : Tally} {area mid : List Entry} {r : Nearby} {bound : ℕ} → Leaves taken area mid r → r .over ≡ false → length mid ≡ length area → bound ≡ reach k (take (r .kept) mid)
+    → Met k taken area mid r bound
+met-within l through same b = record { left = l; through = through; same = same; bound-is = b }
+
+pub kept-fits : {taken : Tally} {area mid : List Entry} {r : Nearby} → Leaves taken area mid r → r .over ≡ false → length mid ≡ length area → r .kept ≤ length mid
+kept-fits {taken} {area} {mid} {r} l through same = omega (arith, ap (λ (n : Nearby). n .kept) (numbers taken area mid r l through), held taken area mid r l through)
+
+-- a slot beyond reach is only counted
+pub met-beyond : {k : ℕ} {area : List Entry} {near r : Nearby} {bound : ℕ} (row : Row) (d : ℕ) → Ready k 1 area near → bound ≡ reach k (take (near .kept) area) → d < 2 ^ 64 → bound < d
+    → r ≡ record { kept = near .kept; count = near .count + 1; over = false } → Met k (takenAt k (tallyOf area near) row d) area area r bound
+met-beyond {k} {area} {near} {r} {bound} row d p b fits far e =
+    subst (λ (n : Nearby). Met k (takenAt k (tallyOf area near) row d) area area n bound) (sym e)
+    (record { left = leaves-beyond k row d area near p fits bound b far; through = refl; same = refl; bound-is = b })
+
+module _ {dist : Profile → Profile → ℕ} {query : Profile} {k : ℕ} {slots : List Row} {end : Tally} {first : List Entry} {pending : List Part} {t : Turn} {area : List Entry} {near : Nearby} {bound : ℕ}
+    (s : Stands dist query k slots end first pending t area near bound) where
+  -- nothing is to come any more
+  pub stands-end : t .size ≡ 0 → t .depth ≡ 0 → Leaves end first area near
+  unfolding upcoming
+  stands-end e f = going-end (upcoming pending t) (ap₂ (λ (n : ℕ) (l : List Part). length (take n pending ++ l)) f (waits-none (inHand t) e)) (s .going)
+
+  pub slotted : Slotted (take (t .depth) pending)
+  unfolding upcoming
+  slotted = stacked-slotted (length slots) 8 (take (t .depth) pending) (waits (inHand t)) (s .going .fit)
+
+  -- the next part is in hand
+  pub stands-next : {r : Turn} → ToCome (upcoming pending t) pending r → Stands dist query k slots end first pending r area near bound
+  stands-next q =
+      record {
+        going = subst (λ (ps : List Part). Going dist query k slots end first ps area near) (sym (q .parts-are)) (s .going);
+        size = s .size;
+        places = q .places;
+        same = s .same;
+        bound-is = s .bound-is;
+      }
+
+  -- the turn of a part with slots
+  module _ (some : 0 < t .size) where
+    waiting : List Part
+    waiting = take (t .depth) pending
+
+    hand : upcoming pending t ≡ waiting ++ (inHand t ∷ [])
+    unfolding upcoming waiting
+    hand = ap (λ (l : List Part). take (t .depth) pending ++ l) (waits-some (inHand t) (λ e. omega arith))
+
+    here : Going dist query k slots end first (waiting ++ (inHand t ∷ [])) area near
+    here = subst (λ (ps : List Part). Going dist query k slots end first ps area near) hand (s .going)
+
+    pub turn-inside : t .start + t .size ≤ length slots
+    turn-inside = fits waiting (inHand t) here .inside
+
+    pub turn-room : (d m : ℕ) → t .depth + length (sent (inHand t) d m) ≤ length pending
+    unfolding waiting
+    turn-room d m = omega (arith, room waiting (inHand t) here d m, length-take-le (t .depth) pending (s .places), s .size)
+
+    pub turn-ready : Ready k 1 area near
+    turn-ready = head-ready waiting (inHand t) here
+
+    -- the part is beyond reach
+    pub turn-beyond : t .gap < 2 ^ 64 → bound < t .gap → {r : Turn} → r ≡ record { depth = t .depth; start = 0; size = 0; gap = 0 }
+        → Turned dist query k slots (slotsOf (upcoming pending t)) end first pending r area near bound
+    unfolding waiting upcoming
+    turn-beyond fit far {r} e =
+        let shut : opens k (entersLeft (t .gap) 0) (take (near .kept) area) ≡ false = shut-beyond k (t .gap) (take (near .kept) area) fit bound (s .bound-is) far in
+        let rest : upcoming pending r ≡ waiting =
+        ap (upcoming pending) e ∙ ap (λ (l : List Part). waiting ++ l) (waits-none (0 ∷ 0 ∷ 0 ∷ []) refl) ∙ append-nil waiting
+        in
+        record {
+          stands =
+              record {
+                going = subst (λ (ps : List Part). Going dist query k slots end first ps area near) (sym rest) (going-shut waiting (inHand t) here shut);
+                size = s .size;
+                places = omega (arith, s .places, ap (λ (u : Turn). u .depth) e);
+                same = s .same;
+                bound-is = s .bound-is;
+              };
+          fewer = omega (arith, fewer-shut waiting (inHand t) here, ap slotsOf rest, ap slotsOf hand);
+        }
+
+    -- the part is within reach, and its first slot is met
+    module _ (fit : t .gap < 2 ^ 64) (near-by : t .gap ≤ bound) {d : ℕ} (at : d ≡ toQuery dist query (getD slots (t .start) [])) where
+      opened : opens k (entersLeft (t .gap) 0) (take (near .kept) area) ≡ true
+      opened = opens-within k (t .gap) (take (near .kept) area) fit bound (s .bound-is) near-by
+
+      -- the area is too short for it
+      pub turn-stop : {mid : List Entry} {r : Nearby} → Leaves (takenAt k (tallyOf area near) (getD slots (t .start) []) d) area mid r → r .over ≡ true → Leaves end first mid r
+      turn-stop l e = going-stop waiting (inHand t) here opened at refl l e
+
+      -- its halves are to come in its place
+      pub turn-within : {mid : List Entry} {r : Nearby} {next : ℕ} → Met k (takenAt k (tallyOf area near) (getD slots (t .start) []) d) area mid r next
+          → {m : ℕ} → m ≡ thresholdOf (getD slots (t .start) []) → {after : List Part} → length after ≡ length pending → {then : Turn} → ToCome (take (t .depth) pending ++ sent (inHand t) d m) after then
+          → Turned dist query k slots (slotsOf (upcoming pending t)) end first after then mid r next
+      unfolding waiting
+      turn-within {mid} {r} met {m} mt long c =
+          record {
+            stands =
+                record {
+                  going = subst (λ (ps : List Part). Going dist query k slots end first ps mid r) (sym (c .parts-are)) (going-on waiting (inHand t) here opened at mt (met .left) (met .through));
+                  size = long ∙ s .size;
+                  places = c .places;
+                  same = met .same ∙ s .same;
+                  bound-is = met .bound-is;
+                };
+            fewer = omega (arith, fewer-sent waiting (inHand t) here d m, ap slotsOf (c .parts-are), ap slotsOf hand);
           }

@@ -1,6 +1,6 @@
--- The steps of a nearest search on an area: a side's test on the entries kept there, and taking a slot's own head in.
+-- The steps of a nearest search on an area: how far it reaches with the entries kept there, and taking a slot's own head in.
 -- The entries kept are in order, so keeping one more is putting it in its place.
-use Prim.Native.Nat.{ℕ, suc, _+_, _-_, _≤_, _<_}
+use Prim.Native.Nat.{ℕ, suc, _+_, _-_, _≤_, _<_, _^_}
 use mathlib.Core.Path.{_≡_, refl, sym, ap, subst, _∙_}
 use mathlib.Core.Bool.{Bool, true, false, _||_}
 use mathlib.Core.List.{List, [], _∷_, _++_, foldl}
@@ -8,6 +8,7 @@ use lib.ListN.{length, take, drop, getD, length-take, take-append-drop, drop-of-
 use lib.Seq.{length-take-le, getD-take, take-all, take-at, take-suc}
 use lib.Dec.{leb, ltb, eqb}
 use borrow.Author.Tests.{lt-ltb, le-ltb, le-leb, lt-leb, leb-true, leb-false, eq-eqb, ne-eqb, eqb-true, eqb-false}
+use native.Mathlib.Decide.{decLe}
 use native.Mathlib.Omega.{arith}
 use Rattle.metric.specs.Row.{Row, tagOf, markOf}
 use Rattle.search.specs.declared.nearest.Nearby.{Nearby}
@@ -15,10 +16,11 @@ use Rattle.tree.specs.Sorting.{keyLe, insertBy, sortBy}
 use Rattle.tree.specs.Guided.{All}
 use Rattle.search.specs.Range.{Entry, entry, entryDistance, entryKey, ordered, isLive, entersLeft}
 use Rattle.search.specs.Nearest.{Tally, keep, worst, opens}
-use Rattle.search.specs.Nearby.{tallyOf, Ready, Leaves, takenAt}
+use Rattle.search.specs.Nearby.{reach, tallyOf, Ready, Leaves, takenAt}
 use Rattle.tree.proofs.Lists.{perm-length}
 use Rattle.tree.proofs.Sorting.{NotAfter, insert-perm, insert-append}
-use Rattle.search.proofs.Sliding.{sorted-of-ordered, insert-split, before-last}
+use Rattle.search.proofs.Heap.{key-differ}
+use Rattle.search.proofs.Sliding.{sorted-of-ordered, front-ordered, insert-split, before-last}
 
 last-from : (d : ℕ) (e : Entry) (es : List Entry) → foldl (λ n x. entryDistance x) d (e ∷ es) ≡ entryDistance (getD (e ∷ es) (length es) [])
 last-from d e [] = refl
@@ -32,39 +34,48 @@ worst-last (e ∷ es) h =
     let n : length es ≡ length (e ∷ es) - 1 = omega arith in
     last-from 0 e es ∙ ap (λ (i : ℕ). entryDistance (getD (e ∷ es) i [])) n
 
-module _ (area : List Entry) (kept k gap : ℕ) (within : kept ≤ length area) where
+-- what the reach is: below k kept all there is, and then the last entry's distance
+module _ (area : List Entry) (kept k : ℕ) (within : kept ≤ length area) where
   size : length (take kept area) ≡ kept
   size = length-take-le kept area within
 
-  pub open-below : kept < k → true ≡ opens k (entersLeft gap 0) (take kept area)
-  unfolding opens
-  open-below h = sym (ap (λ (p : Bool). p || entersLeft gap 0 (worst (take kept area))) (lt-ltb (length (take kept area)) k (omega (arith, size))))
+  pub reach-below : kept < k → 2 ^ 64 - 1 ≡ reach k (take kept area)
+  unfolding reach
+  reach-below h = sym (ap (λ (b : Bool). elim b [ true ↦ 2 ^ 64 - 1 | false ↦ worst (take kept area) ]) (lt-ltb (length (take kept area)) k (omega (arith, size))))
 
-  open-full : k ≤ kept → opens k (entersLeft gap 0) (take kept area) ≡ leb gap (0 + worst (take kept area))
-  unfolding opens entersLeft
-  open-full h = ap (λ (p : Bool). p || leb gap (0 + worst (take kept area))) (le-ltb (length (take kept area)) k (omega (arith, size)))
+  reach-full : k ≤ kept → worst (take kept area) ≡ reach k (take kept area)
+  unfolding reach
+  reach-full h = sym (ap (λ (b : Bool). elim b [ true ↦ 2 ^ 64 - 1 | false ↦ worst (take kept area) ]) (le-ltb (length (take kept area)) k (omega (arith, size))))
 
-  pub open-empty : k ≤ kept → kept ≡ 0 → eqb gap 0 ≡ opens k (entersLeft gap 0) (take kept area)
+  pub reach-empty : k ≤ kept → kept ≡ 0 → 0 ≡ reach k (take kept area)
   unfolding worst
-  open-empty h e = go (eqb gap 0) refl ∙ ap (λ (n : ℕ). leb gap (0 + n)) (sym none) ∙ sym (open-full h)
-    where
-      none : worst (take kept area) ≡ 0
-      none = ap (λ (n : ℕ). worst (take n area)) e
+  reach-empty h e = sym (ap (λ (n : ℕ). worst (take n area)) e) ∙ reach-full h
 
-      go : (p : Bool) → eqb gap 0 ≡ p → p ≡ leb gap 0
-      go true f = sym (le-leb gap 0 (omega (arith, eqb-true gap 0 f)))
-      go false f = sym (lt-leb gap 0 (omega (arith, eqb-false gap 0 f)))
-
-  pub open-last : k ≤ kept → 0 < kept → leb gap (getD (getD area (kept - 1) []) 1 0) ≡ opens k (entersLeft gap 0) (take kept area)
+  pub reach-last : k ≤ kept → 0 < kept → getD (getD area (kept - 1) []) 1 0 ≡ reach k (take kept area)
   unfolding entryDistance
-  open-last h z =
-      let last : getD (getD area (kept - 1) []) 1 0 ≡ worst (take kept area) =
+  reach-last h z =
       sym
       (worst-last (take kept area) (omega (arith, size))
       ∙ ap (λ (e : Entry). entryDistance e) (ap (λ (n : ℕ). getD (take kept area) (n - 1) []) size ∙ getD-take kept area (kept - 1) [] (omega arith)))
-      in
-      let same : getD (getD area (kept - 1) []) 1 0 ≡ 0 + worst (take kept area) = omega (arith, last) in
-      ap (leb gap) same ∙ sym (open-full h)
+      ∙ reach-full h
+
+-- a part is entered where its gap is within reach
+opens-reach : (k gap : ℕ) (es : List Entry) → gap < 2 ^ 64 → opens k (entersLeft gap 0) es ≡ leb gap (reach k es)
+unfolding opens entersLeft reach
+opens-reach k gap es h = go (ltb (length es) k)
+  where
+    go : (b : Bool) → b || leb gap (0 + worst es) ≡ leb gap (elim b [ true ↦ 2 ^ 64 - 1 | false ↦ worst es ])
+    go true = sym (le-leb gap (2 ^ 64 - 1) (omega arith))
+    go false =
+        let same : 0 + worst es ≡ worst es = omega arith in
+        ap (leb gap) same
+
+module _ (k gap : ℕ) (es : List Entry) (fits : gap < 2 ^ 64) (bound : ℕ) (e : bound ≡ reach k es) where
+  pub opens-within : gap ≤ bound → opens k (entersLeft gap 0) es ≡ true
+  opens-within h = opens-reach k gap es fits ∙ le-leb gap (reach k es) (omega arith)
+
+  pub shut-beyond : bound < gap → opens k (entersLeft gap 0) es ≡ false
+  shut-beyond h = opens-reach k gap es fits ∙ lt-leb gap (reach k es) (omega arith)
 
 -- a test on a and b is one on the excess of a over b
 pub opens-gap : (k a b gap : ℕ) → gap ≡ a - b → (es : List Entry) → opens k (entersLeft gap 0) es ≡ opens k (entersLeft a b) es
@@ -96,6 +107,10 @@ leaves-over t area after n h e = record { numbers = λ fits. absurd (omega arith
 pub leaves-as : {t u : Tally} (area after : List Entry) (n : Nearby) → t ≡ u → Leaves t area after n → Leaves u area after n
 leaves-as area after n e l = subst (λ (v : Tally). Leaves v area after n) e l
 
+-- the same numbers, told otherwise
+pub leaves-told : (t : Tally) (area after : List Entry) {n m : Nearby} → n ≡ m → Leaves t area after m → Leaves t area after n
+leaves-told t area after e l = subst (Leaves t area after) (sym e) l
+
 tally-eq : {a b : List Entry} {c d : ℕ} → a ≡ b → c ≡ d → _≡_ {A = Tally} (record { kept = a; count = c }) (record { kept = b; count = d })
 tally-eq p q = λ i. record { kept = p i; count = q i }
 
@@ -124,6 +139,12 @@ module _ (k : ℕ) (row : Row) (d : ℕ) (area : List Entry) (n : Nearby) (r : R
       in
       leaves-as area area _ (sym t) (leaves-held (record { kept = before; count = suc (n .count) }) area area (n .kept) (n .count + 1) (r .within) before-size (omega arith) whole)
 
+  -- the head may be put among the first `end` entries, and then those before place end + 1 are kept
+  pub record Puts (end : ℕ) : Type 0 where
+    pub inside : end < length area
+    pub in-front : ordered (take end area) ≡ take end area
+    pub left : Leaves (takenAt k (tallyOf area n) row d) area (insertBy entryKey (entry (tagOf row) d) (take end area) ++ drop (end + 1) area) (record { kept = end + 1; count = n .count + 1; over = false })
+
   module _ (live : markOf row ≡ 0) where
     new : Entry
     new = entry (tagOf row) d
@@ -143,35 +164,41 @@ module _ (k : ℕ) (row : Row) (d : ℕ) (area : List Entry) (n : Nearby) (r : R
         leaves-as area area _ (sym taken-live)
         (leaves-over (record { kept = take k (insertBy entryKey new before); count = suc (n .count) }) area area _ (rw (length-take, inserted-size) (omega arith)) refl)
 
-    pub leaves-more : n .kept < k → n .kept < length area
-        → Leaves (takenAt k (tallyOf area n) row d) area (insertBy entryKey (entry (tagOf row) d) (take (n .kept) area) ++ drop (n .kept + 1) area) (record { kept = n .kept + 1; count = n .count + 1; over = false })
+    pub puts-more : n .kept < k → n .kept < length area → Puts (n .kept)
     unfolding new before
-    leaves-more h g =
+    puts-more h g =
         let all : take k (insertBy entryKey new before) ≡ insertBy entryKey new before = take-all k (insertBy entryKey new before) (omega (arith, inserted-size)) in
-        leaves-as area _ _ (sym (taken-live ∙ tally-eq all refl))
-        (leaves-held (record { kept = insertBy entryKey new before; count = suc (n .count) }) area _ (n .kept + 1) (n .count + 1) (omega arith) (omega (arith, inserted-size)) (omega arith) refl)
+        record {
+          inside = g;
+          in-front = r .in-order;
+          left =
+              leaves-as area _ _ (sym (taken-live ∙ tally-eq all refl))
+              (leaves-held (record { kept = insertBy entryKey new before; count = suc (n .count) }) area _ (n .kept + 1) (n .count + 1) (omega arith) (omega (arith, inserted-size)) (omega arith) refl);
+        }
 
     module _ (full : k ≤ n .kept) where
       exact : n .kept ≡ k
       exact = omega (arith, r .few)
 
-      pub leaves-worst : 0 < n .kept → keyLe (entryKey (entry (tagOf row) d)) (entryKey (getD area (n .kept - 1) [])) ≡ true
-          → Leaves (takenAt k (tallyOf area n) row d) area (insertBy entryKey (entry (tagOf row) d) (take (n .kept - 1) area) ++ drop (n .kept - 1 + 1) area) (record { kept = n .kept; count = n .count + 1; over = false })
+      pub puts-worst : 0 < n .kept → keyLe (entryKey (entry (tagOf row) d)) (entryKey (getD area (n .kept - 1) [])) ≡ true → Puts (n .kept - 1)
       unfolding new before
-      leaves-worst z h =
+      puts-worst z h =
           let rest = take (n .kept - 1) area in
           let last = getD area (n .kept - 1) [] in
           let one : suc (n .kept - 1) ≡ n .kept = omega arith in
           let ends : take (n .kept) area ≡ rest ++ (last ∷ []) = ap (λ (m : ℕ). take m area) (sym one) ∙ take-suc area (n .kept - 1) [] (omega (arith, r .within)) in
           let split : insertBy entryKey new before ≡ insertBy entryKey new rest ++ (last ∷ []) = ap (insertBy entryKey new) ends ∙ insert-append entryKey new rest (last ∷ []) (h, tt) in
-          let size : length (insertBy entryKey new rest) ≡ k =
-          perm-length (insert-perm entryKey new rest) ∙ ap suc (length-take-le (n .kept - 1) area (omega (arith, r .within))) ∙ one ∙ exact
+          let size : length (insertBy entryKey new rest) ≡ n .kept - 1 + 1 =
+          perm-length (insert-perm entryKey new rest) ∙ ap suc (length-take-le (n .kept - 1) area (omega (arith, r .within))) ∙ omega arith
           in
-          let kept : take k (insertBy entryKey new before) ≡ insertBy entryKey new rest = ap (take k) split ∙ take-at (insertBy entryKey new rest) (last ∷ []) k size in
-          let past : n .kept - 1 + 1 ≡ n .kept = omega arith in
-          leaves-as area _ _ (sym (taken-live ∙ tally-eq kept refl))
-          (leaves-held (record { kept = insertBy entryKey new rest; count = suc (n .count) }) area _ (n .kept) (n .count + 1) (r .within) (size ∙ sym exact) (omega arith)
-          (ap (λ (m : ℕ). insertBy entryKey new rest ++ drop m area) past))
+          let kept : take k (insertBy entryKey new before) ≡ insertBy entryKey new rest = ap (take k) split ∙ take-at (insertBy entryKey new rest) (last ∷ []) k (omega (arith, size, exact)) in
+          record {
+            inside = omega (arith, r .within);
+            in-front = front-ordered area (n .kept - 1) (n .kept) (omega arith) (r .in-order);
+            left =
+                leaves-as area _ _ (sym (taken-live ∙ tally-eq kept refl))
+                (leaves-held (record { kept = insertBy entryKey new rest; count = suc (n .count) }) area _ (n .kept - 1 + 1) (n .count + 1) (omega (arith, r .within)) size (omega arith) refl);
+          }
 
       -- an entry that is after all k kept is dropped
       unchanged : take k (insertBy entryKey new before) ≡ before → Leaves (takenAt k (tallyOf area n) row d) area area (record { kept = n .kept; count = n .count + 1; over = false })
@@ -198,3 +225,20 @@ module _ (k : ℕ) (row : Row) (d : ℕ) (area : List Entry) (n : Nearby) (r : R
           let nil : k ≡ 0 = omega (arith, exact) in
           let zero′ : 0 ≡ n .kept = omega arith in
           unchanged (ap (λ (m : ℕ). take m (insertBy entryKey new before)) nil ∙ ap (λ (m : ℕ). take m area) zero′)
+
+  -- a head beyond reach is dropped, if it is live at all: k entries are kept, and it is after the last of them
+  pub leaves-beyond : d < 2 ^ 64 → (bound : ℕ) → bound ≡ reach k (take (n .kept) area) → bound < d
+      → Leaves (takenAt k (tallyOf area n) row d) area area (record { kept = n .kept; count = n .count + 1; over = false })
+  unfolding entryKey entryDistance entry
+  leaves-beyond fits bound e far = go (eqb (markOf row) 0) refl (decLe k (n .kept)) (decLe (n .kept) 0)
+    where
+      go : (b : Bool) → eqb (markOf row) 0 ≡ b → Dec (k ≤ n .kept) → Dec (n .kept ≤ 0)
+          → Leaves (takenAt k (tallyOf area n) row d) area area (record { kept = n .kept; count = n .count + 1; over = false })
+      go false dead x y = leaves-dead (eqb-false (markOf row) 0 dead)
+      go true live (no few) y = absurd (omega (arith, reach-below area (n .kept) k (r .within) (omega arith)))
+      go true live (yes full) (yes none) = leaves-none (eqb-true (markOf row) 0 live) full none
+      go true live (yes full) (no some) =
+          let last : ℕ = getD (getD area (n .kept - 1) []) 1 0 in
+          let below : last < d = omega (arith, reach-last area (n .kept) k (r .within) full (omega arith)) in
+          leaves-after (eqb-true (markOf row) 0 live) full (omega arith)
+          (key-differ d last (tagOf row ∷ []) (getD (getD area (n .kept - 1) []) 0 0 ∷ []) (λ same. omega arith) ∙ le-ltb d last (omega arith))

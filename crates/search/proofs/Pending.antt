@@ -38,10 +38,6 @@ more-bits zero (suc c) h = omega (arith, more-bits zero c (omega arith))
 more-bits (suc b) zero h = absurd (omega arith)
 more-bits (suc b) (suc c) h = omega (arith, more-bits b c (omega arith))
 
--- there is a place for a part of so few slots
-pub place-left : (all bits depth : ℕ) (p : List ℕ) → Fits all (bits - depth) p → depth < bits
-place-left all bits depth p f = omega (arith, bits-needed (bits - depth) (f .some) (f .few))
-
 -- the halves of a part fit one bit fewer, where they have slots
 module _ (all bits at n : ℕ) (some : 0 < n) (few : n < 2 ^ bits) (inside : at + n ≤ all) where
   pub left-fits : (rest : List ℕ) → 0 < n / 2 → Fits all (bits - 1) ((at + 1) ∷ (n / 2) ∷ rest)

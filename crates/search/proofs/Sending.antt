@@ -1,21 +1,25 @@
--- Parts that are pushed or sent wait behind those that waited. The halves of a part fit one bit fewer than it, so that both find a place where it
--- had one.
+-- A part that is pushed waits behind those that waited. Of the halves that are sent one is in hand next and the other is pushed. The halves of a
+-- part fit one bit fewer than it, so that both find a place where it had one.
 use Prim.Native.Nat.{ℕ, _+_, _-_, _/_, _≤_, _<_}
 use mathlib.Core.Path.{_≡_, refl, sym, ap, ap₂, subst, _∙_}
 use mathlib.Core.Bool.{Bool, true, false}
 use mathlib.Core.List.{List, [], _∷_, _++_, append-assoc, append-nil}
-use lib.ListN.{length, take, set, length-append}
+use lib.ListN.{length, take, getD, set, length-append}
+use lib.Seq.{length-take-le, getD-take}
 use lib.Dec.{leb, eqb}
 use borrow.Author.Tests.{eqb-true, eqb-false, eq-eqb, ne-eqb, le-leb, lt-leb}
 use native.Mathlib.Omega.{arith}
-use Rattle.search.specs.Waiting.{Part, waits, leftPart, rightPart, sent, Pushed}
-use Rattle.search.proofs.Pending.{startOf, sizeOf, Fits, parts-one-more, left-fits, right-fits, fits-more, Stacked, slotsOf}
+use Rattle.search.specs.declared.waiting.Turn.{Turn}
+use Rattle.search.specs.Range.{entersLeft, entersRight}
+use Rattle.search.specs.Waiting.{Part, waits, leftPart, rightPart, sent, entered, Pushed, inHand, upcoming, ToCome, TakenUp, Slotted}
+use Rattle.search.proofs.HeapSort.{all-at}
+use Rattle.search.proofs.Pending.{startOf, sizeOf, Fits, parts-one-more, parts-one-less, left-fits, right-fits, fits-more, Stacked, stacked-append, slotsOf}
 
-waits-none : (p : Part) → sizeOf p ≡ 0 → waits p ≡ []
+pub waits-none : (p : Part) → sizeOf p ≡ 0 → waits p ≡ []
 unfolding waits
 waits-none p e = ap (λ (b : Bool). elim b [ true ↦ [] | false ↦ p ∷ [] ]) (eq-eqb (sizeOf p) 0 e)
 
-waits-some : (p : Part) → (sizeOf p ≡ 0 → ⊥) → waits p ≡ p ∷ []
+pub waits-some : (p : Part) → (sizeOf p ≡ 0 → ⊥) → waits p ≡ p ∷ []
 unfolding waits
 waits-some p e = ap (λ (b : Bool). elim b [ true ↦ [] | false ↦ p ∷ [] ]) (ne-eqb (sizeOf p) 0 e)
 
@@ -33,11 +37,14 @@ module _ (p : Part) (d m x y : ℕ) (above : x ≡ d - m) (below : y ≡ m - d) 
       ap (λ (b : Bool). elim b [ true ↦ waits (rightPart p (m - d)) ++ waits (leftPart p (d - m)) | false ↦ waits (leftPart p (d - m)) ++ waits (rightPart p (m - d)) ]) (lt-leb d m h)
       ∙ ap₂ (λ (i j : ℕ). waits (leftPart p i) ++ waits (rightPart p j)) (sym above) (sym below)
 
+pub pushed-nothing : (before : List Part) (depth : ℕ) → Pushed [] before depth before depth
+pushed-nothing before depth = record { waiting = sym (append-nil (take depth before)); number = omega arith }
+
 module _ (p : Part) (before : List Part) (depth : ℕ) where
   pub pushed-none : sizeOf p ≡ 0 → Pushed (waits p) before depth before depth
   pushed-none e =
       subst (λ (ps : List Part). Pushed ps before depth before depth) (sym (waits-none p e))
-      (record { waiting = sym (append-nil (take depth before)); number = omega arith })
+      (pushed-nothing before depth)
 
   module _ (some : sizeOf p ≡ 0 → ⊥) (room : depth + length (waits p) ≤ length before) where
     pub push-place : depth < length before
@@ -48,26 +55,130 @@ module _ (p : Part) (before : List Part) (depth : ℕ) where
         subst (λ (ps : List Part). Pushed ps before depth (set before depth p) (depth + 1)) (sym (waits-some p some))
         (record { waiting = parts-one-more before depth p push-place; number = refl })
 
--- parts that are pushed in two turns
-module _ (parts a b : List Part) (e : parts ≡ a ++ b) (before : List Part) (depth : ℕ) (room : depth + length parts ≤ length before) where
-  sum : length parts ≡ length a + length b
-  sum = ap length e ∙ length-append a b
+-- the halves of the part in hand: what is behind the part that is in hand next
+module _ (t : Turn) (d m : ℕ) where
+  -- there is none behind its one slot
+  pub sent-none : (start gap : ℕ) → 0 < t .size → t .size / 2 ≡ 0 → sent (inHand t) d m ≡ [] ++ waits (start ∷ 0 ∷ gap ∷ [])
+  unfolding sent leftPart rightPart
+  sent-none start gap some h = go (leb d m) ∙ sym (waits-none (start ∷ 0 ∷ gap ∷ []) refl)
+    where
+      left : waits (leftPart (inHand t) (d - m)) ≡ []
+      left = waits-none (leftPart (inHand t) (d - m)) h
 
-  pub first-room : depth + length a ≤ length before
-  first-room = omega (arith, sum)
+      right : waits (rightPart (inHand t) (m - d)) ≡ []
+      right = waits-none (rightPart (inHand t) (m - d)) (omega arith)
 
-  module _ (mid : List Part) (next : ℕ) (x : Pushed a before depth mid next) where
-    pub second-room : length mid ≡ length before → next + length b ≤ length mid
-    second-room same = omega (arith, sum, x .number)
+      go : (b : Bool) → _≡_ {A = List Part} (elim b [ true ↦ waits (rightPart (inHand t) (m - d)) ++ waits (leftPart (inHand t) (d - m)) | false ↦ waits (leftPart (inHand t) (d - m)) ++ waits (rightPart (inHand t) (m - d)) ]) []
+      go true = ap₂ _++_ right left
+      go false = ap₂ _++_ left right
 
-    pub pushed-both : (after : List Part) (r : ℕ) → Pushed b mid next after r → Pushed parts before depth after r
-    pushed-both after r y =
-        record {
-          waiting = y .waiting ∙ ap (λ (l : List Part). l ++ b) (x .waiting) ∙ append-assoc (take depth before) a b ∙ ap (λ (l : List Part). take depth before ++ l) (sym e);
-          number = omega (arith, sum, x .number, y .number);
-        }
+  -- the half on the query's side is next, its gap being 0
+  pub sent-left : d ≤ m → sent (inHand t) d m ≡ waits (rightPart (inHand t) (m - d)) ++ waits (leftPart (inHand t) 0)
+  sent-left h = sent-near (inHand t) d m 0 (m - d) (omega arith) refl h
+
+  pub sent-right : m < d → sent (inHand t) d m ≡ waits (leftPart (inHand t) (d - m)) ++ waits (rightPart (inHand t) 0)
+  sent-right h = sent-far (inHand t) d m (d - m) 0 refl (omega arith) h
+
+  -- or the left one, where the right one has no slots
+  pub sent-last : m < d → t .size - 1 - t .size / 2 ≡ 0 → sent (inHand t) d m ≡ [] ++ waits (leftPart (inHand t) (d - m))
+  unfolding rightPart
+  sent-last h none =
+      sent-right h
+      ∙ ap (λ (l : List Part). waits (leftPart (inHand t) (d - m)) ++ l) (waits-none (rightPart (inHand t) 0) none)
+      ∙ append-nil (waits (leftPart (inHand t) (d - m)))
+
+-- the halves of the part in hand that range enters
+module _ (t : Turn) (d m r : ℕ) where
+  choose : (b c : Bool) → entersRight d m r ≡ b → entersLeft d m r ≡ c
+      → entered (inHand t) d m r
+      ≡ (elim b as (λ _. List Part) [ true ↦ waits (rightPart (inHand t) 0) | false ↦ [] ]) ++ (elim c [ true ↦ waits (leftPart (inHand t) 0) | false ↦ [] ])
+  unfolding entered
+  choose b c p q =
+      ap₂ (λ (x y : Bool). (elim x as (λ _. List Part) [ true ↦ waits (rightPart (inHand t) 0) | false ↦ [] ]) ++ (elim y [ true ↦ waits (leftPart (inHand t) 0) | false ↦ [] ])) p q
+
+  -- there is none behind its one slot
+  pub entered-none : (start gap : ℕ) → 0 < t .size → t .size / 2 ≡ 0 → entered (inHand t) d m r ≡ [] ++ waits (start ∷ 0 ∷ gap ∷ [])
+  unfolding leftPart rightPart
+  entered-none start gap some h = choose _ _ refl refl ∙ go (entersRight d m r) (entersLeft d m r) ∙ sym (waits-none (start ∷ 0 ∷ gap ∷ []) refl)
+    where
+      left : waits (leftPart (inHand t) 0) ≡ []
+      left = waits-none (leftPart (inHand t) 0) h
+
+      right : waits (rightPart (inHand t) 0) ≡ []
+      right = waits-none (rightPart (inHand t) 0) (omega arith)
+
+      go : (b c : Bool) → _≡_ {A = List Part} ((elim b as (λ _. List Part) [ true ↦ waits (rightPart (inHand t) 0) | false ↦ [] ]) ++ (elim c [ true ↦ waits (leftPart (inHand t) 0) | false ↦ [] ])) []
+      go true true = ap₂ _++_ right left
+      go true false = ap (λ (l : List Part). l ++ []) right
+      go false true = left
+      go false false = refl
+
+  -- the right one alone, the left one alone, or both
+  pub entered-right : m + r < d → entered (inHand t) d m r ≡ [] ++ waits (rightPart (inHand t) 0)
+  unfolding entersLeft entersRight
+  entered-right h = choose true false (le-leb m (d + r) (omega arith)) (lt-leb d (m + r) h) ∙ append-nil (waits (rightPart (inHand t) 0))
+
+  pub entered-left : d + r < m → entered (inHand t) d m r ≡ [] ++ waits (leftPart (inHand t) 0)
+  unfolding entersLeft entersRight
+  entered-left h = choose false true (lt-leb m (d + r) h) (le-leb d (m + r) (omega arith))
+
+  pub entered-both : d ≤ m + r → m ≤ d + r → entered (inHand t) d m r ≡ waits (rightPart (inHand t) 0) ++ waits (leftPart (inHand t) 0)
+  unfolding entersLeft entersRight
+  entered-both h g = choose true true (le-leb m (d + r) g) (le-leb d (m + r) h)
+
+-- of these parts the last is in hand, and the others wait behind those that waited
+module _ (t : Turn) (parts before : List Part) (room : t .depth + length parts ≤ length before) (far : List Part) (hand : Part) (e : parts ≡ far ++ waits hand) where
+  sum : length parts ≡ length far + length (waits hand)
+  sum = ap length e ∙ length-append far (waits hand)
+
+  pub far-room : t .depth + length far ≤ length before
+  far-room = omega (arith, sum)
+
+  pub to-come : (r : Turn) → inHand r ≡ hand → (after : List Part) → length after ≡ length before → Pushed far before (t .depth) after (r .depth) → ToCome (take (t .depth) before ++ parts) after r
+  unfolding upcoming
+  to-come r same after long p =
+      record {
+        parts-are =
+            ap₂ (λ (l : List Part) (q : Part). l ++ waits q) (p .waiting) same
+            ∙ append-assoc (take (t .depth) before) far (waits hand)
+            ∙ ap (λ (l : List Part). take (t .depth) before ++ l) (sym e);
+        places = omega (arith, sum, p .number);
+      }
+
+-- a part is its three numbers
+pub three : (p : Part) → length p ≡ 3 → getD p 0 0 ∷ getD p 1 0 ∷ getD p 2 0 ∷ [] ≡ p
+three (a ∷ b ∷ c ∷ []) e = refl
+three [] e = absurd (omega arith)
+three (a ∷ []) e = absurd (omega arith)
+three (a ∷ b ∷ []) e = absurd (omega arith)
+three (a ∷ b ∷ c ∷ d ∷ p) e = absurd (omega arith)
+
+-- the last part that waits is taken up
+module _ (pending : List Part) (t : Turn) (some : 0 < t .depth) (places : t .depth ≤ length pending) (slots : Slotted (take (t .depth) pending)) where
+  pub last-some : 0 < sizeOf (getD pending (t .depth - 1) [])
+  last-some =
+      subst (λ (p : Part). 0 < sizeOf p) (getD-take (t .depth) pending (t .depth - 1) [] (omega arith))
+      (all-at (λ p. 0 < sizeOf p) (take (t .depth) pending) (t .depth - 1) (omega (arith, length-take-le (t .depth) pending places)) slots)
+
+  pub come-up : t .size ≡ 0 → (r : Turn) → TakenUp (t .depth - 1) (getD pending (t .depth - 1) []) r → ToCome (upcoming pending t) pending r
+  unfolding upcoming
+  come-up empty r up =
+      record {
+        parts-are =
+            ap₂ (λ (n : ℕ) (p : Part). take n pending ++ waits p) (up .waiting) (up .hand)
+            ∙ ap (λ (l : List Part). take (t .depth - 1) pending ++ l) (waits-some (getD pending (t .depth - 1) []) (λ e. omega (arith, last-some)))
+            ∙ sym (parts-one-less pending (t .depth) some places)
+            ∙ sym (append-nil (take (t .depth) pending))
+            ∙ ap (λ (l : List Part). take (t .depth) pending ++ l) (sym (waits-none (inHand t) empty));
+        places = omega (arith, up .waiting);
+      }
 
 module _ (all : ℕ) where
+  -- parts that are stacked have slots
+  pub stacked-slotted : (bits : ℕ) (ps qs : List Part) → Stacked all bits (ps ++ qs) → Slotted ps
+  stacked-slotted bits [] qs h = tt
+  stacked-slotted bits (p ∷ ps) qs h = (h .0 .some, stacked-slotted (bits - 1) ps qs (h .1))
+
   pub stacked-one : (bits : ℕ) (p : Part) → (0 < sizeOf p → Fits all bits p) → Stacked all bits (waits p)
   unfolding waits
   stacked-one bits p f = go (eqb (sizeOf p) 0) refl
@@ -99,6 +210,25 @@ module _ (all : ℕ) where
       go true = stacked-two bits (rightPart p (m - d)) (leftPart p (d - m)) right left
       go false = stacked-two bits (leftPart p (d - m)) (rightPart p (m - d)) left right
 
+  pub stacked-entered : (bits : ℕ) (p : Part) (d m r : ℕ) → Fits all bits p → Stacked all bits (entered p d m r)
+  unfolding entered leftPart rightPart
+  stacked-entered bits p d m r f = go (entersRight d m r) (entersLeft d m r)
+    where
+      left : 0 < sizeOf p / 2 → Fits all (bits - 1) (leftPart p 0)
+      left h = left-fits all bits (startOf p) (sizeOf p) (f .some) (f .few) (f .inside) (0 ∷ []) h
+
+      right : 0 < sizeOf p - 1 - sizeOf p / 2 → Fits all (bits - 1) (rightPart p 0)
+      right h = right-fits all bits (startOf p) (sizeOf p) (f .some) (f .few) (f .inside) (0 ∷ []) h
+
+      one : (q : Part) → (0 < sizeOf q → Fits all (bits - 1) q) → Stacked all bits (waits q)
+      one q g = stacked-one bits q (λ h. fits-more all (bits - 1) bits q (omega arith) (g h))
+
+      go : (b c : Bool) → Stacked all bits ((elim b as (λ _. List Part) [ true ↦ waits (rightPart p 0) | false ↦ [] ]) ++ (elim c [ true ↦ waits (leftPart p 0) | false ↦ [] ]))
+      go true true = stacked-two bits (rightPart p 0) (leftPart p 0) right left
+      go true false = stacked-append all bits (waits (rightPart p 0)) [] (one (rightPart p 0) right) tt
+      go false true = one (leftPart p 0) left
+      go false false = tt
+
 -- the slots of parts that wait
 pub slots-append : (ps qs : List Part) → slotsOf (ps ++ qs) ≡ slotsOf ps + slotsOf qs
 unfolding slotsOf
@@ -123,3 +253,15 @@ slots-sent p d m h = go (leb d m)
     go : (b : Bool) → slotsOf (elim b [ true ↦ waits (rightPart p (m - d)) ++ waits (leftPart p (d - m)) | false ↦ waits (leftPart p (d - m)) ++ waits (rightPart p (m - d)) ]) + 1 ≡ sizeOf p
     go true = omega (arith, two (rightPart p (m - d)) (leftPart p (d - m)))
     go false = omega (arith, two (leftPart p (d - m)) (rightPart p (m - d)))
+
+pub slots-entered : (p : Part) (d m r : ℕ) → 0 < sizeOf p → slotsOf (entered p d m r) < sizeOf p
+unfolding entered leftPart rightPart slotsOf
+slots-entered p d m r h = go (entersRight d m r) (entersLeft d m r)
+  where
+    one : (b : Bool) (q : Part) → slotsOf (elim b [ true ↦ waits q | false ↦ [] ]) ≤ sizeOf q
+    one true q = omega (arith, slots-waits q)
+    one false q = omega arith
+
+    go : (b c : Bool) → slotsOf ((elim b as (λ _. List Part) [ true ↦ waits (rightPart p 0) | false ↦ [] ]) ++ (elim c [ true ↦ waits (leftPart p 0) | false ↦ [] ])) < sizeOf p
+    go b c =
+        omega (arith, slots-append (elim b [ true ↦ waits (rightPart p 0) | false ↦ [] ]) (elim c [ true ↦ waits (leftPart p 0) | false ↦ [] ]), one b (rightPart p 0), one c (leftPart p 0))

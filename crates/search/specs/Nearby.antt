@@ -1,16 +1,22 @@
 -- What a nearest search hands on from step to step: the kept entries stand in order at the front of the area, and a step that has to keep more
 -- than the area holds says so.
-use Prim.Native.Nat.{ℕ, suc, _+_, _≤_, _<_, _^_}
+use Prim.Native.Nat.{ℕ, suc, _+_, _-_, _≤_, _<_, _^_}
 use mathlib.Core.Path.{_≡_}
 use mathlib.Core.Bool.{true, false}
 use mathlib.Core.List.{List, _∷_, _++_}
 use lib.ListN.{length, take, drop}
+use lib.Dec.{ltb}
 use Rattle.metric.specs.declared.Profile.{Profile}
 use Rattle.metric.specs.Row.{Row, tagOf}
 use Rattle.search.specs.declared.nearest.Nearby.{Nearby}
 use Rattle.tree.specs.Layout.{leftSize}
 use Rattle.search.specs.Range.{Entry, entry, ordered, isLive}
-use Rattle.search.specs.Nearest.{Tally, keep, halvesInTurn, nearestTree}
+use Rattle.search.specs.Nearest.{Tally, keep, worst, halvesInTurn, nearestTree}
+
+-- the farthest that still matters, of a part by its gap or of a slot by its distance: all there is below k kept, then the worst distance kept
+unfoldable pub reach : ℕ → List Entry → ℕ
+unfolding worst
+reach k kept = elim (ltb (length kept) k) [ true ↦ 2 ^ 64 - 1 | false ↦ worst kept ]
 
 -- the tally that an area and its numbers stand for
 abbrev pub tallyOf : List Entry → Nearby → Tally

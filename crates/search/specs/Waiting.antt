@@ -1,10 +1,13 @@
--- The parts of a tree that wait for their turn while nearest goes through it, the next one last.
-use Prim.Native.Nat.{ℕ, _+_, _-_, _/_}
+-- The parts of a tree whose turn is still to come while a search goes through it, the next one last: it is in hand, and the others wait.
+use Prim.Native.Nat.{ℕ, _+_, _-_, _/_, _≤_, _<_}
 use mathlib.Core.Path.{_≡_}
 use mathlib.Core.Bool.{true, false}
 use mathlib.Core.List.{List, [], _∷_, _++_}
 use lib.ListN.{length, take, getD}
 use lib.Dec.{leb, eqb}
+use Rattle.tree.specs.Guided.{All}
+use Rattle.search.specs.Range.{entersLeft, entersRight}
+use Rattle.search.specs.declared.waiting.Turn.{Turn}
 
 -- a part: where it starts, how many slots it has, and by how much the query is on the other side of its threshold
 abbrev pub Part : Type 0
@@ -21,7 +24,7 @@ leftPart p gap = (getD p 0 0 + 1) ∷ (getD p 1 0 / 2) ∷ gap ∷ []
 unfoldable pub rightPart : Part → ℕ → Part
 rightPart p gap = (getD p 0 0 + 1 + getD p 1 0 / 2) ∷ (getD p 1 0 - 1 - getD p 1 0 / 2) ∷ gap ∷ []
 
--- both halves wait, the first slot being at distance d from the query and of threshold m: the half on the query's side last, for it goes first
+-- both halves are to come, the first slot being at distance d from the query and of threshold m: the half on the query's side last, for it goes first
 unfoldable pub sent : Part → ℕ → ℕ → List Part
 unfolding waits leftPart rightPart
 sent p d m =
@@ -30,7 +33,43 @@ sent p d m =
       | false ↦ waits (leftPart p (d - m)) ++ waits (rightPart p (m - d))
     ]
 
+-- the halves that range enters, of a slot at distance d from the query and of threshold m, with radius r: the left one last, for it goes first. Their
+-- tests are made already, so they have no gap
+unfoldable pub entered : Part → ℕ → ℕ → ℕ → List Part
+unfolding waits leftPart rightPart entersLeft entersRight
+entered p d m r =
+    (elim (entersRight d m r) as (λ _. List Part) [ true ↦ waits (rightPart p 0) | false ↦ [] ])
+    ++ (elim (entersLeft d m r) [ true ↦ waits (leftPart p 0) | false ↦ [] ])
+
 -- these parts wait behind the first `depth`, which still do
 pub record Pushed (parts before : List Part) (depth : ℕ) (after : List Part) (r : ℕ) : Type 0 where
   pub waiting : take r after ≡ take depth before ++ parts
   pub number : r ≡ depth + length parts
+
+-- the part in hand
+abbrev pub inHand : Turn → Part
+inHand t = t .start ∷ t .size ∷ t .gap ∷ []
+
+-- the parts whose turn is still to come, the next one last: those at the first `depth` places, and the one in hand if it has slots
+unfoldable pub upcoming : List Part → Turn → List Part
+unfolding waits
+upcoming pending t = take (t .depth) pending ++ waits (inHand t)
+
+-- these parts are still to come, and the places of those that wait are there
+pub record ToCome (parts pending : List Part) (t : Turn) : Type 0 where
+  pub parts-are : upcoming pending t ≡ parts
+  pub places : t .depth ≤ length pending
+
+-- this part is in hand while so many wait
+pub record TakenUp (depth : ℕ) (p : Part) (t : Turn) : Type 0 where
+  pub waiting : t .depth ≡ depth
+  pub hand : inHand t ≡ p
+
+-- each of these parts has slots
+abbrev pub Slotted : List Part → Type 0
+Slotted ps = All (λ p. 0 < getD p 1 0) ps
+
+-- the same parts are still to come, and the one in hand has slots unless none is
+pub record UpNext (pending : List Part) (t r : Turn) : Type 0 where
+  pub same : ToCome (upcoming pending t) pending r
+  pub none : r .size ≡ 0 → r .depth ≡ 0

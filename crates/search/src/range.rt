@@ -1,12 +1,15 @@
-// Range over one tree: the slots are visited, hits are collected in the area as far as it goes, and both are counted.
+// Range over one tree: the slots are visited, hits are collected at the front of the area as far as it goes, and both are counted.
 ghost use mathlib.Core.Path.{_≡_};
 ghost use Prim.Native.Nat.{_+_, _<_, _^_};
-ghost use lib.ListN.{length};
+ghost use lib.ListN.{length, take};
 ghost use Rattle.metric.specs.Row.{profileOf};
 ghost use Rattle.metric.specs.Distance.{distance};
 ghost use Rattle.search.specs.Range.{rangeTree};
 ghost use Rattle.search.specs.Collected.{foundAfter, collected, metAlone, metInHalves};
 use super::entries::Entry;
+use super::waiting::enter;
+use super::waiting::turn_of;
+use super::waiting::up_next;
 use metric::Row;
 
 // What a range search hands on: how many hits it found, and how many slots it visited.
@@ -15,34 +18,33 @@ pub struct Found {
     pub count: usize,
 }
 
-// A slot alone, at distance d from the query: a hit is reported where the area still has room.
+// A slot alone, at distance d from the query. A live head is put behind the hits where the area has room, and counts as one if it is near enough: what
+// lies behind the hits is free, and a store at each head is faster than a test that cannot be guessed.
 fn meet(row: Row, d: u32, radius: u32, area: &mut [Entry], found: Found) -> Found
     requires { ⌜ (found .hits < 2 ^ 32) × (found .count < 2 ^ 32) ⌝ }
     ensures reply { λ r. ⌜ r ≡ foundAfter found (metAlone row d radius) ⌝ }
-    ensures area { λ _. ⌜ now (area .exit) ≡ collected (now (area .entry)) found (metAlone row d radius) ⌝ }
+    ensures area { λ r. ⌜ take (r .hits) (now (area .exit)) ≡ collected (now (area .entry)) found (metAlone row d radius) ⌝ }
 {
     let at = found.hits;
     let count = found.count + 1;
     if metric::mark_of(row) != 0 {
         return Found { hits: at, count };
     }
-    if radius < d {
-        return Found {
-            hits: found.hits,
-            count,
-        };
-    }
     if at < area.len() {
         area[at] = [metric::tag_of(row), d as u64];
     }
-    Found {
-        hits: at + 1,
-        count,
+    if d <= radius {
+        Found {
+            hits: at + 1,
+            count,
+        }
+    } else {
+        Found { hits: at, count }
     }
 }
 
-// A tree of few slots in one loop, which is faster than a call for each slot: a part, told by its first slot and its size, has its turn while right
-// halves wait. Sizes halve, so four places are enough.
+// A tree of few slots in one loop, which is faster than a call for each slot: a part is in hand while right halves wait. Sizes halve, so four places
+// are enough.
 fn range_few(
     found: Found,
     slots: &[Row],
@@ -53,31 +55,18 @@ fn range_few(
 ) -> Found
     requires { ⌜ (length (now slots) < 16) × (found .hits + length (now slots) < 2 ^ 32) × (found .count + length (now slots) < 2 ^ 32) ⌝ }
     ensures reply { λ r. ⌜ r ≡ foundAfter found (rangeTree (distance metric) (profileOf (now (query .entry))) radius (now (slots .entry))) ⌝ }
-    ensures area { λ _. ⌜ now (area .exit) ≡ collected (now (area .entry)) found (rangeTree (distance metric) (profileOf (now (query .entry))) radius (now (slots .entry))) ⌝ }
+    ensures area { λ r. ⌜ take (r .hits) (now (area .exit)) ≡ collected (now (area .entry)) found (rangeTree (distance metric) (profileOf (now (query .entry))) radius (now (slots .entry))) ⌝ }
 {
-    let mut pending = [[0; 2]; 4];
-    let mut depth = 0;
-    let mut part = [0, slots.len()];
+    let mut pending = [[0; 3]; 4];
+    let mut next = turn_of(0, 0, slots.len(), 0);
     let mut met = found;
-    while 0 < part[1] {
-        let row = slots[part[0]];
+    while 0 < next.size {
+        let at = next.start;
+        let row = slots[at];
         let d = metric::distance_between(metric, row, *query);
         met = meet(row, d, radius, area, met);
-        let m = metric::threshold_of(row);
-        let left = part[1] / 2;
-        let right = part[1] - 1 - left;
-        if (0 < right) & (m as u64 <= d as u64 + radius as u64) {
-            pending[depth] = [part[0] + 1 + left, right];
-            depth += 1;
-        }
-        if (0 < left) & (d as u64 <= m as u64 + radius as u64) {
-            part = [part[0] + 1, left];
-        } else if 0 < depth {
-            depth -= 1;
-            part = pending[depth];
-        } else {
-            part = [0, 0];
-        }
+        let then = enter(&mut pending, next, d, metric::threshold_of(row), radius);
+        next = up_next(&pending, then);
     }
     met
 }
@@ -93,7 +82,7 @@ pub fn range_tree(
 ) -> Found
     requires { ⌜ (found .hits + length (now slots) < 2 ^ 32) × (found .count + length (now slots) < 2 ^ 32) ⌝ }
     ensures reply { λ r. ⌜ r ≡ foundAfter found (rangeTree (distance metric) (profileOf (now (query .entry))) radius (now (slots .entry))) ⌝ }
-    ensures area { λ _. ⌜ now (area .exit) ≡ collected (now (area .entry)) found (rangeTree (distance metric) (profileOf (now (query .entry))) radius (now (slots .entry))) ⌝ }
+    ensures area { λ r. ⌜ take (r .hits) (now (area .exit)) ≡ collected (now (area .entry)) found (rangeTree (distance metric) (profileOf (now (query .entry))) radius (now (slots .entry))) ⌝ }
 {
     if slots.len() < 16 {
         return range_few(found, slots, metric, query, radius, area);
@@ -126,7 +115,7 @@ fn range_halves(
 ) -> Found
     requires { ⌜ (found .hits + length (now rest) < 2 ^ 32) × (found .count + length (now rest) < 2 ^ 32) ⌝ }
     ensures reply { λ r. ⌜ r ≡ foundAfter found (metInHalves (distance metric) (profileOf (now (query .entry))) radius d m (now (rest .entry))) ⌝ }
-    ensures area { λ _. ⌜ now (area .exit) ≡ collected (now (area .entry)) found (metInHalves (distance metric) (profileOf (now (query .entry))) radius d m (now (rest .entry))) ⌝ }
+    ensures area { λ r. ⌜ take (r .hits) (now (area .exit)) ≡ collected (now (area .entry)) found (metInHalves (distance metric) (profileOf (now (query .entry))) radius d m (now (rest .entry))) ⌝ }
 {
     let l = rest.len() - rest.len() / 2;
     let mut met = found;

@@ -1,8 +1,9 @@
 // The parts of a tree whose turn is still to come, the next one last.
 ghost use mathlib.Core.Path.{_≡_};
 ghost use Prim.Native.Nat.{_+_, _-_, _<_, _≤_, _^_};
-ghost use lib.ListN.{length, getD};
-ghost use Rattle.search.specs.Waiting.{Pushed, waits, sent};
+ghost use mathlib.Core.List.{_++_};
+ghost use lib.ListN.{length, take};
+ghost use Rattle.search.specs.Waiting.{Pushed, waits, inHand, sent, entered, ToCome, TakenUp, Slotted, UpNext};
 
 // A part of some slots: where it starts, how many slots it has, and by how much the query is on the other side of its threshold.
 pub type Part = [usize; 3];
@@ -15,7 +16,7 @@ pub fn excess(a: u32, b: u32) -> usize
 }
 
 // The part waits, if it has slots.
-pub fn push(pending: &mut [Part], depth: usize, part: Part) -> usize
+fn push(pending: &mut [Part], depth: usize, part: Part) -> usize
     requires { ⌜ depth + length (waits part) ≤ length (now pending) ⌝ }
     ensures { λ r. ⌜ Pushed (waits part) (now (pending .entry)) depth (now (pending .exit)) r ⌝ }
 {
@@ -26,19 +27,91 @@ pub fn push(pending: &mut [Part], depth: usize, part: Part) -> usize
     depth + 1
 }
 
-// Both halves of the part wait, the half on the query's side to go first.
-pub fn send(pending: &mut [Part], depth: usize, part: Part, d: u32, m: u32) -> usize
-    requires { ⌜ (0 < getD part 1 0) × (getD part 0 0 + getD part 1 0 < 2 ^ 32) × (depth + length (sent part d m) ≤ length (now pending)) ⌝ }
-    ensures { λ r. ⌜ Pushed (sent part d m) (now (pending .entry)) depth (now (pending .exit)) r ⌝ }
+// The part in hand, whose turn it is, while `depth` others wait.
+pub struct Turn {
+    pub depth: usize,
+    pub start: usize,
+    pub size: usize,
+    pub gap: usize,
+}
+
+// A turn, by its numbers.
+pub fn turn_of(depth: usize, start: usize, size: usize, gap: usize) -> Turn
+    ensures { λ r. ⌜ r ≡ record { depth = depth; start = start; size = size; gap = gap } ⌝ }
 {
-    let l = part[1] / 2;
-    let left = [part[0] + 1, l, excess(d, m)];
-    let right = [part[0] + 1 + l, part[1] - 1 - l, excess(m, d)];
-    if d <= m {
-        let next = push(pending, depth, right);
-        push(pending, next, left)
-    } else {
-        let next = push(pending, depth, left);
-        push(pending, next, right)
+    Turn {
+        depth,
+        start,
+        size,
+        gap,
     }
+}
+
+// The turn of a part that waited.
+fn taken_up(depth: usize, part: Part) -> Turn
+    ensures { λ r. ⌜ TakenUp depth part r ⌝ }
+{
+    turn_of(depth, part[0], part[1], part[2])
+}
+
+// Where the part in hand has no slots, the last one that waits is taken up, if there is one.
+pub fn up_next(pending: &[Part], turn: Turn) -> Turn
+    requires { ⌜ (turn .depth ≤ length (now pending)) × Slotted (take (turn .depth) (now pending)) ⌝ }
+    ensures { λ r. ⌜ UpNext (now (pending .entry)) turn r ⌝ }
+{
+    if 0 < turn.size {
+        return turn;
+    }
+    if turn.depth == 0 {
+        return turn;
+    }
+    let depth = turn.depth - 1;
+    taken_up(depth, pending[depth])
+}
+
+// The halves of the part in hand, whose first slot is at distance d from the query and of threshold m: the half on the query's side is in hand
+// next, with no gap, so that it is always entered, and the other waits. Where only one has slots, it is in hand next.
+pub fn send(pending: &mut [Part], turn: Turn, d: u32, m: u32) -> Turn
+    requires { ⌜ (0 < turn .size) × (turn .start + turn .size < 2 ^ 32) × (turn .depth + length (sent (inHand turn) d m) ≤ length (now pending)) ⌝ }
+    ensures { λ r. ⌜ ToCome (take (turn .depth) (now (pending .entry)) ++ sent (inHand turn) d m) (now (pending .exit)) r ⌝ }
+{
+    let at = turn.start + 1;
+    let depth = turn.depth;
+    let left = turn.size / 2;
+    let right = turn.size - 1 - left;
+    if left == 0 {
+        return turn_of(depth, at, 0, 0);
+    }
+    if d <= m {
+        let next = push(pending, depth, [at + left, right, (m - d) as usize]);
+        return turn_of(next, at, left, 0);
+    }
+    if right == 0 {
+        return turn_of(depth, at, left, (d - m) as usize);
+    }
+    pending[depth] = [at, left, (d - m) as usize];
+    turn_of(depth + 1, at + left, right, 0)
+}
+
+// The halves of the part in hand that a range search enters: one alone is in hand next; of two the left one is, and the right one waits. Where the left
+// one is not entered the right one is, for then d is above m.
+pub fn enter(pending: &mut [Part], turn: Turn, d: u32, m: u32, radius: u32) -> Turn
+    requires { ⌜ (0 < turn .size) × (turn .start + turn .size < 2 ^ 32) × (turn .depth + length (entered (inHand turn) d m radius) ≤ length (now pending)) ⌝ }
+    ensures { λ r. ⌜ ToCome (take (turn .depth) (now (pending .entry)) ++ entered (inHand turn) d m radius) (now (pending .exit)) r ⌝ }
+{
+    let at = turn.start + 1;
+    let depth = turn.depth;
+    let left = turn.size / 2;
+    let right = turn.size - 1 - left;
+    if left == 0 {
+        return turn_of(depth, at, 0, 0);
+    }
+    if m as u64 + (radius as u64) < d as u64 {
+        return turn_of(depth, at + left, right, 0);
+    }
+    if d as u64 + (radius as u64) < m as u64 {
+        return turn_of(depth, at, left, 0);
+    }
+    let more = push(pending, depth, [at + left, right, 0]);
+    turn_of(more, at, left, 0)
 }

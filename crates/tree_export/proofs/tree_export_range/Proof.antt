@@ -7,7 +7,7 @@ use lib.ListN.{length, take, drop}
 use lib.Seq.{length-take-le, length-front, take-at}
 use Rattle.metric.specs.Row.{profileOf}
 use Rattle.metric.specs.Distance.{distance}
-use Rattle.tree_export.proofs.Replied.{hits-fit, count-fits, range-replied, range-front}
+use Rattle.tree_export.proofs.Replied.{numbers-fit, range-replied, range-front}
 use borrow.Author.Needs.{needs}
 use Rattle.tree_export.proofs.tree_export_range.Statement.{statement}
 use Rattle.tree_export.proofs.tree_export_range.Tie as tie
@@ -27,15 +27,20 @@ slice-aggregate-sort-entries c = sym (length-take-le (c .before .before .before 
 sort-entries-requires : tie.Need-sort-entries-requires
 sort-entries-requires c κs = search needs
 
+-- both numbers fit a word, whichever is handed on
 cast-t16 : tie.Need-cast-t16
 cast-t16 c =
     let a = c .before .before .before .before .before .before .args in
-    omega (arith, hits-fit (distance (a .metric)) (profileOf (a .query .now)) (a .radius) (a .slots .now) (c .before .before .before .range-tree .result) (c .before .before .before .range-tree .ensures .0), c .before .before .before .before .before .if1 .left)
+    let f = c .before .before .before .range-tree in
+    let both = numbers-fit (distance (a .metric)) (profileOf (a .query .now)) (a .radius) (a .slots .now) (f .result) (f .ensures .0) in
+    omega (arith, both .0, both .1, c .before .before .before .before .before .if1 .left)
 
 cast-t17 : tie.Need-cast-t17
 cast-t17 c =
     let a = c .before .before .before .before .before .before .before .args in
-    omega (arith, count-fits (distance (a .metric)) (profileOf (a .query .now)) (a .radius) (a .slots .now) (c .before .before .before .before .range-tree .result) (c .before .before .before .before .range-tree .ensures .0), c .before .before .before .before .before .before .if1 .left)
+    let f = c .before .before .before .before .range-tree in
+    let both = numbers-fit (distance (a .metric)) (profileOf (a .query .now)) (a .radius) (a .slots .now) (f .result) (f .ensures .0) in
+    omega (arith, both .0, both .1, c .before .before .before .before .before .before .if1 .left)
 
 same-length : tie.Need-same-length
 same-length c =

@@ -8,7 +8,7 @@ use Rattle.metric.specs.Row.{profileOf}
 use Rattle.metric.specs.Distance.{distance}
 use Rattle.search.specs.Range.{toQuery, entersLeft}
 use Rattle.search.specs.Nearby.{tallyOf}
-use Rattle.search.proofs.Nearing.{leaves-as, opens-gap}
+use Rattle.search.proofs.Nearing.{leaves-as, opens-gap, opens-within, shut-beyond}
 use Rattle.search.proofs.NearSteps.{
   ready-less,
   leaves-same,
@@ -43,8 +43,8 @@ use Rattle.search.proofs.nearest.nearest_turn.Kinds as nearest-turn-kin
 use Rattle.search.proofs.nearest.+nearest_halves+nearest_tree+nearest_turn.Lts-nearest_turn as nearest-turn-lts
 use Rattle.metric.proofs.distance_between.Reads as distance-between-reads
 use Rattle.metric.proofs.threshold_of.Reads as threshold-of-reads
-use Rattle.search.proofs.nearest.lets_in.Reads as lets-in-reads
 use Rattle.search.proofs.nearest.nearest_few.Reads as nearest-few-reads
+use Rattle.search.proofs.nearest.reach_of.Reads as reach-of-reads
 use Rattle.search.proofs.nearest.take_in.Reads as take-in-reads
 use Rattle.search.proofs.waiting.excess.Reads as excess-reads
 use Rattle.search.proofs.nearest.+nearest_halves+nearest_tree+nearest_turn.{statement}
@@ -106,7 +106,7 @@ abbrev nearest-tree-callees : ℕ → nearest-tree-lts.Claims
 nearest-tree-callees t = (nearest-few-reads.Asked, nearest-few-reads.Learnt, distance-between-reads.Asked, distance-between-reads.Learnt, take-in-reads.Asked, take-in-reads.Learnt, threshold-of-reads.Asked, threshold-of-reads.Learnt, nearest-halves-below t, nearest-halves.Post)
 
 abbrev nearest-turn-callees : ℕ → nearest-turn-lts.Claims
-nearest-turn-callees t = (excess-reads.Asked, excess-reads.Learnt, lets-in-reads.Asked, lets-in-reads.Learnt, nearest-tree-below t, nearest-tree.Post)
+nearest-turn-callees t = (excess-reads.Asked, excess-reads.Learnt, reach-of-reads.Asked, reach-of-reads.Learnt, nearest-tree-below t, nearest-tree.Post)
 
 nearest-halves-sub-l : (t : ℕ) → nearest-halves-lts.Need-sub-l (nearest-halves-callees t) (nearest-halves-at t) nearest-halves.Post
 nearest-halves-sub-l t c = search needs
@@ -328,8 +328,8 @@ nearest-turn-returns t c =
 nearest-turn-excess-requires : (t : ℕ) → nearest-turn-lts.Need-excess-requires (nearest-turn-callees t) (nearest-turn-at t) nearest-turn.Post
 nearest-turn-excess-requires t c κs = search needs
 
-nearest-turn-lets-in-requires : (t : ℕ) → nearest-turn-lts.Need-lets-in-requires (nearest-turn-callees t) (nearest-turn-at t) nearest-turn.Post
-nearest-turn-lets-in-requires t c κs = c .before .before .before .pre .1 .within
+nearest-turn-reach-of-requires : (t : ℕ) → nearest-turn-lts.Need-reach-of-requires (nearest-turn-callees t) (nearest-turn-at t) nearest-turn.Post
+nearest-turn-reach-of-requires t c κs = c .before .before .before .pre .1 .within
 
 nearest-turn-nearest-tree-requires : (t : ℕ) → nearest-turn-lts.Need-nearest-tree-requires (nearest-turn-callees t) (nearest-turn-at t) nearest-turn.Post
 nearest-turn-nearest-tree-requires t c κs =
@@ -343,8 +343,8 @@ nearest-turn-returns-2 : (t : ℕ) → nearest-turn-lts.Need-returns-2 (nearest-
 nearest-turn-returns-2 t c =
     let start = c .before .before .before .before .before .before .before .before in
     let a = start .args in
-    let gap = c .before .before .before .before .before .excess in
-    let opened = sym (opens-gap (a .k) (a .a) (a .b) (gap .result) (gap .ensures) (take (a .near .kept) (a .area .now))) ∙ sym (c .before .before .before .before .lets-in .ensures) ∙ c .before .before .before .if2 .taken in
+    let gap = c .before .before .before .before .before .before .excess in
+    let opened = sym (opens-gap (a .k) (a .a) (a .b) (gap .result) (gap .ensures) (take (a .near .kept) (a .area .now))) ∙ opens-within (a .k) (gap .result) (take (a .near .kept) (a .area .now)) (omega (arith, gap .ok)) _ (c .before .before .before .before .reach-of .ensures) (c .before .before .before .if2 .taken) in
     leaves-as (a .area .now) _ _ (sym (turn-open (distance (a .metric)) (profileOf (a .query .now)) (a .k) (entersLeft (a .a) (a .b)) _ (tallyOf (a .area .now) (a .near)) opened))
     (c .before .nearest-tree .ensures)
 
@@ -355,8 +355,8 @@ nearest-turn-returns-3 : (t : ℕ) → nearest-turn-lts.Need-returns-3 (nearest-
 nearest-turn-returns-3 t c =
     let start = c .before .before .before .before .before in
     let a = start .args in
-    let gap = c .before .before .excess in
-    let shut = sym (opens-gap (a .k) (a .a) (a .b) (gap .result) (gap .ensures) (take (a .near .kept) (a .area .now))) ∙ sym (c .before .lets-in .ensures) ∙ c .if2 .left in
+    let gap = c .before .before .before .excess in
+    let shut = sym (opens-gap (a .k) (a .a) (a .b) (gap .result) (gap .ensures) (take (a .near .kept) (a .area .now))) ∙ shut-beyond (a .k) (gap .result) (take (a .near .kept) (a .area .now)) (omega (arith, gap .ok)) _ (c .before .reach-of .ensures) (c .if2 .left) in
     leaves-as (a .area .now) _ _ (sym (turn-shut (distance (a .metric)) (profileOf (a .query .now)) (a .k) (entersLeft (a .a) (a .b)) _ (tallyOf (a .area .now) (a .near)) shut))
     (leaves-same (a .area .now) (a .near) (start .pre .1))
 
@@ -408,7 +408,7 @@ pub +nearest-halves+nearest-tree+nearest-turn-spec : {M : Type 1} → statement 
     nearest-turn.Post
     (nearest-turn-returns t)
     (nearest-turn-excess-requires t)
-    (nearest-turn-lets-in-requires t)
+    (nearest-turn-reach-of-requires t)
     (nearest-turn-nearest-tree-requires t)
     (nearest-turn-same-length t)
     (nearest-turn-returns-2 t)

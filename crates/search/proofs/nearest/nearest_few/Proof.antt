@@ -1,181 +1,146 @@
--- What is kept and the parts that wait make up the tree's search whenever the loop's test is reached, so that at the end what is kept is it.
--- The measure is how many slots wait. Assumes nothing.
-use Prim.Native.Nat.{_-_, _≤_}
-use mathlib.Core.Path.{_≡_, refl, sym, ap, subst, _∙_}
-use mathlib.Core.List.{List, [], _∷_, _++_}
+-- What is kept and the parts to come make up the tree's search whenever the loop's test is reached, so that at the end what is kept is it.
+-- The measure is how many slots are to come. Assumes nothing.
+use Prim.Native.Nat.{ℕ, _+_, _≤_, _<_, _^_}
+use mathlib.Core.Path.{_≡_, refl, sym, ap, _∙_}
+use mathlib.Core.Logic.{⊎-elim}
+use mathlib.Core.List.{List, []}
 use native.Mathlib.Omega.{arith}
 use borrow.Author.Needs.{needs}
-use lib.ListN.{length, take, getD, length-take}
-use lib.Seq.{length-take-le}
-use Rattle.metric.specs.Row.{profileOf}
+use lib.ListN.{length, getD}
+use Rattle.metric.specs.Row.{Row, profileOf}
 use Rattle.metric.specs.Distance.{distance}
 use Rattle.search.specs.declared.nearest.Nearby.{Nearby}
+use Rattle.search.specs.declared.waiting.Turn.{Turn}
 use Rattle.search.specs.Range.{Entry, toQuery}
 use Rattle.search.specs.Nearest.{nearestTree}
-use Rattle.search.specs.Nearby.{tallyOf}
-use Rattle.search.specs.Waiting.{Part, waits}
-use Rattle.search.proofs.Pending.{slotsOf, parts-one-less}
-use Rattle.search.proofs.NearTurns.{Going, going-start, going-few, going-end, going-shut, going-stop, going-on, head-ready, room, fits, fewer-sent, fewer-shut}
+use Rattle.search.specs.Nearby.{tallyOf, takenAt}
+use Rattle.search.specs.Waiting.{Part, upcoming}
+use Rattle.search.proofs.Pending.{slotsOf}
+use Rattle.search.proofs.NearTurns.{Stands, Turned, Met, met-beyond, stands-start, stands-end, stands-next, slotted, turn-inside, turn-room, turn-ready, turn-beyond, turn-stop, turn-within, met-as, met-within, kept-fits, turned-as}
 use Rattle.search.proofs.nearest.nearest_few.Statement.{statement}
 use Rattle.search.proofs.nearest.nearest_few.Tie as tie
 
+-- this search, on its way
+abbrev Search : List Row → ℕ → Row → ℕ → List Entry → Nearby → List Part → Turn → List Entry → Nearby → ℕ → Type 0
+Search slots metric query k area₀ near =
+    Stands (distance metric) (profileOf query) k slots (nearestTree (distance metric) (profileOf query) k (tallyOf area₀ near) slots) area₀
+
 abbrev Inv-loop : tie.InvT-loop
-Inv-loop slots metric query k area₀ pending₀ depth₀ met₀ area pending depth met =
-    (depth ≤ 6)
-    × (length pending ≡ 6)
-    × (length area ≡ length area₀)
-    × Going (distance metric) (profileOf query) k slots (nearestTree (distance metric) (profileOf query) k (tallyOf area₀ met₀) slots) area₀ (take depth pending) area met
+Inv-loop slots metric query k area₀ pending₀ next₀ met₀ kept reach₀ area pending next met reach =
+    Search slots metric query k area₀ met₀ pending next area met reach × (next .size ≡ 0 → next .depth ≡ 0) × (next .gap < 2 ^ 64)
 
 abbrev μ-loop : tie.MeasureT-loop
-μ-loop slots metric query k area₀ pending₀ depth₀ met₀ area pending depth met = slotsOf (take depth pending)
+μ-loop slots metric query k area₀ pending₀ next₀ met₀ kept reach₀ area pending next met reach = slotsOf (upcoming pending next)
 
--- the search goes on with these parts
-abbrev Goes : (c : tie.Start Inv-loop μ-loop) → List Part → List Entry → Nearby → Type 0
-Goes c =
-    let a = c .args in
-    Going (distance (a .metric)) (profileOf (a .query .now)) (a .k) (a .slots .now) (nearestTree (distance (a .metric)) (profileOf (a .query .now)) (a .k) (tallyOf (a .area .now) (a .near)) (a .slots .now)) (a .area .now)
-
-starts : (c : tie.Start Inv-loop μ-loop) → Goes c (waits (0 ∷ length (c .args .slots .now) ∷ 0 ∷ [])) (c .args .area .now) (c .args .near)
-starts c = going-start (distance (c .args .metric)) (profileOf (c .args .query .now)) (c .args .k) (c .args .slots .now) (c .pre .0) (c .pre .1)
-
-slice-aggregate-push : tie.Need-slice-aggregate-push Inv-loop μ-loop
-slice-aggregate-push c = search needs
-
-push-requires : tie.Need-push-requires Inv-loop μ-loop
-push-requires c κs = omega (arith, going-few (starts (c .before)))
+reach-of-requires : tie.Need-reach-of-requires Inv-loop μ-loop
+reach-of-requires c κs = c .before .before .pre .1 .within
 
 loop-holds : tie.Need-loop-holds Inv-loop μ-loop
 loop-holds c =
     let start = c .before .before .before in
-    let pushed = c .before .push in (
-      omega (arith, going-few (starts start), pushed .ensures .number),
-      pushed .kept .0,
-      refl,
-      subst (λ (ps : List Part). Goes start ps (start .args .area .now) (start .args .near)) (sym (pushed .ensures .waiting)) (starts start),
+    let a = start .args in
+    let turn = c .before .before .turn-of in (
+      stands-start (distance (a .metric)) (profileOf (a .query .now)) (a .k) (a .slots .now) _ refl (start .pre .0) (start .pre .1) (turn .ensures) (c .reach-of .ensures),
+      (λ e. ap (λ (t : Turn). t .depth) (turn .ensures)),
+      omega (arith, ap (λ (t : Turn). t .gap) (turn .ensures)),
     )
 
-sub-depth : tie.Need-sub-depth Inv-loop μ-loop
-sub-depth c = search needs
+-- the state at a turn's start, and the part whose turn it is
+stands : (c : tie.Then1 Inv-loop μ-loop) → (let a = c .before .before .before .before .before .before .args in let s = c .before .before .loop in Search (a .slots .now) (a .metric) (a .query .now) (a .k) (a .area .now) (a .near) (s .pending) (s .next) (s .area) (s .met) (s .reach))
+stands c = c .before .before .loop .inv .0
 
-mul-part : tie.Need-mul-part Inv-loop μ-loop
-mul-part c = search needs
-
-array-copy-out-part : tie.Need-array-copy-out-part Inv-loop μ-loop
-array-copy-out-part c = search needs
-
-array-read-lets-in : tie.Need-array-read-lets-in Inv-loop μ-loop
-array-read-lets-in c = search needs
-
-lets-in-requires : tie.Need-lets-in-requires Inv-loop μ-loop
-lets-in-requires c κs = c .before .before .before .loop .inv .3 .ready .within
-
-array-read-row : tie.Need-array-read-row Inv-loop μ-loop
-array-read-row c = search needs
-
--- the part whose turn has come is the last of those that wait
-abbrev part-of : (c : tie.In-loop Inv-loop μ-loop) → Part
-part-of c = getD (c .before .loop .pending) (c .before .loop .depth - 1) []
-
-abbrev others-of : (c : tie.In-loop Inv-loop μ-loop) → List Part
-others-of c = take (c .before .loop .depth - 1) (c .before .loop .pending)
-
-parted : (c : tie.In-loop Inv-loop μ-loop) → take (c .before .loop .depth) (c .before .loop .pending) ≡ others-of c ++ (part-of c ∷ [])
-parted c = parts-one-less (c .before .loop .pending) (c .before .loop .depth) (c .loop-test .taken) (omega (arith, c .before .loop .inv .0, c .before .loop .inv .1))
-
-others-size : (c : tie.In-loop Inv-loop μ-loop) → length (others-of c) ≡ c .before .loop .depth - 1
-others-size c = length-take-le (c .before .loop .depth - 1) (c .before .loop .pending) (omega (arith, c .before .loop .inv .0, c .before .loop .inv .1))
-
-goes : (c : tie.In-loop Inv-loop μ-loop) → Goes (c .before .before .before .before .before) (others-of c ++ (part-of c ∷ [])) (c .before .loop .area) (c .before .loop .met)
-goes c =
-    let s = c .before .loop in
-    subst (λ (ps : List Part). Goes (c .before .before .before .before .before) ps (s .area) (s .met)) (parted c) (s .inv .3)
+inside : (c : tie.Then1 Inv-loop μ-loop) → (let t = c .before .before .loop .next in t .start + t .size ≤ length (c .before .before .before .before .before .before .args .slots .now))
+inside c = turn-inside (stands c) (c .if1 .taken)
 
 mul-row : tie.Need-mul-row Inv-loop μ-loop
-mul-row c =
-    let at = c .before .before .before .before in
-    let f = fits (others-of at) (part-of at) (goes at) in
-    omega (arith, f .inside, at .before .before .before .before .before .pre .0)
+mul-row c = omega (arith, inside (c .before .before), c .before .before .before .before .before .before .before .before .pre .0)
 
 shared-slice-copy-out-row : tie.Need-shared-slice-copy-out-row Inv-loop μ-loop
-shared-slice-copy-out-row c =
-    let at = c .before .before .before .before in
-    let f = fits (others-of at) (part-of at) (goes at) in
-    omega (arith, f .some, f .inside)
-
-distance-between-requires : tie.Need-distance-between-requires Inv-loop μ-loop
-distance-between-requires c κs = search needs
+shared-slice-copy-out-row c = omega (arith, inside (c .before .before), c .before .before .if1 .taken)
 
 take-in-requires : tie.Need-take-in-requires Inv-loop μ-loop
-take-in-requires c κs =
-    let at = c .before .before .before .before .before .before .before .before in
-    head-ready (others-of at) (part-of at) (goes at)
+take-in-requires c κs = let at = c .before .before .before .before .before .before .before in turn-ready (stands at) (at .if1 .taken)
 
 same-length : tie.Need-same-length Inv-loop μ-loop
-same-length c = c .before .before .take-in .kept .1 .1 .1 .0 ∙ c .before .before .before .before .before .before .before .before .before .before .before .before .loop .inv .2
+same-length c = c .before .before .take-in .kept .1 .1 .1 .0 ∙ stands (c .before .before .before .before .before .before .before .before .before .before) .same
 
 returns : tie.Need-returns Inv-loop μ-loop
 unfolding toQuery
 returns c =
+    let at = c .before .before .before .before .before .before .before .before .before .before in
+    turn-stop (stands at) (at .if1 .taken) (at .before .before .loop .inv .2) (c .before .before .before .before .before .before .before .before .if2 .taken) (c .before .before .before .before .before .distance-between .ensures) (c .before .before .take-in .ensures) (c .if4 .taken)
+
+-- what is kept fits the area, as what was kept at first did
+reach-of-requires-2 : tie.Need-reach-of-requires-2 Inv-loop μ-loop
+reach-of-requires-2 c κs =
+    let took = c .before .before .before .take-in in
     let at = c .before .before .before .before .before .before .before .before .before .before .before in
-    let opened = sym (c .before .before .before .before .before .before .before .before .lets-in .ensures) ∙ c .before .before .before .before .before .before .before .if1 .taken in
-    going-stop (others-of at) (part-of at) (goes at) opened (c .before .before .before .before .distance-between .ensures) refl (c .before .before .take-in .ensures) (c .if2 .taken)
+    omega (arith, kept-fits (took .ensures) (c .before .if4 .left) (took .kept .1 .1 .1 .0), took .kept .1 .1 .1 .0, stands at .same, at .before .before .before .before .before .before .pre .1 .within)
+
+passed-requires : tie.Need-passed-requires Inv-loop μ-loop
+passed-requires c κs = let at = c .before .before .before .before .before .before in omega (arith, turn-ready (stands at) (at .if1 .taken) .counts)
+
+-- the slot is met
+met : (c : tie.Joined3 Inv-loop μ-loop) → (let s = c .before .before .before .before .before .before .before .before .loop in let a = c .before .before .before .before .before .before .before .before .before .before .before .before .args in
+    Met (a .k) (takenAt (a .k) (tallyOf (s .area) (s .met)) (getD (a .slots .now) (s .next .start) []) (c .before .distance-between .result)) (s .area) (c .if3 .area) (c .if3 .met) (c .if3 .reach))
+met c =
+    let at = c .before .before .before .before .before .before in
+    let s = stands at in
+    ⊎-elim
+    (λ w. met-as (w .7) (w .8) (w .9) (met-within (w .2 .ensures) (w .4 .left) (w .2 .kept .1 .1 .1 .0) (w .6 .ensures)))
+    (λ w. met-as (w .2) (w .3) (w .4) (met-beyond _ _ (turn-ready s (at .if1 .taken)) (s .bound-is) (omega (arith, c .before .distance-between .ok)) (w .0 .left) (w .1 .ensures)))
+    (c .if3 .came)
 
 slice-aggregate-send : tie.Need-slice-aggregate-send Inv-loop μ-loop
-slice-aggregate-send c = search needs
-
-threshold-of-requires : tie.Need-threshold-of-requires Inv-loop μ-loop
-threshold-of-requires c κs = search needs
+slice-aggregate-send c = sym (stands (c .before .before .before .before .before .before .before) .size)
 
 send-requires : tie.Need-send-requires Inv-loop μ-loop
 send-requires c κs =
-    let at = c .before .before .before .before .before .before .before .before .before .before .before .before .before in
-    let f = fits (others-of at) (part-of at) (goes at) in
-    let places = room (others-of at) (part-of at) (goes at) (c .before .before .before .before .before .before .distance-between .result) (c .threshold-of .result) in (
-      f .some,
-      omega (arith, f .inside, at .before .before .before .before .before .pre .0),
-      omega (arith, places, others-size at, at .before .loop .inv .1),
+    let at = c .before .before .before .before .before .before .before .before in (
+      at .if1 .taken,
+      omega (arith, inside at, at .before .before .before .before .before .before .pre .0),
+      turn-room (stands at) (at .if1 .taken) (c .before .before .before .distance-between .result) (c .threshold-of .result),
     )
+
+-- the turn of the part is over
+turned : (c : tie.Joined2 Inv-loop μ-loop) → (let s = c .before .before .before .before .loop in let a = c .before .before .before .before .before .before .before .before .args in
+    Turned (distance (a .metric)) (profileOf (a .query .now)) (a .k) (a .slots .now) (slotsOf (upcoming (s .pending) (s .next)))
+    (nearestTree (distance (a .metric)) (profileOf (a .query .now)) (a .k) (tallyOf (a .area .now) (a .near)) (a .slots .now)) (a .area .now) (c .if2 .pending) (c .if2 .then) (c .if2 .area) (c .if2 .met) (c .if2 .reach))
+unfolding toQuery
+turned c =
+    let at = c .before .before in
+    let s = stands at in
+    let fit = at .before .before .loop .inv .2 in
+    ⊎-elim
+    (λ w. turned-as (w .9) (w .10) (w .11) (w .12) (w .13)
+    (turn-within s (at .if1 .taken) fit (w .0 .taken) (w .3 .ensures)
+    (met (record { before = record { before = record { before = record { before = record { before = c .before; if2 = w .0 }; row = w .1 }; distance-between-arg = w .2 }; distance-between = w .3 }; if3 = w .4 }))
+    (w .6 .ensures) (w .7 .kept .0) (w .7 .ensures)))
+    (λ w. turned-as (w .1) (w .2) (w .3) (w .4) (w .5) (turn-beyond s (at .if1 .taken) fit (w .0 .left) (c .before .turn-of2 .ensures)))
+    (c .if2 .came)
+
+slice-aggregate-up-next : tie.Need-slice-aggregate-up-next Inv-loop μ-loop
+slice-aggregate-up-next c = sym (turned (c .before) .stands .size)
+
+up-next-requires : tie.Need-up-next-requires Inv-loop μ-loop
+up-next-requires c κs =
+    let s = turned (c .before) .stands in
+    (s .places, slotted s)
 
 loop-less : tie.Need-loop-less Inv-loop μ-loop
-loop-less c =
-    let at = c .before .before .before .before .before .before .before .before .before .before .before .before .before .before .before in
-    let fewer = fewer-sent (others-of at) (part-of at) (goes at) (c .before .before .before .before .before .before .before .before .distance-between .result) (c .before .before .threshold-of .result) in
-    omega (arith, fewer, ap slotsOf (parted at), ap slotsOf (c .before .send .ensures .waiting))
+loop-less c = omega (arith, turned (c .before .before) .fewer, ap slotsOf (c .up-next .ensures .same .parts-are))
 
 loop-again : tie.Need-loop-again Inv-loop μ-loop
-unfolding toQuery
-loop-again c =
-    let at = c .before .before .before .before .before .before .before .before .before .before .before .before .before .before .before in
-    let sent = c .before .send in
-    let took = c .before .before .before .before .before .before .take-in in
-    let opened = sym (c .before .before .before .before .before .before .before .before .before .before .before .before .lets-in .ensures) ∙ c .before .before .before .before .before .before .before .before .before .before .before .if1 .taken in
-    let places = room (others-of at) (part-of at) (goes at) (c .before .before .before .before .before .before .before .before .distance-between .result) (c .before .before .threshold-of .result) in
-    let on = going-on (others-of at) (part-of at) (goes at) opened (c .before .before .before .before .before .before .before .before .distance-between .ensures) (c .before .before .threshold-of .ensures) (took .ensures) (c .before .before .before .before .if2 .left) in (
-      omega (arith, sent .ensures .number, places, others-size at),
-      sent .kept .0 ∙ at .before .loop .inv .1,
-      took .kept .1 .1 .1 .0 ∙ at .before .loop .inv .2,
-      subst (λ (ps : List Part). Goes (at .before .before .before .before .before) ps (took .last .1 .1 .1 .0) (took .result)) (sym (sent .ensures .waiting)) on,
-    )
-
-loop-less-2 : tie.Need-loop-less-2 Inv-loop μ-loop
-loop-less-2 c =
-    let at = c .before .before .before .before in
-    omega (arith, fewer-shut (others-of at) (part-of at) (goes at), ap slotsOf (parted at))
-
-loop-again-2 : tie.Need-loop-again-2 Inv-loop μ-loop
-loop-again-2 c =
-    let at = c .before .before .before .before in
-    let s = at .before .loop in
-    let shut = sym (c .before .lets-in .ensures) ∙ c .if1 .left in
-    (omega (arith, s .inv .0), s .inv .1, s .inv .2, going-shut (others-of at) (part-of at) (goes at) shut)
+loop-again c = (stands-next (turned (c .before .before) .stands) (c .up-next .ensures .same), c .up-next .ensures .none, omega (arith, c .up-next .ok))
 
 same-length-2 : tie.Need-same-length-2 Inv-loop μ-loop
-same-length-2 c = c .before .loop .inv .2
+same-length-2 c = c .before .before .loop .inv .0 .same
 
 returns-2 : tie.Need-returns-2 Inv-loop μ-loop
 returns-2 c =
-    let s = c .before .loop in
-    going-end (take (s .depth) (s .pending)) (simp length-take (omega (arith, c .loop-test .left))) (s .inv .3)
+    let inv = c .before .before .loop .inv in
+    let none = inv .1 (omega arith) in
+    stands-end (inv .0) (omega arith) none
 
 pub nearest-few-spec : {M : Type 1} → statement M
 nearest-few-spec =
@@ -183,27 +148,25 @@ nearest-few-spec =
     (tie.spec
     Inv-loop
     μ-loop
-    slice-aggregate-push
-    push-requires
+    (λ c κs. search needs)
+    reach-of-requires
     loop-holds
-    sub-depth
-    mul-part
-    array-copy-out-part
-    array-read-lets-in
-    lets-in-requires
-    array-read-row
+    (λ c κs. search needs)
     mul-row
     shared-slice-copy-out-row
-    distance-between-requires
+    (λ c κs. search needs)
+    (λ c. search needs)
     take-in-requires
     same-length
     returns
+    reach-of-requires-2
+    passed-requires
     slice-aggregate-send
-    threshold-of-requires
+    (λ c κs. search needs)
     send-requires
+    slice-aggregate-up-next
+    up-next-requires
     loop-less
     loop-again
-    loop-less-2
-    loop-again-2
     same-length-2
     returns-2)
