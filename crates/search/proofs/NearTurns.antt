@@ -18,7 +18,7 @@ use Rattle.search.specs.Nearest.{Tally, worst, opens, turn, nearestTree}
 use Rattle.search.specs.Nearby.{reach, tallyOf, Ready, Leaves, takenAt, nearInHalves}
 use Rattle.search.specs.Waiting.{Part, waits, leftPart, rightPart, sent, inHand, upcoming, ToCome, Slotted}
 use Rattle.search.proofs.Pending.{startOf, sizeOf, Fits, Stacked, stacked-append, stacked-front, stacked-last, stacked-few, slotsOf, slots-one-more, drop-front, first-of-part, behind-first}
-use Rattle.search.proofs.Sending.{waits-none, waits-some, sent-near, sent-far, stacked-slotted, stacked-one, stacked-sent, slots-append, slots-waits, slots-sent}
+use Rattle.search.proofs.Sending.{waits-none, hand-last, sent-near, sent-far, stacked-slotted, stacked-one, stacked-sent, slots-append, slots-waits, slots-sent}
 use Rattle.search.proofs.Nearing.{leaves-as, leaves-beyond, opens-gap, opens-within, shut-beyond}
 use Rattle.search.proofs.NearSteps.{
   Sound,
@@ -363,8 +363,8 @@ module _ {dist : Profile → Profile → ℕ} {query : Profile} {k : ℕ} {slots
     waiting = take (t .depth) pending
 
     hand : upcoming pending t ≡ waiting ++ (inHand t ∷ [])
-    unfolding upcoming waiting
-    hand = ap (λ (l : List Part). take (t .depth) pending ++ l) (waits-some (inHand t) (λ e. omega arith))
+    unfolding waiting
+    hand = hand-last pending t some
 
     here : Going dist query k slots end first (waiting ++ (inHand t ∷ [])) area near
     here = subst (λ (ps : List Part). Going dist query k slots end first ps area near) hand (s .going)

@@ -20,7 +20,7 @@ use Rattle.search.specs.Waiting.{Part, waits, leftPart, rightPart, enter
 use Rattle.search.proofs.RangeLaws.{range-count-le, range-hits-le}
 use Rattle.search.proofs.Collecting.{two-turns, found-nothing, collected-nothing, tree-empty, tree-first}
 use Rattle.search.proofs.Pending.{startOf, sizeOf, Fits, Stacked, stacked-append, stacked-front, stacked-last, stacked-few, slotsOf, slots-one-more, drop-front, first-of-part, behind-first}
-use Rattle.search.proofs.Sending.{waits-none, waits-some, stacked-slotted, stacked-one, stacked-entered, slots-append, slots-entered}
+use Rattle.search.proofs.Sending.{waits-none, hand-last, stacked-slotted, stacked-one, stacked-entered, slots-append, slots-entered}
 
 met-eq : {a b : List Entry} {c d : ℕ} → a ≡ b → c ≡ d → _≡_ {A = Met} (record { hits = a; count = c }) (record { hits = b; count = d })
 met-eq p q = λ i. record { hits = p i; count = q i }
@@ -191,8 +191,8 @@ module _ {s : Search} {pending : List Part} {t : Turn} {area : List Entry} {met 
     waiting = take (t .depth) pending
 
     hand : upcoming pending t ≡ waiting ++ (inHand t ∷ [])
-    unfolding upcoming waiting
-    hand = ap (λ (l : List Part). take (t .depth) pending ++ l) (waits-some (inHand t) (λ e. omega arith))
+    unfolding waiting
+    hand = hand-last pending t some
 
     stacked : Stacked (length (s .slots)) 4 (waiting ++ (inHand t ∷ []))
     stacked = subst (Stacked (length (s .slots)) 4) hand (w .fit)

@@ -1,6 +1,6 @@
 -- What the searches of one tree leave, from a start with nothing found or kept, as a reply and the front of the area.
 -- Each number is at most the number of slots, or k, so it fits.
-use Prim.Native.Nat.{ℕ, _+_, _≤_, _<_, _^_}
+use Prim.Native.Nat.{ℕ, _≤_, _<_, _^_}
 use mathlib.Core.Path.{_≡_, refl, sym, ap, subst, _∙_}
 use mathlib.Core.Bool.{true, false}
 use mathlib.Core.List.{List}
