@@ -71,7 +71,8 @@ fn range_few(
     met
 }
 
-// The slots of one tree: few in one loop, more by the first slot and then its halves. The tally goes first, so that it is passed in registers.
+// The slots of one tree: few in one loop, more by the first slot and then its halves. Behind the hits the area is left free. The tally goes first, so
+// that it is passed in registers.
 pub fn range_tree(
     found: Found,
     slots: &[Row],
