@@ -1,14 +1,13 @@
--- What a range search hands on adds up: the numbers and the area's front after two visits are those after both at once.
+-- What a range search hands on adds up: the numbers and the area after two visits are those after both at once.
 -- A slot's visit and its halves' are two visits, and so are the two halves'.
 use Prim.Native.Nat.{ℕ, suc, _+_, _-_, _/_, _^_, _<_, _≤_}
 use mathlib.Core.Path.{_≡_, refl, sym, ap, ap₂, _∙_}
 use mathlib.Core.Bool.{Bool, true, false, _&&_, and-false}
-use mathlib.Core.List.{List, [], _∷_, _++_, append-nil, append-assoc}
-use lib.ListN.{length, take, drop, getD, set, length-append, length-take, length-drop}
-use lib.Seq.{length-take-le, take-all, take-take, take-append-le, take-append-seam, take-suc-set}
+use mathlib.Core.List.{List, [], _∷_, _++_}
+use lib.ListN.{length, take, drop, getD, set, length-append, length-drop}
+use lib.Seq.{sets, sets-eq, length-sets, length-take-le, take-all, take-at}
 use lib.Dec.{leb}
 use borrow.Author.Tests.{eq-eqb, ne-eqb, le-leb, lt-leb}
-use native.Mathlib.Decide.{decLe}
 use native.Mathlib.Omega.{arith}
 use Rattle.metric.specs.declared.Profile.{Profile}
 use Rattle.metric.specs.Row.{Row, tagOf, thresholdOf, markOf}
@@ -21,59 +20,49 @@ use Rattle.search.proofs.RangeLaws.{rangeStep, range-none, range-step}
 found-eq : {a b c d : ℕ} → a ≡ b → c ≡ d → _≡_ {A = Found} (record { hits = a; count = c }) (record { hits = b; count = d })
 found-eq p q = λ i. record { hits = p i; count = q i }
 
--- a list's front is the front of what its own front begins
-front-begins : (n : ℕ) (xs ys : List Entry) → take n (take n xs ++ ys) ≡ take n (xs ++ ys)
-front-begins n xs ys = go (decLe n (length xs))
-  where
-    go : Dec (n ≤ length xs) → take n (take n xs ++ ys) ≡ take n (xs ++ ys)
-    go (yes h) =
-        take-append-le n (take n xs) ys (omega (arith, length-take-le n xs h)) ∙ take-take n n xs (omega arith) ∙ sym (take-append-le n xs ys h)
-    go (no h) = ap (λ (l : List Entry). take n (l ++ ys)) (take-all n xs (omega arith))
+-- stores one after the other
+sets-append : (area : List Entry) (i j : ℕ) (xs ys : List Entry) → j ≡ i + length xs → sets (sets area i xs) j ys ≡ sets area i (xs ++ ys)
+sets-append area i j [] ys e = ap (λ (k : ℕ). sets area k ys) (omega arith)
+sets-append area i j (x ∷ xs) ys e = sets-append (set area i x) (suc i) j xs ys (omega arith)
 
 pub found-both : (f : Found) (a b : Met) → foundAfter (foundAfter f a) b ≡ foundAfter f (both a b)
 unfolding foundAfter both
 found-both f a b = found-eq (rw length-append (omega arith)) (omega arith)
 
--- the front after two visits, an area as long having come out of the first
-collected-both : (area : List Entry) (f : Found) (a b : Met) (next : List Entry) → length next ≡ length area → take (foundAfter f a .hits) next ≡ collected area f a
-    → collected next (foundAfter f a) b ≡ collected area f (both a b)
+collected-both : (area : List Entry) (f : Found) (a b : Met) → collected (collected area f a) (foundAfter f a) b ≡ collected area f (both a b)
 unfolding collected foundAfter both
-collected-both area f a b next same e =
-    ap₂ (λ (n : ℕ) (xs : List Entry). take n (xs ++ b .hits)) same e
-    ∙ front-begins (length area) (take (f .hits) area ++ a .hits) (b .hits)
-    ∙ ap (take (length area)) (append-assoc (take (f .hits) area) (a .hits) (b .hits))
+collected-both area f a b = sets-append area (f .hits) (f .hits + length (a .hits)) (a .hits) (b .hits) refl
 
 -- two visits, the one after the other
-pub two-turns : (f : Found) (area : List Entry) (a b : Met) (g : Found) (next : List Entry) → length next ≡ length area
-    → g ≡ foundAfter f a → take (g .hits) next ≡ collected area f a
-    → (r : Found) (front : List Entry) → r ≡ foundAfter g b → front ≡ collected next g b
-    → (r ≡ foundAfter f (both a b)) × (front ≡ collected area f (both a b))
-two-turns f area a b g next same e n r front p q = (
+pub two-turns : (f : Found) (area : List Entry) (a b : Met) (g : Found) (next : List Entry) → g ≡ foundAfter f a → next ≡ collected area f a
+    → (r : Found) (last : List Entry) → r ≡ foundAfter g b → last ≡ collected next g b
+    → (r ≡ foundAfter f (both a b)) × (last ≡ collected area f (both a b))
+two-turns f area a b g next e n r last p q = (
   p ∙ ap (λ (x : Found). foundAfter x b) e ∙ found-both f a b,
-  q ∙ ap (λ (x : Found). collected next x b) e ∙ collected-both area f a b next same (ap (λ (x : Found). take (x .hits) next) (sym e) ∙ n),
+  q ∙ ap₂ (λ (x : List Entry) (y : Found). collected x y b) n e ∙ collected-both area f a b,
 )
+
+pub collected-length : (area : List Entry) (f : Found) (met : Met) → length (collected area f met) ≡ length area
+unfolding collected
+collected-length area f met = length-sets area (f .hits) (met .hits)
 
 -- a visit that met nothing
 pub found-nothing : (f : Found) → foundAfter f nothing ≡ f
 unfolding foundAfter nothing
 found-nothing f = found-eq (omega arith) (omega arith)
 
-front-alone : (area : List Entry) (n : ℕ) → take (length area) (take n area ++ []) ≡ take n area
-front-alone area n = ap (take (length area)) (append-nil (take n area)) ∙ take-all (length area) (take n area) (rw length-take (omega arith))
-
-pub collected-nothing : (area : List Entry) (f : Found) → collected area f nothing ≡ take (f .hits) area
+pub collected-nothing : (area : List Entry) (f : Found) → collected area f nothing ≡ area
 unfolding collected nothing
-collected-nothing area f = front-alone area (f .hits)
+collected-nothing area f = refl
 
 module _ (row : Row) (d radius : ℕ) where
   pub missed : isLive row && leb d radius ≡ false → (f : Found) → foundAfter f (metAlone row d radius) ≡ record { hits = f .hits; count = f .count + 1 }
   unfolding metAlone foundAfter
   missed e f = ap (λ (b : Bool). foundAfter f (record { hits = elim b [ true ↦ entry (tagOf row) d ∷ [] | false ↦ [] ]; count = 1 })) e ∙ found-eq (omega arith) refl
 
-  pub missed-front : isLive row && leb d radius ≡ false → (area : List Entry) (f : Found) → collected area f (metAlone row d radius) ≡ take (f .hits) area
+  pub missed-area : isLive row && leb d radius ≡ false → (area : List Entry) (f : Found) → collected area f (metAlone row d radius) ≡ area
   unfolding metAlone collected
-  missed-front e area f =
-      ap (λ (b : Bool). take (length area) (take (f .hits) area ++ (elim b [ true ↦ entry (tagOf row) d ∷ [] | false ↦ [] ]))) e ∙ front-alone area (f .hits)
+  missed-area e area f = ap (λ (b : Bool). sets area (f .hits) (elim b [ true ↦ entry (tagOf row) d ∷ [] | false ↦ [] ])) e
 
   pub dead-no-hit : (markOf row ≡ 0 → ⊥) → isLive row && leb d radius ≡ false
   unfolding isLive
@@ -90,22 +79,9 @@ module _ (row : Row) (d radius : ℕ) where
   unfolding metAlone foundAfter
   alone-hit e h f = ap (λ (b : Bool). foundAfter f (record { hits = elim b [ true ↦ entry (tagOf row) d ∷ [] | false ↦ [] ]; count = 1 })) (hit e h)
 
-  pub alone-hit-front : markOf row ≡ 0 → d ≤ radius → (area : List Entry) (f : Found)
-      → collected area f (metAlone row d radius) ≡ take (length area) (take (f .hits) area ++ (entry (tagOf row) d ∷ []))
+  pub alone-hit-area : markOf row ≡ 0 → d ≤ radius → (area : List Entry) (f : Found) → collected area f (metAlone row d radius) ≡ set area (f .hits) (entry (tagOf row) d)
   unfolding metAlone collected
-  alone-hit-front e h area f = ap (λ (b : Bool). take (length area) (take (f .hits) area ++ (elim b [ true ↦ entry (tagOf row) d ∷ [] | false ↦ [] ]))) (hit e h)
-
--- an entry stored behind the front is at its end, where there is such a place
-pub stored-behind : (area : List Entry) (i : ℕ) (e : Entry) → i < length area → take (i + 1) (set area i e) ≡ take (length area) (take i area ++ (e ∷ []))
-stored-behind area i e h =
-    let next : i + 1 ≡ suc i = omega arith in
-    let few : length (take i area ++ (e ∷ [])) ≤ length area = rw length-append (omega (arith, length-take-le i area (omega arith))) in
-    ap (λ (n : ℕ). take n (set area i e)) next ∙ take-suc-set area i e h ∙ sym (take-all (length area) (take i area ++ (e ∷ [])) few)
-
-pub none-behind : (area : List Entry) (i : ℕ) (e : Entry) → length area ≤ i → take (i + 1) area ≡ take (length area) (take i area ++ (e ∷ []))
-none-behind area i e h =
-    take-all (i + 1) area (omega arith)
-    ∙ sym (ap (λ (xs : List Entry). take (length area) (xs ++ (e ∷ []))) (take-all i area h) ∙ take-append-seam area (e ∷ []))
+  alone-hit-area e h area f = ap (λ (b : Bool). sets area (f .hits) (elim b [ true ↦ entry (tagOf row) d ∷ [] | false ↦ [] ])) (hit e h)
 
 module _ (dist : Profile → Profile → ℕ) (query : Profile) (radius : ℕ) where
   pub tree-empty : (slots : List Row) → length slots ≡ 0 → rangeTree dist query radius slots ≡ nothing
@@ -160,27 +136,29 @@ alone-found f row d radius n z p q = go (isLive row && leb d radius)
 -- a slot's visit and then its halves' leave what the tree's visit does
 pub tree-visit : (dist : Profile → Profile → ℕ) (query : Profile) (radius : ℕ) (slots : List Row) (f : Found) (area : List Entry) → 0 < length slots
     → (d m : ℕ) → d ≡ toQuery dist query (getD slots 0 []) → m ≡ thresholdOf (getD slots 0 [])
-    → (g : Found) (next : List Entry) → length next ≡ length area
-    → g ≡ foundAfter f (metAlone (getD slots 0 []) d radius) → take (g .hits) next ≡ collected area f (metAlone (getD slots 0 []) d radius)
-    → (r : Found) (front : List Entry)
+    → (g : Found) (next : List Entry) → g ≡ foundAfter f (metAlone (getD slots 0 []) d radius) → next ≡ collected area f (metAlone (getD slots 0 []) d radius)
+    → (r : Found) (last : List Entry)
     → r ≡ foundAfter g (metInHalves dist query radius d m (take (length slots - 1) (drop 1 slots)))
-    → front ≡ collected next g (metInHalves dist query radius d m (take (length slots - 1) (drop 1 slots)))
-    → (r ≡ foundAfter f (rangeTree dist query radius slots)) × (front ≡ collected area f (rangeTree dist query radius slots))
-tree-visit dist query radius slots f area z d m dq mt g next same p q r front u v =
+    → last ≡ collected next g (metInHalves dist query radius d m (take (length slots - 1) (drop 1 slots)))
+    → (r ≡ foundAfter f (rangeTree dist query radius slots)) × (last ≡ collected area f (rangeTree dist query radius slots))
+tree-visit dist query radius slots f area z d m dq mt g next p q r last u v =
     let row = getD slots 0 [] in
     let whole : both (metAlone row d radius) (metInHalves dist query radius d m (take (length slots - 1) (drop 1 slots))) ≡ rangeTree dist query radius slots =
     ap (λ (xs : List Row). both (metAlone row d radius) (metInHalves dist query radius d m xs)) (part-to-end 1 slots)
     ∙ ap₂ (λ (x y : ℕ). both (metAlone row x radius) (metInHalves dist query radius x y (drop 1 slots))) dq mt
     ∙ sym (tree-first dist query radius slots z)
     in
-    let both-turns = two-turns f area (metAlone row d radius) (metInHalves dist query radius d m (take (length slots - 1) (drop 1 slots))) g next same p q r front u v in
+    let both-turns = two-turns f area (metAlone row d radius) (metInHalves dist query radius d m (take (length slots - 1) (drop 1 slots))) g next p q r last u v in
     (both-turns .0 ∙ ap (foundAfter f) whole, both-turns .1 ∙ ap (collected area f) whole)
 
 -- where the area holds all hits, they stand one after the other from the first free place on
-pub collected-all : (area : List Entry) (f : Found) (met : Met) → f .hits + length (met .hits) ≤ length area → collected area f met ≡ take (f .hits) area ++ met .hits
+pub collected-front : (area : List Entry) (f : Found) (met : Met) → f .hits + length (met .hits) ≤ length area
+    → take (f .hits + length (met .hits)) (collected area f met) ≡ take (f .hits) area ++ met .hits
 unfolding collected
-collected-all area f met h =
-    take-all (length area) (take (f .hits) area ++ met .hits) (rw length-append (omega (arith, length-take-le (f .hits) area (omega arith))))
+collected-front area f met h =
+    ap (take (f .hits + length (met .hits))) (sets-eq (met .hits) area (f .hits) h)
+    ∙ take-at (take (f .hits) area ++ met .hits) (drop (f .hits + length (met .hits)) area) (f .hits + length (met .hits))
+    (length-append (take (f .hits) area) (met .hits) ∙ ap (λ (n : ℕ). n + length (met .hits)) (length-take-le (f .hits) area (omega arith)))
 
 -- a half without slots gives nothing, entered or not
 pub empty-half : (dist : Profile → Profile → ℕ) (query : Profile) (radius : ℕ) (b : Bool) (slots : List Row) → length slots ≡ 0 → ifEntered b (rangeTree dist query radius slots) ≡ nothing

@@ -63,9 +63,8 @@ module _ (s : Search) where
   abbrev pub Adds : List Entry → Found → Met → Type 0
   Adds area met ahead = (foundAfter met ahead ≡ foundAfter (s .found) (treeMet (s .slots))) × (collected area met ahead ≡ collected (s .area) (s .found) (treeMet (s .slots)))
 
-  -- where a turn begins or ends: the area is as long as at the start, and what was met and the parts to come add up
+  -- where a turn begins or ends: what was met and the parts to come add up
   pub record Stands (pending : List Part) (t : Turn) (area : List Entry) (met : Found) : Type 0 where
-    pub same : length area ≡ length (s .area)
     pub adds : Adds area met (waitingMet (upcoming pending t))
     pub fit : Stacked (length (s .slots)) 4 (upcoming pending t)
     pub size : length pending ≡ 4
@@ -143,7 +142,6 @@ module _ (s : Search) where
       let whole : waitingMet (waits all) ≡ treeMet (s .slots) = waits-met all ∙ ap treeMet (take-length (s .slots)) in
       subst (λ (u : Turn). Stands pending u (s .area) (s .found)) (sym e)
       (record {
-        same = refl;
         adds = (ap (foundAfter (s .found)) whole, ap (collected (s .area) (s .found)) whole);
         fit = stacked-one (length (s .slots)) 4 all (λ h. record { some = h; few = few; inside = omega arith });
         size = size;
@@ -152,7 +150,7 @@ module _ (s : Search) where
 
 module _ {s : Search} {pending : List Part} {t : Turn} {area : List Entry} {met : Found} (w : Stands s pending t area met) where
   -- nothing is to come any more
-  pub all-met : t .size ≡ 0 → t .depth ≡ 0 → (met ≡ foundAfter (s .found) (treeMet s (s .slots))) × (take (met .hits) area ≡ collected (s .area) (s .found) (treeMet s (s .slots)))
+  pub all-met : t .size ≡ 0 → t .depth ≡ 0 → (met ≡ foundAfter (s .found) (treeMet s (s .slots))) × (area ≡ collected (s .area) (s .found) (treeMet s (s .slots)))
   unfolding waitingMet upcoming
   all-met e f =
       let none : waitingMet s (upcoming pending t) ≡ nothing =
@@ -178,7 +176,6 @@ module _ {s : Search} {pending : List Part} {t : Turn} {area : List Entry} {met 
   pub stands-next : {r : Turn} → ToCome (upcoming pending t) pending r → Stands s pending r area met
   stands-next q =
       record {
-        same = w .same;
         adds = subst (λ (ps : List Part). Adds s area met (waitingMet s ps)) (sym (q .parts-are)) (w .adds);
         fit = subst (Stacked (length (s .slots)) 4) (sym (q .parts-are)) (w .fit);
         size = w .size;
@@ -229,15 +226,13 @@ module _ {s : Search} {pending : List Part} {t : Turn} {area : List Entry} {met 
           ∙ ap (both slot)
           (ap (λ (x : Met). both x rest) (sym (halves-wait s (inHand t) d m)) ∙ sym (both-wait s waiting (entered (inHand t) d m (s .radius))) ∙ ap (waitingMet s) (sym (c .parts-are)))
 
-      pub stands-after : (next : Found) (stored : List Entry) → length stored ≡ length area
-          → next ≡ foundAfter met (metAlone (getD (s .slots) (t .start) []) d (s .radius))
-          → take (next .hits) stored ≡ collected area met (metAlone (getD (s .slots) (t .start) []) d (s .radius))
+      pub stands-after : (next : Found) (stored : List Entry) → next ≡ foundAfter met (metAlone (getD (s .slots) (t .start) []) d (s .radius))
+          → stored ≡ collected area met (metAlone (getD (s .slots) (t .start) []) d (s .radius))
           → length after ≡ length pending → Stands s after then stored next
       unfolding waiting
-      stands-after next stored long en es size =
-          let turns = two-turns met area _ (waitingMet s (upcoming after then)) next stored long en es _ _ refl refl in
+      stands-after next stored en es size =
+          let turns = two-turns met area _ (waitingMet s (upcoming after then)) next stored en es _ _ refl refl in
           record {
-            same = long ∙ w .same;
             adds = (turns .0 ∙ ap (foundAfter met) (sym split) ∙ w .adds .0, turns .1 ∙ ap (collected area met) (sym split) ∙ w .adds .1);
             fit = subst (Stacked (length (s .slots)) 4) (sym (c .parts-are)) (next-fit d m);
             size = size ∙ w .size;

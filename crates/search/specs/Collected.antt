@@ -1,8 +1,9 @@
--- What a range search leaves: the numbers that it hands on and the front of the area, where its hits are put as far as it goes.
+-- What a range search leaves: the numbers that it hands on and the area that its hits are put into, as far as it goes.
 use Prim.Native.Nat.{ℕ, suc, _+_}
 use mathlib.Core.Bool.{Bool, true, false, _&&_}
-use mathlib.Core.List.{List, [], _∷_, _++_}
+use mathlib.Core.List.{List, [], _∷_}
 use lib.ListN.{length, take, drop}
+use lib.Seq.{sets}
 use lib.Dec.{leb}
 use Rattle.metric.specs.declared.Profile.{Profile}
 use Rattle.metric.specs.Row.{Row, tagOf}
@@ -14,9 +15,9 @@ use Rattle.search.specs.Range.{Entry, entry, isLive, entersLeft, entersR
 unfoldable pub foundAfter : Found → Met → Found
 foundAfter f met = record { hits = f .hits + length (met .hits); count = f .count + met .count }
 
--- the front of the area: the hits found before and behind them those met now, as far as the area goes. What lies behind the front is free
+-- hits go into the area one after the other, from the first free place on; what does not fit is left out
 unfoldable pub collected : List Entry → Found → Met → List Entry
-collected area f met = take (length area) (take (f .hits) area ++ met .hits)
+collected area f met = sets area (f .hits) (met .hits)
 
 -- a slot alone, at distance d from the query
 unfoldable pub metAlone : Row → ℕ → ℕ → Met

@@ -1,7 +1,7 @@
-// Range over one tree: the slots are visited, hits are collected at the front of the area as far as it goes, and both are counted.
+// Range over one tree: the slots are visited, hits are collected in the area as far as it goes, and both are counted.
 ghost use mathlib.Core.Path.{_≡_};
 ghost use Prim.Native.Nat.{_+_, _<_, _^_};
-ghost use lib.ListN.{length, take};
+ghost use lib.ListN.{length};
 ghost use Rattle.metric.specs.Row.{profileOf};
 ghost use Rattle.metric.specs.Distance.{distance};
 ghost use Rattle.search.specs.Range.{rangeTree};
@@ -18,12 +18,12 @@ pub struct Found {
     pub count: usize,
 }
 
-// A slot alone, at distance d from the query. A live head is put behind the hits where the area has room, and counts as one if it is near enough: what
-// lies behind the hits is free, and a store at each head is faster than a test that cannot be guessed.
+// A slot alone, at distance d from the query: a live head that is near enough is put behind the hits where the area has room. Elsewhere the place gets
+// back what it held, for a store at each live head is faster than a test that cannot be guessed.
 fn meet(row: Row, d: u32, radius: u32, area: &mut [Entry], found: Found) -> Found
     requires { ⌜ (found .hits < 2 ^ 32) × (found .count < 2 ^ 32) ⌝ }
     ensures reply { λ r. ⌜ r ≡ foundAfter found (metAlone row d radius) ⌝ }
-    ensures area { λ r. ⌜ take (r .hits) (now (area .exit)) ≡ collected (now (area .entry)) found (metAlone row d radius) ⌝ }
+    ensures area { λ _. ⌜ now (area .exit) ≡ collected (now (area .entry)) found (metAlone row d radius) ⌝ }
 {
     let at = found.hits;
     let count = found.count + 1;
@@ -31,7 +31,11 @@ fn meet(row: Row, d: u32, radius: u32, area: &mut [Entry], found: Found) -> Foun
         return Found { hits: at, count };
     }
     if at < area.len() {
-        area[at] = [metric::tag_of(row), d as u64];
+        let mut put = area[at];
+        if d <= radius {
+            put = [metric::tag_of(row), d as u64];
+        }
+        area[at] = put;
     }
     if d <= radius {
         Found {
@@ -55,7 +59,7 @@ fn range_few(
 ) -> Found
     requires { ⌜ (length (now slots) < 16) × (found .hits + length (now slots) < 2 ^ 32) × (found .count + length (now slots) < 2 ^ 32) ⌝ }
     ensures reply { λ r. ⌜ r ≡ foundAfter found (rangeTree (distance metric) (profileOf (now (query .entry))) radius (now (slots .entry))) ⌝ }
-    ensures area { λ r. ⌜ take (r .hits) (now (area .exit)) ≡ collected (now (area .entry)) found (rangeTree (distance metric) (profileOf (now (query .entry))) radius (now (slots .entry))) ⌝ }
+    ensures area { λ _. ⌜ now (area .exit) ≡ collected (now (area .entry)) found (rangeTree (distance metric) (profileOf (now (query .entry))) radius (now (slots .entry))) ⌝ }
 {
     let mut pending = [[0; 3]; 4];
     let mut next = turn_of(0, 0, slots.len(), 0);
@@ -71,8 +75,7 @@ fn range_few(
     met
 }
 
-// The slots of one tree: few in one loop, more by the first slot and then its halves. Behind the hits the area is left free. The tally goes first, so
-// that it is passed in registers.
+// The slots of one tree: few in one loop, more by the first slot and then its halves. The tally goes first, so that it is passed in registers.
 pub fn range_tree(
     found: Found,
     slots: &[Row],
@@ -83,7 +86,7 @@ pub fn range_tree(
 ) -> Found
     requires { ⌜ (found .hits + length (now slots) < 2 ^ 32) × (found .count + length (now slots) < 2 ^ 32) ⌝ }
     ensures reply { λ r. ⌜ r ≡ foundAfter found (rangeTree (distance metric) (profileOf (now (query .entry))) radius (now (slots .entry))) ⌝ }
-    ensures area { λ r. ⌜ take (r .hits) (now (area .exit)) ≡ collected (now (area .entry)) found (rangeTree (distance metric) (profileOf (now (query .entry))) radius (now (slots .entry))) ⌝ }
+    ensures area { λ _. ⌜ now (area .exit) ≡ collected (now (area .entry)) found (rangeTree (distance metric) (profileOf (now (query .entry))) radius (now (slots .entry))) ⌝ }
 {
     if slots.len() < 16 {
         return range_few(found, slots, metric, query, radius, area);
@@ -116,7 +119,7 @@ fn range_halves(
 ) -> Found
     requires { ⌜ (found .hits + length (now rest) < 2 ^ 32) × (found .count + length (now rest) < 2 ^ 32) ⌝ }
     ensures reply { λ r. ⌜ r ≡ foundAfter found (metInHalves (distance metric) (profileOf (now (query .entry))) radius d m (now (rest .entry))) ⌝ }
-    ensures area { λ r. ⌜ take (r .hits) (now (area .exit)) ≡ collected (now (area .entry)) found (metInHalves (distance metric) (profileOf (now (query .entry))) radius d m (now (rest .entry))) ⌝ }
+    ensures area { λ _. ⌜ now (area .exit) ≡ collected (now (area .entry)) found (metInHalves (distance metric) (profileOf (now (query .entry))) radius d m (now (rest .entry))) ⌝ }
 {
     let l = rest.len() - rest.len() / 2;
     let mut met = found;

@@ -1,7 +1,7 @@
 -- What the searches of one tree leave, from a start with nothing found or kept, as a reply and the front of the area.
 -- Each number is at most the number of slots, or k, so it fits.
-use Prim.Native.Nat.{ℕ, _≤_, _<_, _^_}
-use mathlib.Core.Path.{_≡_, refl, sym, ap, subst, _∙_}
+use Prim.Native.Nat.{ℕ, _+_, _≤_, _<_, _^_}
+use mathlib.Core.Path.{_≡_, refl, sym, ap, ap₂, subst, _∙_}
 use mathlib.Core.Bool.{true, false}
 use mathlib.Core.List.{List}
 use lib.ListN.{length, take}
@@ -18,7 +18,7 @@ use Rattle.search.specs.Heap.{Pair}
 use Rattle.search.specs.Collected.{foundAfter, collected}
 use Rattle.search.specs.Nearby.{Ready, Leaves}
 use Rattle.search.proofs.RangeLaws.{range-count-le, range-hits-le, range-pairs}
-use Rattle.search.proofs.Collecting.{collected-all}
+use Rattle.search.proofs.Collecting.{collected-front}
 use Rattle.search.proofs.NearSteps.{Sound, sound-tree, not-held, numbers, front}
 use Rattle.tree_export.specs.declared.Reply.{Reply}
 use Rattle.tree_export.specs.Replies.{rangeReply, nearestReply, nothingKept}
@@ -46,10 +46,13 @@ module _ (dist : Profile → Profile → ℕ) (query : Profile) (radius : ℕ) (
   range-replied = reply-eq hits-are count-is
 
   -- the front of the area, sorted
-  pub range-front : (area met last : List Entry) → take (f .hits) met ≡ collected area none (rangeTree dist query radius slots) → f .hits ≤ length area
+  pub range-front : (area met last : List Entry) → met ≡ collected area none (rangeTree dist query radius slots) → f .hits ≤ length area
       → (All Pair (take (f .hits) met) → last ≡ ordered (take (f .hits) met)) → last ≡ ordered (rangeTree dist query radius slots .hits)
   range-front area met last m h sorted =
-      let hits : take (f .hits) met ≡ rangeTree dist query radius slots .hits = m ∙ collected-all area none (rangeTree dist query radius slots) (omega (arith, hits-are)) in
+      let n : f .hits ≡ 0 + length (rangeTree dist query radius slots .hits) = omega (arith, hits-are) in
+      let hits : take (f .hits) met ≡ rangeTree dist query radius slots .hits =
+      ap₂ (λ (i : ℕ) (l : List Entry). take i l) n m ∙ collected-front area none (rangeTree dist query radius slots) (omega (arith, hits-are))
+      in
       sorted (subst (All Pair) (sym hits) (range-pairs dist query radius slots)) ∙ ap ordered hits
 
 -- a nearest search can start with nothing kept

@@ -1,6 +1,6 @@
 -- A slot's visit and its halves' add up to the tree's, and the two halves' turns to the halves'; few slots are `range_few`'s.
 -- The measures are twice the slots' number, and one more for the halves. Assumes nothing.
-use mathlib.Core.Path.{_≡_, refl, sym, ap, ap₂, _∙_}
+use mathlib.Core.Path.{_≡_, refl, sym, ap, _∙_}
 use mathlib.Core.Logic.{⊎-elim}
 use mathlib.Core.List.{List, []}
 use mathlib.Core.Bool.{Bool, true, false, _&&_}
@@ -11,10 +11,10 @@ use Rattle.metric.specs.Row.{Row, profileOf}
 use Rattle.metric.specs.Distance.{distance}
 use Rattle.search.specs.declared.range.Found.{Found}
 use Rattle.tree.specs.Layout.{leftSize}
-use Rattle.search.specs.Range.{Entry, Met, nothing, entersLeft, entersRight, toQuery, rangeTree}
+use Rattle.search.specs.Range.{Met, nothing, entersLeft, entersRight, toQuery, rangeTree}
 use Rattle.search.specs.Collected.{foundAfter, collected, ifEntered, metInHalves}
 use Rattle.search.proofs.RangeLaws.{range-count-le, range-hits-le}
-use Rattle.search.proofs.Collecting.{empty-half, entered, skipped, left-size, half-found, found-nothing, collected-nothing, alone-found, two-turns, tree-visit, part-to-end}
+use Rattle.search.proofs.Collecting.{empty-half, entered, skipped, left-size, half-found, found-nothing, collected-nothing, collected-length, alone-found, two-turns, tree-visit, part-to-end}
 use Prim.Native.Nat.{ℕ, suc, _+_, _-_, _*_, _/_, _^_, _<_}
 use native.Mathlib.Omega.{arith}
 use borrow.Author.Needs.{needs}
@@ -124,24 +124,22 @@ left-leaves metric query radius d m rest f met e p q =
 -- what the left half's turn leaves
 after-left : (t : ℕ) (c : range-halves-lts.Joined1 (range-halves-callees t) (range-halves-at t) range-halves.Post)
     → (c .if1 .met ≡ foundAfter (c .before .args .found) (leftMet (c .before .args .metric) (c .before .args .query .now) (c .before .args .radius) (c .before .args .d) (c .before .args .m) (c .before .args .rest .now)))
-    × (take (c .if1 .met .hits) (c .if1 .area) ≡ collected (c .before .args .area .now) (c .before .args .found) (leftMet (c .before .args .metric) (c .before .args .query .now) (c .before .args .radius) (c .before .args .d) (c .before .args .m) (c .before .args .rest .now)))
+    × (c .if1 .area ≡ collected (c .before .args .area .now) (c .before .args .found) (leftMet (c .before .args .metric) (c .before .args .query .now) (c .before .args .radius) (c .before .args .d) (c .before .args .m) (c .before .args .rest .now)))
 after-left t c =
     let a = c .before .args in
     ⊎-elim
     (λ w.
-    let e = left-entered (a .metric) (a .query .now) (a .radius) (a .d) (a .m) (a .rest .now) (w .0 .taken) in (
-      w .6 ∙ w .3 .ensures .0 ∙ ap (foundAfter (a .found)) e,
-      ap₂ (λ (f : Found) (xs : List Entry). take (f .hits) xs) (w .6) (w .5) ∙ w .3 .ensures .1 ∙ ap (collected (a .area .now) (a .found)) e,
-    ))
+    let e = left-entered (a .metric) (a .query .now) (a .radius) (a .d) (a .m) (a .rest .now) (w .0 .taken) in
+    (w .6 ∙ w .3 .ensures .0 ∙ ap (foundAfter (a .found)) e, w .5 ∙ w .3 .ensures .1 ∙ ap (collected (a .area .now) (a .found)) e))
     (λ w.
     let e = left-skipped (a .metric) (a .query .now) (a .radius) (a .d) (a .m) (a .rest .now) (w .0 .left) in (
       w .2 ∙ sym (found-nothing (a .found)) ∙ ap (foundAfter (a .found)) e,
-      ap₂ (λ (f : Found) (xs : List Entry). take (f .hits) xs) (w .2) (w .1) ∙ sym (collected-nothing (a .area .now) (a .found)) ∙ ap (collected (a .area .now) (a .found)) e,
+      w .1 ∙ sym (collected-nothing (a .area .now) (a .found)) ∙ ap (collected (a .area .now) (a .found)) e,
     ))
     (c .if1 .came)
 
 left-length : (t : ℕ) (c : range-halves-lts.Joined1 (range-halves-callees t) (range-halves-at t) range-halves.Post) → length (c .if1 .area) ≡ length (c .before .args .area .now)
-left-length t c = ⊎-elim (λ w. ap length (w .5) ∙ w .3 .kept .1 .1 .1 .1 .1 .0) (λ w. ap length (w .1)) (c .if1 .came)
+left-length t c = ap length (after-left t c .1) ∙ collected-length (c .before .args .area .now) (c .before .args .found) _
 
 range-halves-sub-l :
     (t : ℕ) →
@@ -195,7 +193,7 @@ range-halves-returns t c =
     let left = leftMet (a .metric) (a .query .now) (a .radius) (a .d) (a .m) (a .rest .now) in
     let right = rightMet (a .metric) (a .query .now) (a .radius) (a .d) (a .m) (a .rest .now) in
     let e = right-entered (a .metric) (a .query .now) (a .radius) (a .d) (a .m) (a .rest .now) (c .before .before .before .before .if2 .taken) in
-    two-turns (a .found) (a .area .now) left right (j .if1 .met) (j .if1 .area) (left-length t j) (after-left t j .0) (after-left t j .1) _ _
+    two-turns (a .found) (a .area .now) left right (j .if1 .met) (j .if1 .area) (after-left t j .0) (after-left t j .1) _ _
     (c .before .range-tree2 .ensures .0 ∙ ap (foundAfter (j .if1 .met)) e)
     (c .before .range-tree2 .ensures .1 ∙ ap (collected (j .if1 .area) (j .if1 .met)) e)
 
@@ -210,7 +208,7 @@ range-halves-returns-2 t c =
     let left = leftMet (a .metric) (a .query .now) (a .radius) (a .d) (a .m) (a .rest .now) in
     let right = rightMet (a .metric) (a .query .now) (a .radius) (a .d) (a .m) (a .rest .now) in
     let e = right-skipped (a .metric) (a .query .now) (a .radius) (a .d) (a .m) (a .rest .now) (c .if2 .left) in
-    two-turns (a .found) (a .area .now) left right (j .if1 .met) (j .if1 .area) (left-length t j) (after-left t j .0) (after-left t j .1) _ _
+    two-turns (a .found) (a .area .now) left right (j .if1 .met) (j .if1 .area) (after-left t j .0) (after-left t j .1) _ _
     (sym (found-nothing (j .if1 .met)) ∙ ap (foundAfter (j .if1 .met)) e)
     (sym (collected-nothing (j .if1 .area) (j .if1 .met)) ∙ ap (collected (j .if1 .area) (j .if1 .met)) e)
 
@@ -270,7 +268,7 @@ range-tree-returns-2 t c =
     let m = c .before .before .before .threshold-of in
     let halves = c .before .range-halves in
     tree-visit (distance (a .metric)) (profileOf (a .query .now)) (a .radius) (a .slots .now) (a .found) (a .area .now) (omega (arith, c .before .before .before .before .before .before .before .before .before .before .before .if1 .left)) (d .result) (m .result) (d .ensures) (m .ensures)
-    (met .result) (met .last .1 .1 .1 .0) (met .kept .1 .1 .1 .0) (met .ensures .0) (met .ensures .1) (halves .result) _ (halves .ensures .0) (halves .ensures .1)
+    (met .result) (met .last .1 .1 .1 .0) (met .ensures .0) (met .ensures .1) (halves .result) (halves .last .1 .1 .1 .1 .1 .1 .0) (halves .ensures .0) (halves .ensures .1)
 
 pub +range-halves+range-tree-spec : {M : Type 1} → statement M
 +range-halves+range-tree-spec = close μ-range-halves μ-range-tree (λ t. range-halves-lts.spec (range-halves-callees t) (range-halves-at t)

@@ -1,7 +1,7 @@
 -- Each turn meets the first slot of the part in hand, and what was met and the parts to come keep adding up to the tree's visit.
 -- The measure is how many slots are to come. Assumes nothing.
 use Prim.Native.Nat.{ℕ, _+_, _≤_, _<_}
-use mathlib.Core.Path.{_≡_, refl, sym, ap}
+use mathlib.Core.Path.{_≡_, refl, sym, ap, _∙_}
 use mathlib.Core.List.{List}
 use native.Mathlib.Omega.{arith}
 use borrow.Author.Needs.{needs}
@@ -12,6 +12,7 @@ use Rattle.search.specs.declared.range.Found.{Found}
 use Rattle.search.specs.declared.waiting.Turn.{Turn}
 use Rattle.search.specs.Range.{Entry, toQuery}
 use Rattle.search.specs.Waiting.{upcoming}
+use Rattle.search.proofs.Collecting.{collected-length}
 use Rattle.search.proofs.Pending.{slotsOf}
 use Rattle.search.proofs.RangeTurns.{Search, Stands, stands-start, all-met, numbers-fit, slotted, stands-next, turn-inside, turn-room, stands-after, fewer}
 use Rattle.search.proofs.range.range_few.Statement.{statement}
@@ -67,7 +68,7 @@ stood c =
     let d = c .before .before .before .before .before .before .distance-between in
     let m = c .before .threshold-of in
     let slot = c .before .before .before .before .meet in (
-      stands-after w (at .if1 .taken) (d .ensures) (m .ensures) (c .enter .ensures) (slot .result) (slot .last .1 .1 .1 .0) (slot .kept .1 .1 .1 .0) (slot .ensures .0) (slot .ensures .1) (c .enter .kept .0),
+      stands-after w (at .if1 .taken) (d .ensures) (m .ensures) (c .enter .ensures) (slot .result) (slot .last .1 .1 .1 .0) (slot .ensures .0) (slot .ensures .1) (c .enter .kept .0),
       fewer w (at .if1 .taken) (d .ensures) (m .ensures) (c .enter .ensures),
     )
 
@@ -84,7 +85,9 @@ loop-again : tie.Need-loop-again Inv-loop μ-loop
 loop-again c = (stands-next (stood (c .before .before .before) .0) (c .up-next .ensures .same), c .up-next .ensures .none)
 
 same-length : tie.Need-same-length Inv-loop μ-loop
-same-length c = c .before .before .loop .inv .0 .same
+same-length c =
+    let inv = c .before .before .loop .inv in
+    ap length (all-met (inv .0) (omega arith) (inv .1 (omega arith)) .1) ∙ collected-length _ _ _
 
 returns : tie.Need-returns Inv-loop μ-loop
 returns c =
