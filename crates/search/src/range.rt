@@ -18,8 +18,9 @@ pub struct Found {
     pub count: usize,
 }
 
-// A slot alone, at distance d from the query: a live head that is near enough is put behind the hits where the area has room. Elsewhere the place gets
-// back what it held, for a store at each live head is faster than a test that cannot be guessed.
+// A slot alone, at distance d from the query: a live head that is near enough is put behind the hits where the area has room. Each live head is stored
+// there, for that is faster than a test that cannot be guessed, and then the place behind the hits gets back what it held: where the head is no hit, it
+// is the same place.
 fn meet(row: Row, d: u32, radius: u32, area: &mut [Entry], found: Found) -> Found
     requires { ⌜ (found .hits < 2 ^ 32) × (found .count < 2 ^ 32) ⌝ }
     ensures reply { λ r. ⌜ r ≡ foundAfter found (metAlone row d radius) ⌝ }
@@ -30,20 +31,21 @@ fn meet(row: Row, d: u32, radius: u32, area: &mut [Entry], found: Found) -> Foun
     if metric::mark_of(row) != 0 {
         return Found { hits: at, count };
     }
-    if at < area.len() {
-        let mut put = area[at];
-        if d <= radius {
-            put = [metric::tag_of(row), d as u64];
-        }
-        area[at] = put;
-    }
+    let mut behind = at;
     if d <= radius {
-        Found {
-            hits: at + 1,
-            count,
-        }
-    } else {
-        Found { hits: at, count }
+        behind = at + 1;
+    }
+    let own = [metric::tag_of(row), d as u64];
+    if behind < area.len() {
+        let held = area[behind];
+        area[at] = own;
+        area[behind] = held;
+    } else if at < area.len() {
+        area[at] = own;
+    }
+    Found {
+        hits: behind,
+        count,
     }
 }
 

@@ -1,15 +1,14 @@
--- A dead slot is counted alone. Behind the hits a live one puts its entry where it is a hit, and elsewhere what is there already, if the area goes so far.
+-- A dead slot is counted alone. A live one is stored behind the hits, and what lay where the hits then end is put back there.
 -- Assumes nothing.
 use mathlib.Core.Path.{_≡_, sym, ap, _∙_}
-use mathlib.Core.Logic.{⊎-elim}
+use mathlib.Core.Logic.{_⊎_, inl, inr, ⊎-elim}
 use mathlib.Core.List.{[]}
-use Prim.Native.Nat.{ℕ, _<_, _≤_}
-use lib.ListN.{length, getD, set, length-set}
-use lib.Seq.{set-out, set-getD}
+use Prim.Native.Nat.{ℕ, _+_, _<_, _≤_}
+use lib.ListN.{getD, set, length-set}
 use native.Mathlib.Omega.{arith}
-use Rattle.metric.specs.Row.{tagOf}
+use Rattle.metric.specs.Row.{markOf}
 use Rattle.search.specs.Range.{entry}
-use Rattle.search.proofs.Collecting.{missed, missed-area, dead-no-hit, far-no-hit, alone-hit, alone-hit-area}
+use Rattle.search.proofs.Collecting.{missed, missed-area, dead-no-hit, counted, put-back, put-last, none-put}
 use borrow.Author.Needs.{needs}
 use Rattle.search.proofs.range.meet.Statement.{statement}
 use Rattle.search.proofs.range.meet.Tie as tie
@@ -20,58 +19,44 @@ returns c =
     let no-hit = dead-no-hit (a .row) (a .d) (a .radius) (λ e. c .if1 .taken (c .before .mark-of .ensures ∙ e)) in
     (sym (missed (a .row) (a .d) (a .radius) no-hit (a .found)), sym (missed-area (a .row) (a .d) (a .radius) no-hit (a .area .now) (a .found)))
 
--- the entry to put: the head's own where it is a hit, and else what lies at the place
-put-near : (c : tie.Joined3) → (let a = c .before .before .before .before .before .before .args in a .d ≤ a .radius → c .if3 .put ≡ entry (tagOf (a .row)) (a .d))
-unfolding entry
-put-near c near =
-    let a = c .before .before .before .before .before .before .args in
-    ⊎-elim
-    (λ w. w .2 ∙ ap (λ (tag : ℕ). entry tag (a .d)) (w .1 .ensures))
-    (λ w. absurd (omega (arith, w .0 .left)))
-    (c .if3 .came)
+live : (c : tie.Joined2) → markOf (c .before .before .before .before .args .row) ≡ 0
+live c = sym (c .before .before .mark-of .ensures) ∙ c .before .if1 .left
 
-put-far : (c : tie.Joined3) → (let a = c .before .before .before .before .before .before .args in a .radius < a .d → c .if3 .put ≡ getD (a .area .now) (a .found .hits) [])
-put-far c far =
-    let a = c .before .before .before .before .before .before .args in
-    ⊎-elim
-    (λ w.
-    let near : a .d ≤ a .radius = w .0 .taken in
-    absurd (omega arith))
-    (λ w. w .1)
-    (c .if3 .came)
+-- where the hits end
+ends : (c : tie.Joined2)
+    → (let a = c .before .before .before .before .args in
+    ((a .d ≤ a .radius) × (c .if2 .behind ≡ a .found .hits + 1)) ⊎ ((a .radius < a .d) × (c .if2 .behind ≡ a .found .hits)))
+ends c = ⊎-elim (λ w. inl (w .0 .taken, w .1)) (λ w. inr (w .0 .left, w .1)) (c .if2 .came)
 
-same-area : (c : tie.Joined2) → length (c .if2 .area) ≡ length (c .before .before .before .before .args .area .now)
-same-area c = ⊎-elim (λ w. ap length (w .3) ∙ simp length-set) (λ w. ap length (w .1)) (c .if2 .came)
+slice-set-from-own : tie.Need-slice-set-from-own
+slice-set-from-own c = ⊎-elim (λ w. omega (arith, w .1, c .before .before .if3 .taken)) (λ w. omega (arith, w .1, c .before .before .if3 .taken)) (ends (c .before .before .before .before))
 
 returns-2 : tie.Need-returns-2
+unfolding entry
 returns-2 c =
-    let a = c .before .before .before .before .before .args in
-    let live = sym (c .before .before .before .mark-of .ensures) ∙ c .before .before .if1 .left in
-    let near = c .if4 .taken in (
-      sym (alone-hit (a .row) (a .d) (a .radius) live near (a .found)),
-      ⊎-elim
-          (λ w.
-          w .3
-          ∙ ap (set (a .area .now) (a .found .hits)) (put-near (record { before = record { before = record { before = c .before .before; if2 = w .0 }; put = w .1 }; if3 = w .2 }) near))
-          (λ w. w .1 ∙ sym (set-out (a .area .now) (a .found .hits) (entry (tagOf (a .row)) (a .d)) (w .0 .left)))
-          (c .before .if2 .came)
-          ∙ sym (alone-hit-area (a .row) (a .d) (a .radius) live near (a .area .now) (a .found)),
+    let j = c .before .before .before .before in
+    let a = j .before .before .before .before .args in (
+      counted (a .row) (a .d) (a .radius) (live j) (a .found) (j .if2 .behind) (ends j),
+      ap (λ (tag : ℕ). set (set (a .area .now) (a .found .hits) (entry tag (a .d))) (j .if2 .behind) (getD (a .area .now) (j .if2 .behind) [])) (c .before .before .before .tag-of .ensures)
+          ∙ put-back (a .row) (a .d) (a .radius) (live j) (a .found) (j .if2 .behind) (ends j) (a .area .now),
     )
 
 returns-3 : tie.Need-returns-3
+unfolding entry
 returns-3 c =
-    let a = c .before .before .before .before .before .args in
-    let far = c .if4 .left in
-    let no-hit = far-no-hit (a .row) (a .d) (a .radius) far in (
-      sym (missed (a .row) (a .d) (a .radius) no-hit (a .found)),
-      ⊎-elim
-          (λ w.
-          w .3
-          ∙ ap (set (a .area .now) (a .found .hits)) (put-far (record { before = record { before = record { before = c .before .before; if2 = w .0 }; put = w .1 }; if3 = w .2 }) far)
-          ∙ set-getD (a .area .now) (a .found .hits) [])
-          (λ w. w .1)
-          (c .before .if2 .came)
-          ∙ sym (missed-area (a .row) (a .d) (a .radius) no-hit (a .area .now) (a .found)),
+    let j = c .before .before .before in
+    let a = j .before .before .before .before .args in (
+      counted (a .row) (a .d) (a .radius) (live j) (a .found) (j .if2 .behind) (ends j),
+      ap (λ (tag : ℕ). set (a .area .now) (a .found .hits) (entry tag (a .d))) (c .before .before .tag-of .ensures)
+          ∙ put-last (a .row) (a .d) (a .radius) (live j) (a .found) (j .if2 .behind) (ends j) (a .area .now) (c .if4 .taken) (c .before .if3 .left),
+    )
+
+returns-4 : tie.Need-returns-4
+returns-4 c =
+    let j = c .before .before .before in
+    let a = j .before .before .before .before .args in (
+      counted (a .row) (a .d) (a .radius) (live j) (a .found) (j .if2 .behind) (ends j),
+      none-put (a .row) (a .d) (a .radius) (live j) (a .found) (j .if2 .behind) (ends j) (a .area .now) (c .if4 .left),
     )
 
 pub meet-spec : {M : Type 1} → statement M
@@ -82,12 +67,17 @@ meet-spec =
     (λ c κs. search needs)
     returns
     (λ c. search needs)
-    (λ c. search needs)
     (λ c κs. search needs)
     (λ c. search needs)
     (λ c. search needs)
     (λ c. search needs)
-    (λ c. same-area (c .before))
+    slice-set-from-own
+    (λ c. search needs)
+    (λ c. simp length-set (search needs))
+    (λ c. search needs)
+    (λ c. search needs)
+    (λ c. simp length-set)
     returns-2
-    (λ c. same-area (c .before))
-    returns-3)
+    (λ c. simp length-set)
+    returns-3
+    returns-4)
