@@ -1,6 +1,6 @@
 // Measures the searches of one tree of 4,096 head, proved, beside plain Rust programs: (a) a scan of a slice that keeps the ten best, for range
 // also a scan that sorts its hits, and (b) the same tree with the same visit rule. All answer the same queries in the same run, and the answers
-// and counts are compared. Run it by bench/run.sh.
+// and counts are compared. What it takes to sort the hits, once they are found, is measured too. Run it by bench/run.sh.
 use std::time::Instant;
 
 const HEAD: usize = 4096;
@@ -233,8 +233,8 @@ fn measure<const N: usize>(mut work: [&mut dyn FnMut(usize); N]) -> [f64; N] {
     times.map(median)
 }
 
-// One line: the times, the proved one first, and its ratio to each of the others.
-fn report(herd: &str, metric: u32, what: &str, visited: f64, found: f64, times: &[f64]) {
+// One line: the times, the proved one first, and its ratio to each of the others; for range also the time of the sort alone.
+fn report(herd: &str, metric: u32, what: &str, visited: f64, found: f64, times: &[f64], sort: Option<f64>) {
     let mut line = format!("{herd:9} | {metric} | {what:11} | {found:7.1} | {visited:7.1}");
     for t in times {
         line += &format!(" | {t:8.0}");
@@ -242,13 +242,16 @@ fn report(herd: &str, metric: u32, what: &str, visited: f64, found: f64, times: 
     for t in &times[1..] {
         line += &format!(" | {:5.2}", times[0] / t);
     }
+    if let Some(t) = sort {
+        line += &format!(" | {t:8.0}");
+    }
     println!("{line}");
 }
 
 // The herds' seed may be given in hexadecimal, other than 0.
 fn main() {
     let seed = std::env::args().nth(1).map_or(0x9E37_79B9_7F4A_7C15, |s| u64::from_str_radix(&s, 16).expect("a seed in hexadecimal"));
-    println!("herd | metric | search | found | visited | ns: proved | (b) | (a) | range: sorting scan | ratio: /(b) | /(a) | range: /sorting scan");
+    println!("herd | metric | search | found | visited | ns: proved | (b) | (a) | range: sorting scan | ratio: /(b) | /(a) | range: /sorting scan | ns: sort alone");
     // How tight a cluster is decides what metric 1 can leave out, so three are measured: 8 bits, 6 and 4.
     for (name, flips) in [("cluster 8", Some(8)), ("cluster 6", Some(6)), ("cluster 4", Some(4)), ("even", None)] {
         for metric in [0, 1] {
@@ -293,7 +296,7 @@ fn run(name: &str, metric: u32, slots: &[Slot], rows: &[[u32; 12]], queries: &[S
             std::hint::black_box(&scan);
         },
     ]);
-    report(name, metric, "nearest 10", mean(visited), mean(found), &times);
+    report(name, metric, "nearest 10", mean(visited), mean(found), &times, None);
     for hits in [10, 1000] {
         run_range(name, metric, slots, rows, queries, asked, hits);
     }
@@ -302,6 +305,9 @@ fn run(name: &str, metric: u32, slots: &[Slot], rows: &[[u32; 12]], queries: &[S
 fn run_range(name: &str, metric: u32, slots: &[Slot], rows: &[[u32; 12]], queries: &[Slot], asked: &[[u32; 12]], hits: usize) {
     let mut area = vec![[0u64; 2]; HEAD];
     let (mut tree, mut best, mut scan) = (Vec::with_capacity(HEAD), Vec::with_capacity(HEAD), Vec::with_capacity(HEAD));
+    let mut sorted: Vec<Entry> = Vec::with_capacity(HEAD);
+    // the hits of each query, in the order met
+    let mut met: Vec<Vec<Entry>> = vec![];
     let (mut visited, mut found) = (0u64, 0u64);
     let radii: Vec<u32> = queries
         .iter()
@@ -315,6 +321,7 @@ fn run_range(name: &str, metric: u32, slots: &[Slot], rows: &[[u32; 12]], querie
         let mut count = 0;
         tree.clear();
         tree_range(metric, slots, q, r, &mut tree, &mut count);
+        met.push(tree.clone());
         tree.sort_unstable();
         scan_range(metric, slots, q, r, &mut scan);
         assert_eq!(tree, scan);
@@ -343,6 +350,12 @@ fn run_range(name: &str, metric: u32, slots: &[Slot], rows: &[[u32; 12]], querie
             scan_range(metric, slots, &queries[q], radii[q], &mut scan);
             std::hint::black_box(&scan);
         },
+        &mut |q| {
+            sorted.clear();
+            sorted.extend_from_slice(&met[q]);
+            sorted.sort_unstable();
+            std::hint::black_box(&sorted);
+        },
     ]);
-    report(name, metric, &format!("range ~{hits}"), mean(visited), mean(found), &times);
+    report(name, metric, &format!("range ~{hits}"), mean(visited), mean(found), &times[..4], Some(times[4]));
 }

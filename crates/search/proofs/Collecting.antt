@@ -3,10 +3,9 @@
 use Prim.Native.Nat.{ℕ, suc, _+_, _-_, _/_, _^_, _<_, _≤_}
 use mathlib.Core.Path.{_≡_, refl, sym, ap, ap₂, _∙_}
 use mathlib.Core.Bool.{Bool, true, false, _&&_, and-false}
-use mathlib.Core.Logic.{_⊎_, ⊎-elim}
 use mathlib.Core.List.{List, [], _∷_, _++_}
 use lib.ListN.{length, take, drop, getD, set, length-append, length-drop}
-use lib.Seq.{sets, sets-eq, length-sets, length-take-le, take-all, take-at, set-out, set-set, set-getD, getD-set-other}
+use lib.Seq.{sets, sets-eq, length-sets, length-take-le, take-all, take-at}
 use lib.Dec.{leb}
 use borrow.Author.Tests.{eq-eqb, ne-eqb, le-leb, lt-leb}
 use native.Mathlib.Omega.{arith}
@@ -69,50 +68,20 @@ module _ (row : Row) (d radius : ℕ) where
   unfolding isLive
   dead-no-hit ne = ap (λ (b : Bool). b && leb d radius) (ne-eqb (markOf row) 0 ne)
 
-  far-no-hit : radius < d → isLive row && leb d radius ≡ false
+  pub far-no-hit : radius < d → isLive row && leb d radius ≡ false
   far-no-hit h = ap (λ (b : Bool). isLive row && b) (lt-leb d radius h) ∙ and-false (isLive row)
 
   hit : markOf row ≡ 0 → d ≤ radius → isLive row && leb d radius ≡ true
   unfolding isLive
   hit e h = ap₂ _&&_ (eq-eqb (markOf row) 0 e) (le-leb d radius h)
 
-  alone-hit : markOf row ≡ 0 → d ≤ radius → (f : Found) → foundAfter f (metAlone row d radius) ≡ record { hits = f .hits + 1; count = f .count + 1 }
+  pub alone-hit : markOf row ≡ 0 → d ≤ radius → (f : Found) → foundAfter f (metAlone row d radius) ≡ record { hits = f .hits + 1; count = f .count + 1 }
   unfolding metAlone foundAfter
   alone-hit e h f = ap (λ (b : Bool). foundAfter f (record { hits = elim b [ true ↦ entry (tagOf row) d ∷ [] | false ↦ [] ]; count = 1 })) (hit e h)
 
-  alone-hit-area : markOf row ≡ 0 → d ≤ radius → (area : List Entry) (f : Found) → collected area f (metAlone row d radius) ≡ set area (f .hits) (entry (tagOf row) d)
+  pub alone-hit-area : markOf row ≡ 0 → d ≤ radius → (area : List Entry) (f : Found) → collected area f (metAlone row d radius) ≡ set area (f .hits) (entry (tagOf row) d)
   unfolding metAlone collected
   alone-hit-area e h area f = ap (λ (b : Bool). sets area (f .hits) (elim b [ true ↦ entry (tagOf row) d ∷ [] | false ↦ [] ])) (hit e h)
-
-  -- a live head's entry, and where the hits end once it is met: one place further where it is a hit, else where they did
-  module _ (live : markOf row ≡ 0) (f : Found) (end : ℕ) (ends : ((d ≤ radius) × (end ≡ f .hits + 1)) ⊎ ((radius < d) × (end ≡ f .hits))) where
-    pub counted : record { hits = end; count = f .count + 1 } ≡ foundAfter f (metAlone row d radius)
-    counted = ⊎-elim (λ h. found-eq (h .1) refl ∙ sym (alone-hit live (h .0) f)) (λ h. found-eq (h .1) refl ∙ sym (missed (far-no-hit (h .0)) f)) ends
-
-    -- the entry is stored behind the hits, and what lay where they end now is put back there
-    pub put-back : (area : List Entry) → set (set area (f .hits) (entry (tagOf row) d)) end (getD area end []) ≡ collected area f (metAlone row d radius)
-    put-back area =
-        let own = entry (tagOf row) d in
-        ⊎-elim
-        (λ h.
-        ap (set (set area (f .hits) own) end) (sym (getD-set-other area (f .hits) end own [] (λ same. omega (arith, h .1))))
-        ∙ set-getD (set area (f .hits) own) end []
-        ∙ sym (alone-hit-area live (h .0) area f))
-        (λ h.
-        ap (λ (i : ℕ). set (set area (f .hits) own) i (getD area i [])) (h .1)
-        ∙ set-set area (f .hits) own (getD area (f .hits) [])
-        ∙ set-getD area (f .hits) []
-        ∙ sym (missed-area (far-no-hit (h .0)) area f))
-        ends
-
-    -- the last place takes a hit alone
-    pub put-last : (area : List Entry) → f .hits < length area → length area ≤ end → set area (f .hits) (entry (tagOf row) d) ≡ collected area f (metAlone row d radius)
-    put-last area some full = ⊎-elim (λ h. sym (alone-hit-area live (h .0) area f)) (λ h. absurd (omega (arith, h .1))) ends
-
-    -- and a full area takes none
-    pub none-put : (area : List Entry) → length area ≤ f .hits → area ≡ collected area f (metAlone row d radius)
-    none-put area full =
-        ⊎-elim (λ h. sym (set-out area (f .hits) (entry (tagOf row) d) full) ∙ sym (alone-hit-area live (h .0) area f)) (λ h. sym (missed-area (far-no-hit (h .0)) area f)) ends
 
 module _ (dist : Profile → Profile → ℕ) (query : Profile) (radius : ℕ) where
   pub tree-empty : (slots : List Row) → length slots ≡ 0 → rangeTree dist query radius slots ≡ nothing

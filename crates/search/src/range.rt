@@ -18,9 +18,7 @@ pub struct Found {
     pub count: usize,
 }
 
-// A slot alone, at distance d from the query: a live head that is near enough is put behind the hits where the area has room. Each live head is stored
-// there, for that is faster than a test that cannot be guessed, and then the place behind the hits gets back what it held: where the head is no hit, it
-// is the same place.
+// A slot alone, at distance d from the query: a hit is put behind those found before, where the area has room.
 fn meet(row: Row, d: u32, radius: u32, area: &mut [Entry], found: Found) -> Found
     requires { ⌜ (found .hits < 2 ^ 32) × (found .count < 2 ^ 32) ⌝ }
     ensures reply { λ r. ⌜ r ≡ foundAfter found (metAlone row d radius) ⌝ }
@@ -31,20 +29,17 @@ fn meet(row: Row, d: u32, radius: u32, area: &mut [Entry], found: Found) -> Foun
     if metric::mark_of(row) != 0 {
         return Found { hits: at, count };
     }
-    let mut behind = at;
-    if d <= radius {
-        behind = at + 1;
+    if radius < d {
+        return Found {
+            hits: found.hits,
+            count,
+        };
     }
-    let own = [metric::tag_of(row), d as u64];
-    if behind < area.len() {
-        let held = area[behind];
-        area[at] = own;
-        area[behind] = held;
-    } else if at < area.len() {
-        area[at] = own;
+    if at < area.len() {
+        area[at] = [metric::tag_of(row), d as u64];
     }
     Found {
-        hits: behind,
+        hits: at + 1,
         count,
     }
 }

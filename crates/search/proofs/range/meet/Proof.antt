@@ -1,17 +1,22 @@
--- A dead slot is counted alone. A live one is stored behind the hits, and what lay where the hits then end is put back there.
+-- A slot that is dead or farther than the radius is counted alone; a hit is put at the first free place, if the area goes so far.
 -- Assumes nothing.
-use mathlib.Core.Path.{_≡_, sym, ap, _∙_}
-use mathlib.Core.Logic.{_⊎_, inl, inr, ⊎-elim}
-use mathlib.Core.List.{[]}
-use Prim.Native.Nat.{ℕ, _+_, _<_, _≤_}
-use lib.ListN.{getD, set, length-set}
-use native.Mathlib.Omega.{arith}
-use Rattle.metric.specs.Row.{markOf}
+use mathlib.Core.Path.{sym, ap, _∙_}
+use mathlib.Core.Logic.{⊎-elim}
+use Prim.Native.Nat.{ℕ}
+use lib.ListN.{length, set, length-set}
+use Rattle.metric.specs.Row.{tagOf}
+use lib.Seq.{set-out}
 use Rattle.search.specs.Range.{entry}
-use Rattle.search.proofs.Collecting.{missed, missed-area, dead-no-hit, counted, put-back, put-last, none-put}
+use Rattle.search.proofs.Collecting.{missed, missed-area, dead-no-hit, far-no-hit, alone-hit, alone-hit-area}
 use borrow.Author.Needs.{needs}
 use Rattle.search.proofs.range.meet.Statement.{statement}
 use Rattle.search.proofs.range.meet.Tie as tie
+
+add-count : tie.Need-add-count
+add-count c = search needs
+
+mark-of-requires : tie.Need-mark-of-requires
+mark-of-requires c κs = search needs
 
 returns : tie.Need-returns
 returns c =
@@ -19,65 +24,51 @@ returns c =
     let no-hit = dead-no-hit (a .row) (a .d) (a .radius) (λ e. c .if1 .taken (c .before .mark-of .ensures ∙ e)) in
     (sym (missed (a .row) (a .d) (a .radius) no-hit (a .found)), sym (missed-area (a .row) (a .d) (a .radius) no-hit (a .area .now) (a .found)))
 
-live : (c : tie.Joined2) → markOf (c .before .before .before .before .args .row) ≡ 0
-live c = sym (c .before .before .mark-of .ensures) ∙ c .before .if1 .left
-
--- where the hits end
-ends : (c : tie.Joined2)
-    → (let a = c .before .before .before .before .args in
-    ((a .d ≤ a .radius) × (c .if2 .behind ≡ a .found .hits + 1)) ⊎ ((a .radius < a .d) × (c .if2 .behind ≡ a .found .hits)))
-ends c = ⊎-elim (λ w. inl (w .0 .taken, w .1)) (λ w. inr (w .0 .left, w .1)) (c .if2 .came)
-
-slice-set-from-own : tie.Need-slice-set-from-own
-slice-set-from-own c = ⊎-elim (λ w. omega (arith, w .1, c .before .before .if3 .taken)) (λ w. omega (arith, w .1, c .before .before .if3 .taken)) (ends (c .before .before .before .before))
-
 returns-2 : tie.Need-returns-2
-unfolding entry
 returns-2 c =
-    let j = c .before .before .before .before in
-    let a = j .before .before .before .before .args in (
-      counted (a .row) (a .d) (a .radius) (live j) (a .found) (j .if2 .behind) (ends j),
-      ap (λ (tag : ℕ). set (set (a .area .now) (a .found .hits) (entry tag (a .d))) (j .if2 .behind) (getD (a .area .now) (j .if2 .behind) [])) (c .before .before .before .tag-of .ensures)
-          ∙ put-back (a .row) (a .d) (a .radius) (live j) (a .found) (j .if2 .behind) (ends j) (a .area .now),
-    )
+    let a = c .before .before .before .before .args in
+    let no-hit = far-no-hit (a .row) (a .d) (a .radius) (c .if2 .taken) in
+    (sym (missed (a .row) (a .d) (a .radius) no-hit (a .found)), sym (missed-area (a .row) (a .d) (a .radius) no-hit (a .area .now) (a .found)))
+
+tag-of-requires : tie.Need-tag-of-requires
+tag-of-requires c κs = search needs
+
+mul-t14 : tie.Need-mul-t14
+mul-t14 c = search needs
+
+slice-set-from-area : tie.Need-slice-set-from-area
+slice-set-from-area c = search needs
+
+add-t10 : tie.Need-add-t10
+add-t10 c = search needs
+
+same-length : tie.Need-same-length
+same-length c = ⊎-elim (λ w. ap length (w .2) ∙ simp length-set) (λ w. ap length (w .1)) (c .if3 .came)
 
 returns-3 : tie.Need-returns-3
 unfolding entry
 returns-3 c =
-    let j = c .before .before .before in
-    let a = j .before .before .before .before .args in (
-      counted (a .row) (a .d) (a .radius) (live j) (a .found) (j .if2 .behind) (ends j),
-      ap (λ (tag : ℕ). set (a .area .now) (a .found .hits) (entry tag (a .d))) (c .before .before .tag-of .ensures)
-          ∙ put-last (a .row) (a .d) (a .radius) (live j) (a .found) (j .if2 .behind) (ends j) (a .area .now) (c .if4 .taken) (c .before .if3 .left),
-    )
-
-returns-4 : tie.Need-returns-4
-returns-4 c =
-    let j = c .before .before .before in
-    let a = j .before .before .before .before .args in (
-      counted (a .row) (a .d) (a .radius) (live j) (a .found) (j .if2 .behind) (ends j),
-      none-put (a .row) (a .d) (a .radius) (live j) (a .found) (j .if2 .behind) (ends j) (a .area .now) (c .if4 .left),
+    let a = c .before .before .before .before .before .args in
+    let live = sym (c .before .before .before .mark-of .ensures) ∙ c .before .before .if1 .left in (
+      sym (alone-hit (a .row) (a .d) (a .radius) live (c .before .if2 .left) (a .found)),
+      ⊎-elim
+          (λ w. w .2 ∙ ap (λ (tag : ℕ). set (a .area .now) (a .found .hits) (entry tag (a .d))) (w .1 .ensures))
+          (λ w. w .1 ∙ sym (set-out (a .area .now) (a .found .hits) (entry (tagOf (a .row)) (a .d)) (w .0 .left)))
+          (c .if3 .came)
+          ∙ sym (alone-hit-area (a .row) (a .d) (a .radius) live (c .before .if2 .left) (a .area .now) (a .found)),
     )
 
 pub meet-spec : {M : Type 1} → statement M
 meet-spec =
     tie.close
     (tie.spec
-    (λ c. search needs)
-    (λ c κs. search needs)
+    add-count
+    mark-of-requires
     returns
-    (λ c. search needs)
-    (λ c κs. search needs)
-    (λ c. search needs)
-    (λ c. search needs)
-    (λ c. search needs)
-    slice-set-from-own
-    (λ c. search needs)
-    (λ c. simp length-set (search needs))
-    (λ c. search needs)
-    (λ c. search needs)
-    (λ c. simp length-set)
     returns-2
-    (λ c. simp length-set)
-    returns-3
-    returns-4)
+    tag-of-requires
+    mul-t14
+    slice-set-from-area
+    add-t10
+    same-length
+    returns-3)
