@@ -5,7 +5,7 @@ use mathlib.Core.Path.{_≡_, refl, sym, ap, ap₂, _∙_}
 use mathlib.Core.Bool.{Bool, true, false, _&&_, and-false}
 use mathlib.Core.List.{List, [], _∷_, _++_}
 use lib.ListN.{length, take, drop, getD, set, length-append, length-drop}
-use lib.Seq.{sets, sets-eq, length-sets, length-take-le, take-all, take-at}
+use lib.Seq.{sets, sets-eq, length-sets, length-take-le, take-all, take-at, take-suc, set-out}
 use lib.Dec.{leb}
 use borrow.Author.Tests.{eq-eqb, ne-eqb, le-leb, lt-leb}
 use native.Mathlib.Omega.{arith}
@@ -17,7 +17,7 @@ use Rattle.search.specs.Range.{Entry, entry, isLive, toQuery, entryOf, i
 use Rattle.search.specs.Collected.{foundAfter, collected, metAlone, ifEntered, metInHalves}
 use Rattle.search.proofs.RangeLaws.{rangeStep, range-none, range-step}
 
-found-eq : {a b c d : ℕ} → a ≡ b → c ≡ d → _≡_ {A = Found} (record { hits = a; count = c }) (record { hits = b; count = d })
+pub found-eq : {a b c d : ℕ} → a ≡ b → c ≡ d → _≡_ {A = Found} (record { hits = a; count = c }) (record { hits = b; count = d })
 found-eq p q = λ i. record { hits = p i; count = q i }
 
 -- stores one after the other
@@ -64,6 +64,10 @@ module _ (row : Row) (d radius : ℕ) where
   unfolding metAlone collected
   missed-area e area f = ap (λ (b : Bool). sets area (f .hits) (elim b [ true ↦ entry (tagOf row) d ∷ [] | false ↦ [] ])) e
 
+  pub missed-hits : isLive row && leb d radius ≡ false → metAlone row d radius .hits ≡ []
+  unfolding metAlone
+  missed-hits e = ap (λ (b : Bool). elim b as (λ _. List Entry) [ true ↦ entry (tagOf row) d ∷ [] | false ↦ [] ]) e
+
   pub dead-no-hit : (markOf row ≡ 0 → ⊥) → isLive row && leb d radius ≡ false
   unfolding isLive
   dead-no-hit ne = ap (λ (b : Bool). b && leb d radius) (ne-eqb (markOf row) 0 ne)
@@ -82,6 +86,26 @@ module _ (row : Row) (d radius : ℕ) where
   pub alone-hit-area : markOf row ≡ 0 → d ≤ radius → (area : List Entry) (f : Found) → collected area f (metAlone row d radius) ≡ set area (f .hits) (entry (tagOf row) d)
   unfolding metAlone collected
   alone-hit-area e h area f = ap (λ (b : Bool). sets area (f .hits) (elim b [ true ↦ entry (tagOf row) d ∷ [] | false ↦ [] ])) (hit e h)
+
+  pub alone-hits : markOf row ≡ 0 → d ≤ radius → metAlone row d radius .hits ≡ entry (tagOf row) d ∷ []
+  unfolding metAlone
+  alone-hits e h = ap (λ (b : Bool). elim b as (λ _. List Entry) [ true ↦ entry (tagOf row) d ∷ [] | false ↦ [] ]) (hit e h)
+
+-- one more of the entries that go into the area one after the other, where it has the place
+module _ (area entries : List Entry) (at i : ℕ) (h : i < length entries) where
+  next-set : set (sets area at (take i entries)) (at + i) (getD entries i []) ≡ sets area at (take (i + 1) entries)
+  next-set =
+      let next : i + 1 ≡ suc i = omega arith in
+      let place : at + i ≡ at + length (take i entries) = omega (arith, length-take-le i entries (omega arith)) in
+      sets-append area at (at + i) (take i entries) (getD entries i [] ∷ []) place
+      ∙ ap (sets area at) (sym (take-suc entries i [] h))
+      ∙ ap (λ (n : ℕ). sets area at (take n entries)) (sym next)
+
+  pub one-put : (now next : List Entry) → now ≡ sets area at (take i entries) → next ≡ set now (at + i) (getD entries i []) → next ≡ sets area at (take (i + 1) entries)
+  one-put now next e p = p ∙ ap (λ (xs : List Entry). set xs (at + i) (getD entries i [])) e ∙ next-set
+
+  pub none-put : (now : List Entry) → now ≡ sets area at (take i entries) → length now ≤ at + i → now ≡ sets area at (take (i + 1) entries)
+  none-put now e full = one-put now now e (sym (set-out now (at + i) (getD entries i []) full))
 
 module _ (dist : Profile → Profile → ℕ) (query : Profile) (radius : ℕ) where
   pub tree-empty : (slots : List Row) → length slots ≡ 0 → rangeTree dist query radius slots ≡ nothing

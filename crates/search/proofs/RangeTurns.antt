@@ -5,7 +5,7 @@ use mathlib.Core.Path.{_≡_, refl, sym, ap, ap₂, _∙_, subst}
 use mathlib.Core.Bool.{Bool, true, false}
 use mathlib.Core.List.{List, [], _∷_, _++_, append-nil, append-assoc}
 use lib.ListN.{length, take, drop, getD, length-take, length-drop, length-append}
-use lib.Seq.{length-take-le, take-length, take-take, drop-drop}
+use lib.Seq.{sets, length-take-le, take-length, take-take, drop-drop}
 use lib.Dec.{leb, eqb}
 use borrow.Author.Tests.{eqb-true}
 use native.Mathlib.Omega.{arith}
@@ -18,7 +18,7 @@ use Rattle.search.specs.Range.{Entry, Met, nothing, both, toQuery, enter
 use Rattle.search.specs.Collected.{foundAfter, collected, metAlone, ifEntered, metInHalves}
 use Rattle.search.specs.Waiting.{Part, waits, leftPart, rightPart, entered, inHand, upcoming, ToCome, Slotted}
 use Rattle.search.proofs.RangeLaws.{range-count-le, range-hits-le}
-use Rattle.search.proofs.Collecting.{two-turns, found-nothing, collected-nothing, tree-empty, tree-first}
+use Rattle.search.proofs.Collecting.{found-eq, found-both, found-nothing, tree-empty, tree-first}
 use Rattle.search.proofs.Pending.{startOf, sizeOf, Fits, Stacked, stacked-append, stacked-front, stacked-last, stacked-few, slotsOf, slots-one-more, drop-front, first-of-part, behind-first}
 use Rattle.search.proofs.Sending.{waits-none, hand-last, stacked-slotted, stacked-one, stacked-entered, slots-append, slots-entered}
 
@@ -37,14 +37,13 @@ nothing-both : (a : Met) → both nothing a ≡ a
 unfolding both nothing
 nothing-both a = met-eq refl (omega arith)
 
--- a search of one tree: what is asked, the slots, and the numbers and the area that it starts from
+-- a search of one tree: what is asked, the slots, and how many were visited before
 pub record Search : Type 0 where
   pub dist : Profile → Profile → ℕ
   pub query : Profile
   pub radius : ℕ
   pub slots : List Row
-  pub found : Found
-  pub area : List Entry
+  pub count : ℕ
 
 module _ (s : Search) where
   abbrev pub treeMet : List Row → Met
@@ -59,16 +58,20 @@ module _ (s : Search) where
   waitingMet [] = nothing
   waitingMet (p ∷ ps) = both (waitingMet ps) (partMet p)
 
-  -- what was met, and what is ahead, give what the whole tree does
+  abbrev start : Found
+  start = record { hits = 0; count = s .count }
+
+  -- what was met and noted, and what is ahead, give what the whole tree does
   abbrev pub Adds : List Entry → Found → Met → Type 0
-  Adds area met ahead = (foundAfter met ahead ≡ foundAfter (s .found) (treeMet (s .slots))) × (collected area met ahead ≡ collected (s .area) (s .found) (treeMet (s .slots)))
+  Adds noted met ahead = (foundAfter met ahead ≡ foundAfter start (treeMet (s .slots))) × (take (met .hits) noted ++ ahead .hits ≡ treeMet (s .slots) .hits)
 
   -- where a turn begins or ends: what was met and the parts to come add up
-  pub record Stands (pending : List Part) (t : Turn) (area : List Entry) (met : Found) : Type 0 where
-    pub adds : Adds area met (waitingMet (upcoming pending t))
-    pub fit : Stacked (length (s .slots)) 4 (upcoming pending t)
-    pub size : length pending ≡ 4
+  pub record Stands (pending : List Part) (t : Turn) (noted : List Entry) (met : Found) : Type 0 where
+    pub adds : Adds noted met (waitingMet (upcoming pending t))
+    pub fit : Stacked (length (s .slots)) 5 (upcoming pending t)
+    pub size : length pending ≡ 5
     pub places : t .depth ≤ length pending
+    pub room : length noted ≡ 32
 
   both-wait : (ps qs : List Part) → waitingMet (ps ++ qs) ≡ both (waitingMet qs) (waitingMet ps)
   unfolding waitingMet
@@ -134,52 +137,66 @@ module _ (s : Search) where
       both-wait _ _ ∙ ap₂ both (entered-met (leb d (m + s .radius)) (leftPart p 0)) (entered-met (leb m (d + s .radius)) (rightPart p 0))
 
   -- the whole tree is the first part
-  pub stands-start : (pending : List Part) (t : Turn) → length pending ≡ 4 → length (s .slots) < 16 → t ≡ record { depth = 0; start = 0; size = length (s .slots); gap = 0 }
-      → Stands pending t (s .area) (s .found)
+  pub stands-start : (pending : List Part) (t : Turn) (noted : List Entry) → length pending ≡ 5 → length noted ≡ 32 → length (s .slots) < 32
+      → t ≡ record { depth = 0; start = 0; size = length (s .slots); gap = 0 } → Stands pending t noted start
   unfolding upcoming
-  stands-start pending t size few e =
+  stands-start pending t noted size room few e =
       let all : Part = 0 ∷ length (s .slots) ∷ 0 ∷ [] in
       let whole : waitingMet (waits all) ≡ treeMet (s .slots) = waits-met all ∙ ap treeMet (take-length (s .slots)) in
-      subst (λ (u : Turn). Stands pending u (s .area) (s .found)) (sym e)
+      subst (λ (u : Turn). Stands pending u noted start) (sym e)
       (record {
-        adds = (ap (foundAfter (s .found)) whole, ap (collected (s .area) (s .found)) whole);
-        fit = stacked-one (length (s .slots)) 4 all (λ h. record { some = h; few = few; inside = omega arith });
+        adds = (ap (foundAfter start) whole, ap (λ (met : Met). met .hits) whole);
+        fit = stacked-one (length (s .slots)) 5 all (λ h. record { some = h; few = few; inside = omega arith });
         size = size;
         places = omega arith;
+        room = room;
       })
 
-module _ {s : Search} {pending : List Part} {t : Turn} {area : List Entry} {met : Found} (w : Stands s pending t area met) where
+module _ {s : Search} {pending : List Part} {t : Turn} {noted : List Entry} {met : Found} (w : Stands s pending t noted met) where
   -- nothing is to come any more
-  pub all-met : t .size ≡ 0 → t .depth ≡ 0 → (met ≡ foundAfter (s .found) (treeMet s (s .slots))) × (area ≡ collected (s .area) (s .found) (treeMet s (s .slots)))
-  unfolding waitingMet upcoming
+  all-met : t .size ≡ 0 → t .depth ≡ 0 → (met ≡ foundAfter (start s) (treeMet s (s .slots))) × (take (met .hits) noted ≡ treeMet s (s .slots) .hits)
+  unfolding waitingMet upcoming nothing
   all-met e f =
       let none : waitingMet s (upcoming pending t) ≡ nothing =
       ap₂ (λ (n : ℕ) (l : List Part). waitingMet s (take n pending ++ l)) f (waits-none (inHand t) e)
       in (
         sym (found-nothing met) ∙ ap (foundAfter met) (sym none) ∙ w .adds .0,
-        sym (collected-nothing area met) ∙ ap (collected area met) (sym none) ∙ w .adds .1,
+        sym (append-nil (take (met .hits) noted)) ∙ ap (λ (x : Met). take (met .hits) noted ++ x .hits) (sym none) ∙ w .adds .1,
       )
 
-  -- the numbers so far are not above those of the whole tree
-  pub numbers-fit : s .found .hits + length (s .slots) < 2 ^ 32 → s .found .count + length (s .slots) < 2 ^ 32 → (met .hits < 2 ^ 32) × (met .count < 2 ^ 32)
+  -- then the numbers are those of the tree's visit, and so is the area into which what was noted is put
+  pub few-visit : t .size ≡ 0 → t .depth ≡ 0 → (f : Found) → f .count ≡ s .count → (area last : List Entry) → last ≡ sets area (f .hits) (take (met .hits) noted)
+      → (record { hits = f .hits + met .hits; count = met .count } ≡ foundAfter f (treeMet s (s .slots))) × (last ≡ collected area f (treeMet s (s .slots)))
+  unfolding foundAfter collected
+  few-visit e h f same area last put =
+      let all = all-met e h in (
+        found-eq (omega (arith, ap (λ (g : Found). g .hits) (all .0))) (omega (arith, ap (λ (g : Found). g .count) (all .0))),
+        put ∙ ap (sets area (f .hits)) (all .1),
+      )
+
+  -- the hits so far are not more than the slots, and the visits fit
+  pub hits-few : met .hits ≤ length (s .slots)
   unfolding foundAfter
-  numbers-fit p q = (
-    omega (arith, ap (λ (f : Found). f .hits) (w .adds .0), range-hits-le (s .dist) (s .query) (s .radius) (s .slots), range-count-le (s .dist) (s .query) (s .radius) (s .slots)),
-    omega (arith, ap (λ (f : Found). f .count) (w .adds .0), range-count-le (s .dist) (s .query) (s .radius) (s .slots)),
-  )
+  hits-few =
+      omega (arith, ap (λ (f : Found). f .hits) (w .adds .0), range-hits-le (s .dist) (s .query) (s .radius) (s .slots), range-count-le (s .dist) (s .query) (s .radius) (s .slots))
+
+  pub count-fits : s .count + length (s .slots) < 2 ^ 32 → met .count < 2 ^ 32
+  unfolding foundAfter
+  count-fits q = omega (arith, ap (λ (f : Found). f .count) (w .adds .0), range-count-le (s .dist) (s .query) (s .radius) (s .slots))
 
   pub slotted : Slotted (take (t .depth) pending)
   unfolding upcoming
-  slotted = stacked-slotted (length (s .slots)) 4 (take (t .depth) pending) (waits (inHand t)) (w .fit)
+  slotted = stacked-slotted (length (s .slots)) 5 (take (t .depth) pending) (waits (inHand t)) (w .fit)
 
   -- the next part is in hand
-  pub stands-next : {r : Turn} → ToCome (upcoming pending t) pending r → Stands s pending r area met
+  pub stands-next : {r : Turn} → ToCome (upcoming pending t) pending r → Stands s pending r noted met
   stands-next q =
       record {
-        adds = subst (λ (ps : List Part). Adds s area met (waitingMet s ps)) (sym (q .parts-are)) (w .adds);
-        fit = subst (Stacked (length (s .slots)) 4) (sym (q .parts-are)) (w .fit);
+        adds = subst (λ (ps : List Part). Adds s noted met (waitingMet s ps)) (sym (q .parts-are)) (w .adds);
+        fit = subst (Stacked (length (s .slots)) 5) (sym (q .parts-are)) (w .fit);
         size = w .size;
         places = q .places;
+        room = w .room;
       }
 
   -- the turn of a part with slots
@@ -191,24 +208,24 @@ module _ {s : Search} {pending : List Part} {t : Turn} {area : List Entry} {met 
     unfolding waiting
     hand = hand-last pending t some
 
-    stacked : Stacked (length (s .slots)) 4 (waiting ++ (inHand t ∷ []))
-    stacked = subst (Stacked (length (s .slots)) 4) hand (w .fit)
+    stacked : Stacked (length (s .slots)) 5 (waiting ++ (inHand t ∷ []))
+    stacked = subst (Stacked (length (s .slots)) 5) hand (w .fit)
 
-    fits : Fits (length (s .slots)) (4 - length waiting) (inHand t)
-    fits = stacked-last (length (s .slots)) 4 waiting (inHand t) stacked
+    fits : Fits (length (s .slots)) (5 - length waiting) (inHand t)
+    fits = stacked-last (length (s .slots)) 5 waiting (inHand t) stacked
 
     pub turn-inside : t .start + t .size ≤ length (s .slots)
     turn-inside = fits .inside
 
-    next-fit : (d m : ℕ) → Stacked (length (s .slots)) 4 (waiting ++ entered (inHand t) d m (s .radius))
+    next-fit : (d m : ℕ) → Stacked (length (s .slots)) 5 (waiting ++ entered (inHand t) d m (s .radius))
     next-fit d m =
-        stacked-append (length (s .slots)) 4 waiting (entered (inHand t) d m (s .radius)) (stacked-front (length (s .slots)) 4 waiting (inHand t) stacked)
-        (stacked-entered (length (s .slots)) (4 - length waiting) (inHand t) d m (s .radius) fits)
+        stacked-append (length (s .slots)) 5 waiting (entered (inHand t) d m (s .radius)) (stacked-front (length (s .slots)) 5 waiting (inHand t) stacked)
+        (stacked-entered (length (s .slots)) (5 - length waiting) (inHand t) d m (s .radius) fits)
 
     pub turn-room : (d m : ℕ) → t .depth + length (entered (inHand t) d m (s .radius)) ≤ length pending
     unfolding waiting
     turn-room d m =
-        let few : length (waiting ++ entered (inHand t) d m (s .radius)) ≤ 4 = stacked-few (length (s .slots)) 4 (waiting ++ entered (inHand t) d m (s .radius)) (next-fit d m) in
+        let few : length (waiting ++ entered (inHand t) d m (s .radius)) ≤ 5 = stacked-few (length (s .slots)) 5 (waiting ++ entered (inHand t) d m (s .radius)) (next-fit d m) in
         omega (arith, few, length-append waiting (entered (inHand t) d m (s .radius)), length-take-le (t .depth) pending (w .places), w .size)
 
     -- its first slot is met, and the halves that are entered are to come in its place
@@ -226,17 +243,26 @@ module _ {s : Search} {pending : List Part} {t : Turn} {area : List Entry} {met 
           ∙ ap (both slot)
           (ap (λ (x : Met). both x rest) (sym (halves-wait s (inHand t) d m)) ∙ sym (both-wait s waiting (entered (inHand t) d m (s .radius))) ∙ ap (waitingMet s) (sym (c .parts-are)))
 
-      pub stands-after : (next : Found) (stored : List Entry) → next ≡ foundAfter met (metAlone (getD (s .slots) (t .start) []) d (s .radius))
-          → stored ≡ collected area met (metAlone (getD (s .slots) (t .start) []) d (s .radius))
+      pub stands-after : (next : Found) (stored : List Entry) → length stored ≡ length noted
+          → next ≡ foundAfter met (metAlone (getD (s .slots) (t .start) []) d (s .radius))
+          → take (next .hits) stored ≡ take (met .hits) noted ++ metAlone (getD (s .slots) (t .start) []) d (s .radius) .hits
           → length after ≡ length pending → Stands s after then stored next
-      unfolding waiting
-      stands-after next stored en es size =
-          let turns = two-turns met area _ (waitingMet s (upcoming after then)) next stored en es _ _ refl refl in
+      unfolding waiting both
+      stands-after next stored long en es size =
+          let slot = metAlone (getD (s .slots) (t .start) []) d (s .radius) in
+          let rest = waitingMet s (upcoming after then) in
           record {
-            adds = (turns .0 ∙ ap (foundAfter met) (sym split) ∙ w .adds .0, turns .1 ∙ ap (collected area met) (sym split) ∙ w .adds .1);
-            fit = subst (Stacked (length (s .slots)) 4) (sym (c .parts-are)) (next-fit d m);
+            adds = (
+              ap (λ (f : Found). foundAfter f rest) en ∙ found-both met slot rest ∙ ap (foundAfter met) (sym split) ∙ w .adds .0,
+              ap (λ (l : List Entry). l ++ rest .hits) es
+                  ∙ append-assoc (take (met .hits) noted) (slot .hits) (rest .hits)
+                  ∙ ap (λ (x : Met). take (met .hits) noted ++ x .hits) (sym split)
+                  ∙ w .adds .1,
+            );
+            fit = subst (Stacked (length (s .slots)) 5) (sym (c .parts-are)) (next-fit d m);
             size = size ∙ w .size;
             places = c .places;
+            room = long ∙ w .room;
           }
 
       pub fewer : slotsOf (upcoming after then) < slotsOf (upcoming pending t)

@@ -1,7 +1,9 @@
 // Range over one tree: the slots are visited, hits are collected in the area as far as it goes, and both are counted.
 ghost use mathlib.Core.Path.{_≡_};
 ghost use Prim.Native.Nat.{_+_, _<_, _^_};
-ghost use lib.ListN.{length};
+ghost use mathlib.Core.List.{_++_};
+ghost use lib.ListN.{length, take};
+ghost use lib.Seq.{sets};
 ghost use Rattle.metric.specs.Row.{profileOf};
 ghost use Rattle.metric.specs.Distance.{distance};
 ghost use Rattle.search.specs.Range.{rangeTree};
@@ -44,8 +46,53 @@ fn meet(row: Row, d: u32, radius: u32, area: &mut [Entry], found: Found) -> Foun
     }
 }
 
-// A tree of few slots in one loop, which is faster than a call for each slot: a part is in hand while right halves wait. Sizes halve, so four places
-// are enough.
+// A slot of few, at distance d from the query: a live head is noted behind the hits in any case, and is one of them if it is near enough. What lies
+// behind the hits is free here: with many hits, a test before the store could not be guessed.
+fn note(row: Row, d: u32, radius: u32, noted: &mut [Entry], found: Found) -> Found
+    requires { ⌜ (found .hits < length (now noted)) × (found .hits < 2 ^ 32) × (found .count < 2 ^ 32) ⌝ }
+    ensures reply { λ r. ⌜ r ≡ foundAfter found (metAlone row d radius) ⌝ }
+    ensures noted { λ r. ⌜ take (r .hits) (now (noted .exit)) ≡ take (found .hits) (now (noted .entry)) ++ metAlone row d radius .hits ⌝ }
+{
+    let n = found.hits;
+    let seen = found.count + 1;
+    let mark = metric::mark_of(row);
+    if mark != 0 {
+        return Found {
+            hits: n,
+            count: seen,
+        };
+    }
+    noted[n] = [metric::tag_of(row), d as u64];
+    if d <= radius {
+        Found {
+            hits: n + 1,
+            count: seen,
+        }
+    } else {
+        Found {
+            hits: n,
+            count: seen,
+        }
+    }
+}
+
+// The entries go into the area one after the other, from place `at` on, as far as it goes.
+fn put_all(area: &mut [Entry], at: usize, entries: &[Entry])
+    requires { ⌜ at + length (now entries) < 2 ^ 33 ⌝ }
+    ensures { λ _. ⌜ now (area .exit) ≡ sets (now (area .entry)) at (now (entries .entry)) ⌝ }
+{
+    let mut i = 0;
+    while i < entries.len() {
+        let to = at + i;
+        if to < area.len() {
+            area[to] = entries[i];
+        }
+        i += 1;
+    }
+}
+
+// A tree of few slots in one loop, which is faster than a call for each slot: a part is in hand while right halves wait. Sizes halve, so five places
+// are enough. Hits are noted here first, where there is room for all.
 fn range_few(
     found: Found,
     slots: &[Row],
@@ -54,22 +101,31 @@ fn range_few(
     radius: u32,
     area: &mut [Entry],
 ) -> Found
-    requires { ⌜ (length (now slots) < 16) × (found .hits + length (now slots) < 2 ^ 32) × (found .count + length (now slots) < 2 ^ 32) ⌝ }
+    requires { ⌜ (length (now slots) < 32) × (found .hits + length (now slots) < 2 ^ 32) × (found .count + length (now slots) < 2 ^ 32) ⌝ }
     ensures reply { λ r. ⌜ r ≡ foundAfter found (rangeTree (distance metric) (profileOf (now (query .entry))) radius (now (slots .entry))) ⌝ }
     ensures area { λ _. ⌜ now (area .exit) ≡ collected (now (area .entry)) found (rangeTree (distance metric) (profileOf (now (query .entry))) radius (now (slots .entry))) ⌝ }
 {
-    let mut pending = [[0; 3]; 4];
+    let mut pending = [[0; 3]; 5];
+    let mut noted = [[0; 2]; 32];
     let mut next = turn_of(0, 0, slots.len(), 0);
-    let mut met = found;
+    let mut met = Found {
+        hits: 0,
+        count: found.count,
+    };
     while 0 < next.size {
         let at = next.start;
         let row = slots[at];
         let d = metric::distance_between(metric, row, *query);
-        met = meet(row, d, radius, area, met);
+        met = note(row, d, radius, &mut noted, met);
         let then = enter(&mut pending, next, d, metric::threshold_of(row), radius);
         next = up_next(&pending, then);
     }
-    met
+    let hits = met.hits;
+    put_all(area, found.hits, &noted[..hits]);
+    Found {
+        hits: found.hits + hits,
+        count: met.count,
+    }
 }
 
 // The slots of one tree: few in one loop, more by the first slot and then its halves. The tally goes first, so that it is passed in registers.
@@ -85,7 +141,7 @@ pub fn range_tree(
     ensures reply { λ r. ⌜ r ≡ foundAfter found (rangeTree (distance metric) (profileOf (now (query .entry))) radius (now (slots .entry))) ⌝ }
     ensures area { λ _. ⌜ now (area .exit) ≡ collected (now (area .entry)) found (rangeTree (distance metric) (profileOf (now (query .entry))) radius (now (slots .entry))) ⌝ }
 {
-    if slots.len() < 16 {
+    if slots.len() < 32 {
         return range_few(found, slots, metric, query, radius, area);
     }
     let row = slots[0];
