@@ -4,7 +4,7 @@ use Prim.Native.Nat.{ℕ, _+_, _-_, _/_, _≤_, _<_, _^_}
 use mathlib.Core.Path.{_≡_, refl, sym, ap, ap₂, subst, _∙_}
 use mathlib.Core.Bool.{Bool, true, false, _||_, or-true}
 use mathlib.Core.List.{List, [], _∷_, _++_, append-nil}
-use lib.ListN.{length, take, drop, getD, length-take, length-drop, length-append}
+use lib.ListN.{length, take, drop, getD, length-take, length-drop}
 use lib.Seq.{length-take-le, take-all, take-take, drop-drop}
 use lib.Dec.{leb, ltb, eqb}
 use borrow.Author.Tests.{eqb-true, leb-true, leb-false, le-leb}
@@ -17,7 +17,7 @@ use Rattle.search.specs.Range.{Entry, ordered, toQuery, entersLeft}
 use Rattle.search.specs.Nearest.{Tally, worst, opens, turn, nearestTree}
 use Rattle.search.specs.Nearby.{reach, tallyOf, Ready, Leaves, takenAt, nearInHalves}
 use Rattle.search.specs.Waiting.{Part, waits, leftPart, rightPart, sent, inHand, upcoming, ToCome, Slotted}
-use Rattle.search.proofs.Pending.{startOf, sizeOf, Fits, Stacked, stacked-append, stacked-front, stacked-last, stacked-few, slotsOf, slots-one-more, drop-front, first-of-part, behind-first}
+use Rattle.search.proofs.Pending.{startOf, sizeOf, Fits, Stacked, stacked-front, stacked-last, stacked-instead, room-instead, slotsOf, slots-one-more, drop-front, first-of-part, behind-first}
 use Rattle.search.proofs.Sending.{waits-none, hand-last, sent-near, sent-far, stacked-slotted, stacked-one, stacked-sent, slots-append, slots-waits, slots-sent}
 use Rattle.search.proofs.Nearing.{leaves-as, leaves-beyond, opens-gap, opens-within, shut-beyond}
 use Rattle.search.proofs.NearSteps.{
@@ -256,10 +256,10 @@ module _ {dist : Profile → Profile → ℕ} {query : Profile} {k : ℕ} {slots
     head-ready = ready-less (omega (arith, sum, fits .some)) (g .ready)
 
     next-fit : (d m : ℕ) → Stacked (length slots) 8 (parts ++ sent p d m)
-    next-fit d m = stacked-append (length slots) 8 parts (sent p d m) (stacked-front (length slots) 8 parts p (g .fit)) (stacked-sent (length slots) (8 - length parts) p d m fits)
+    next-fit d m = stacked-instead (length slots) 8 parts p (sent p d m) (g .fit) (stacked-sent (length slots) (8 - length parts) p d m fits)
 
     room : (d m : ℕ) → length parts + length (sent p d m) ≤ 8
-    room d m = omega (arith, length-append parts (sent p d m), stacked-few (length slots) 8 (parts ++ sent p d m) (next-fit d m))
+    room d m = room-instead (length slots) 8 parts (sent p d m) (next-fit d m)
 
     fewer-sent : (d m : ℕ) → slotsOf (parts ++ sent p d m) + 1 ≡ slotsOf (parts ++ (p ∷ []))
     fewer-sent d m = omega (arith, sum, slots-append parts (sent p d m), slots-sent p d m (fits .some))

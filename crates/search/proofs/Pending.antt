@@ -3,7 +3,7 @@
 use Prim.Native.Nat.{ℕ, zero, suc, _+_, _-_, _/_, _^_, _<_, _≤_}
 use mathlib.Core.Path.{_≡_, sym, ap, _∙_, subst}
 use mathlib.Core.List.{List, [], _∷_, _++_}
-use lib.ListN.{length, take, drop, getD, set}
+use lib.ListN.{length, take, drop, getD, set, length-append}
 use lib.Seq.{take-suc, take-suc-set, take-nil, drop-drop, getD-take, getD-drop}
 use native.Mathlib.Omega.{arith}
 
@@ -86,9 +86,16 @@ module _ (all : ℕ) where
   stacked-last bits (q ∷ ps) p h = subst (λ (b : ℕ). Fits all b p) (sym (less-bits bits (length ps))) (stacked-last (bits - 1) ps p (h .1))
 
   -- they have as many places as there are bits
-  pub stacked-few : (bits : ℕ) (ps : List (List ℕ)) → Stacked all bits ps → length ps ≤ bits
+  stacked-few : (bits : ℕ) (ps : List (List ℕ)) → Stacked all bits ps → length ps ≤ bits
   stacked-few bits [] h = omega arith
   stacked-few bits (p ∷ ps) h = omega (arith, stacked-few (bits - 1) ps (h .1), bits-needed bits (h .0 .some) (h .0 .few))
+
+  -- other parts come in the last one's place, and there is room for them
+  pub stacked-instead : (bits : ℕ) (ps : List (List ℕ)) (p : List ℕ) (qs : List (List ℕ)) → Stacked all bits (ps ++ (p ∷ [])) → Stacked all (bits - length ps) qs → Stacked all bits (ps ++ qs)
+  stacked-instead bits ps p qs h g = stacked-append bits ps qs (stacked-front bits ps p h) g
+
+  pub room-instead : (bits : ℕ) (ps qs : List (List ℕ)) → Stacked all bits (ps ++ qs) → length ps + length qs ≤ bits
+  room-instead bits ps qs h = omega (arith, length-append ps qs, stacked-few bits (ps ++ qs) h)
 
 -- the slots of the parts that wait
 unfoldable pub slotsOf : List (List ℕ) → ℕ

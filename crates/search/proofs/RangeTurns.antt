@@ -4,7 +4,7 @@ use Prim.Native.Nat.{ℕ, suc, _+_, _-_, _/_, _^_, _<_, _≤_}
 use mathlib.Core.Path.{_≡_, refl, sym, ap, ap₂, _∙_, subst}
 use mathlib.Core.Bool.{Bool, true, false}
 use mathlib.Core.List.{List, [], _∷_, _++_, append-nil, append-assoc}
-use lib.ListN.{length, take, drop, getD, length-take, length-drop, length-append}
+use lib.ListN.{length, take, drop, getD, length-take, length-drop}
 use lib.Seq.{sets, length-take-le, take-length, take-take, drop-drop}
 use lib.Dec.{leb, eqb}
 use borrow.Author.Tests.{eqb-true}
@@ -19,7 +19,7 @@ use Rattle.search.specs.Collected.{foundAfter, collected, metAlone, ifEn
 use Rattle.search.specs.Waiting.{Part, waits, leftPart, rightPart, entered, inHand, upcoming, ToCome, Slotted}
 use Rattle.search.proofs.RangeLaws.{range-count-le, range-hits-le}
 use Rattle.search.proofs.Collecting.{found-eq, found-both, found-nothing, tree-empty, tree-first}
-use Rattle.search.proofs.Pending.{startOf, sizeOf, Fits, Stacked, stacked-append, stacked-front, stacked-last, stacked-few, slotsOf, slots-one-more, drop-front, first-of-part, behind-first}
+use Rattle.search.proofs.Pending.{startOf, sizeOf, Fits, Stacked, stacked-last, stacked-instead, room-instead, slotsOf, slots-one-more, drop-front, first-of-part, behind-first}
 use Rattle.search.proofs.Sending.{waits-none, hand-last, stacked-slotted, stacked-one, stacked-entered, slots-append, slots-entered}
 
 met-eq : {a b : List Entry} {c d : ℕ} → a ≡ b → c ≡ d → _≡_ {A = Met} (record { hits = a; count = c }) (record { hits = b; count = d })
@@ -219,14 +219,12 @@ module _ {s : Search} {pending : List Part} {t : Turn} {noted : List Entry} {met
 
     next-fit : (d m : ℕ) → Stacked (length (s .slots)) 5 (waiting ++ entered (inHand t) d m (s .radius))
     next-fit d m =
-        stacked-append (length (s .slots)) 5 waiting (entered (inHand t) d m (s .radius)) (stacked-front (length (s .slots)) 5 waiting (inHand t) stacked)
+        stacked-instead (length (s .slots)) 5 waiting (inHand t) (entered (inHand t) d m (s .radius)) stacked
         (stacked-entered (length (s .slots)) (5 - length waiting) (inHand t) d m (s .radius) fits)
 
     pub turn-room : (d m : ℕ) → t .depth + length (entered (inHand t) d m (s .radius)) ≤ length pending
     unfolding waiting
-    turn-room d m =
-        let few : length (waiting ++ entered (inHand t) d m (s .radius)) ≤ 5 = stacked-few (length (s .slots)) 5 (waiting ++ entered (inHand t) d m (s .radius)) (next-fit d m) in
-        omega (arith, few, length-append waiting (entered (inHand t) d m (s .radius)), length-take-le (t .depth) pending (w .places), w .size)
+    turn-room d m = omega (arith, room-instead (length (s .slots)) 5 waiting (entered (inHand t) d m (s .radius)) (next-fit d m), length-take-le (t .depth) pending (w .places), w .size)
 
     -- its first slot is met, and the halves that are entered are to come in its place
     module _ {d m : ℕ} (dq : d ≡ toQuery (s .dist) (s .query) (getD (s .slots) (t .start) [])) (mt : m ≡ thresholdOf (getD (s .slots) (t .start) []))

@@ -145,12 +145,12 @@ module _ (t : Turn) (parts before : List Part) (room : t .depth + length parts �
         places = omega (arith, sum, p .number);
       }
 
--- a part is its three numbers
 -- a part in hand that has slots is the last of those to come
 pub hand-last : (pending : List Part) (t : Turn) → 0 < t .size → upcoming pending t ≡ take (t .depth) pending ++ (inHand t ∷ [])
 unfolding upcoming
 hand-last pending t some = ap (λ (l : List Part). take (t .depth) pending ++ l) (waits-some (inHand t) (λ e. omega arith))
 
+-- a part is its three numbers
 pub three : (p : Part) → length p ≡ 3 → getD p 0 0 ∷ getD p 1 0 ∷ getD p 2 0 ∷ [] ≡ p
 three (a ∷ b ∷ c ∷ []) e = refl
 three [] e = absurd (omega arith)
