@@ -56,17 +56,17 @@ unfolding collected nothing
 collected-nothing area f = refl
 
 module _ (row : Row) (d radius : ℕ) where
-  pub missed : isLive row && leb d radius ≡ false → (f : Found) → foundAfter f (metAlone row d radius) ≡ record { hits = f .hits; count = f .count + 1 }
-  unfolding metAlone foundAfter
-  missed e f = ap (λ (b : Bool). foundAfter f (record { hits = elim b [ true ↦ entry (tagOf row) d ∷ [] | false ↦ [] ]; count = 1 })) e ∙ found-eq (omega arith) refl
-
-  pub missed-area : isLive row && leb d radius ≡ false → (area : List Entry) (f : Found) → collected area f (metAlone row d radius) ≡ area
-  unfolding metAlone collected
-  missed-area e area f = ap (λ (b : Bool). sets area (f .hits) (elim b [ true ↦ entry (tagOf row) d ∷ [] | false ↦ [] ])) e
-
   pub missed-hits : isLive row && leb d radius ≡ false → metAlone row d radius .hits ≡ []
   unfolding metAlone
   missed-hits e = ap (λ (b : Bool). elim b as (λ _. List Entry) [ true ↦ entry (tagOf row) d ∷ [] | false ↦ [] ]) e
+
+  pub missed : isLive row && leb d radius ≡ false → (f : Found) → foundAfter f (metAlone row d radius) ≡ record { hits = f .hits; count = f .count + 1 }
+  unfolding metAlone foundAfter
+  missed e f = found-eq (omega (arith, ap length (missed-hits e))) refl
+
+  pub missed-area : isLive row && leb d radius ≡ false → (area : List Entry) (f : Found) → collected area f (metAlone row d radius) ≡ area
+  unfolding collected
+  missed-area e area f = ap (sets area (f .hits)) (missed-hits e)
 
   pub dead-no-hit : (markOf row ≡ 0 → ⊥) → isLive row && leb d radius ≡ false
   unfolding isLive
@@ -79,17 +79,17 @@ module _ (row : Row) (d radius : ℕ) where
   unfolding isLive
   hit e h = ap₂ _&&_ (eq-eqb (markOf row) 0 e) (le-leb d radius h)
 
-  pub alone-hit : markOf row ≡ 0 → d ≤ radius → (f : Found) → foundAfter f (metAlone row d radius) ≡ record { hits = f .hits + 1; count = f .count + 1 }
-  unfolding metAlone foundAfter
-  alone-hit e h f = ap (λ (b : Bool). foundAfter f (record { hits = elim b [ true ↦ entry (tagOf row) d ∷ [] | false ↦ [] ]; count = 1 })) (hit e h)
-
-  pub alone-hit-area : markOf row ≡ 0 → d ≤ radius → (area : List Entry) (f : Found) → collected area f (metAlone row d radius) ≡ set area (f .hits) (entry (tagOf row) d)
-  unfolding metAlone collected
-  alone-hit-area e h area f = ap (λ (b : Bool). sets area (f .hits) (elim b [ true ↦ entry (tagOf row) d ∷ [] | false ↦ [] ])) (hit e h)
-
   pub alone-hits : markOf row ≡ 0 → d ≤ radius → metAlone row d radius .hits ≡ entry (tagOf row) d ∷ []
   unfolding metAlone
   alone-hits e h = ap (λ (b : Bool). elim b as (λ _. List Entry) [ true ↦ entry (tagOf row) d ∷ [] | false ↦ [] ]) (hit e h)
+
+  pub alone-hit : markOf row ≡ 0 → d ≤ radius → (f : Found) → foundAfter f (metAlone row d radius) ≡ record { hits = f .hits + 1; count = f .count + 1 }
+  unfolding metAlone foundAfter
+  alone-hit e h f = found-eq (omega (arith, ap length (alone-hits e h))) refl
+
+  pub alone-hit-area : markOf row ≡ 0 → d ≤ radius → (area : List Entry) (f : Found) → collected area f (metAlone row d radius) ≡ set area (f .hits) (entry (tagOf row) d)
+  unfolding collected
+  alone-hit-area e h area f = ap (sets area (f .hits)) (alone-hits e h)
 
 -- one more of the entries that go into the area one after the other, where it has the place
 module _ (area entries : List Entry) (at i : ℕ) (h : i < length entries) where
