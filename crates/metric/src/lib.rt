@@ -1,26 +1,131 @@
-// Profiles and rows: the row codec, valid tags and measures, and the two distances.
-mod distances;
-mod rows;
-mod validity;
+// The distance between two rows, and between a row and a query, by a table's metric; and which tags and measures are valid.
+ghost use mathlib.Core.Path.{_≡_};
+ghost use lib.IntN.{_-ℤ_, natAbs};
+ghost use mir.Syntax.{w32};
+ghost use mir.Val.{toZ};
+ghost use Prim.Native.Nat.{_+_};
+ghost use Rattle.metric_rules.specs.Row.{profileOf};
+ghost use Rattle.metric_rules.specs.Distance.{saturated, differing, measureDistance, codeDistance, distance, spaceOf};
+ghost use Rattle.metric_rules.specs.Validity.{validTag, validMeasure, validMeasures};
+use metric_rules::CODE_0_HIGH;
+use metric_rules::CODE_0_LOW;
+use metric_rules::CODE_1_HIGH;
+use metric_rules::CODE_1_LOW;
+use metric_rules::MEASURE_0;
+use metric_rules::MEASURE_1;
+use metric_rules::MEASURE_2;
+use metric_rules::MEASURE_3;
+use metric_rules::METRIC_AT;
+use metric_rules::Profile;
+use metric_rules::Row;
+use rows::joined;
+use rows::row_of;
 
-pub use distances::distance_between;
-pub use distances::distance_to;
-pub use rows::mark_of;
-pub use rows::profile_of;
-pub use rows::row_fits;
-pub use rows::row_of;
-pub use rows::rows_fit;
-pub use rows::tag_of;
-pub use rows::threshold_of;
-pub use validity::valid_measures;
-pub use validity::valid_tag;
+// What a larger sum is taken as.
+const MOST_DISTANCE: u32 = 0xffff_ffff;
 
-// A slot of a table: twelve words of 32 bits. Every twelve words are some slot.
-pub type Row = [u32; 12];
+// Half the range of a word.
+const HALF_RANGE: u32 = 0x8000_0000;
 
-// 01's profile: four measures in hundredths and the coat code, handed over as one value.
-#[repr(C)]
-pub struct Profile {
-    pub measures: [i32; 4],
-    pub code: [u64; 2],
+// The absolute difference of the signed numbers that two words hold. Moved up by half the range they are unsigned, in the same order and as far
+// apart. So there is no case for each sign, and every difference fits.
+fn gap_of(a: u32, b: u32) -> u32
+    ensures { λ r. ⌜ r ≡ natAbs (toZ w32 a -ℤ toZ w32 b) ⌝ }
+{
+    let x = std::num::wrapping_add_u32(a, HALF_RANGE);
+    let y = std::num::wrapping_add_u32(b, HALF_RANGE);
+    if x < y { y - x } else { x - y }
+}
+
+// The sum of four numbers, saturated once, at the end.
+fn saturated_sum(a: u32, b: u32, c: u32, d: u32) -> u32
+    ensures { λ r. ⌜ r ≡ saturated (a + b + c + d) ⌝ }
+{
+    let sum = a as u64 + b as u64 + c as u64 + d as u64;
+    if sum < 0x1_0000_0000 {
+        sum as u32
+    } else {
+        MOST_DISTANCE
+    }
+}
+
+// Metric 0, of the four measures.
+fn measure_distance(a: Row, b: Row) -> u32
+    ensures { λ r. ⌜ r ≡ measureDistance (profileOf a) (profileOf b) ⌝ }
+{
+    saturated_sum(
+        gap_of(a[MEASURE_0], b[MEASURE_0]),
+        gap_of(a[MEASURE_1], b[MEASURE_1]),
+        gap_of(a[MEASURE_2], b[MEASURE_2]),
+        gap_of(a[MEASURE_3], b[MEASURE_3]),
+    )
+}
+
+// The number of bits in which two words differ.
+fn differing_bits(a: u64, b: u64) -> u32
+    ensures { λ r. ⌜ r ≡ differing 64 a b ⌝ }
+{
+    u64::count_ones(a ^ b)
+}
+
+// Metric 1, of the code's two numbers of 64 bits.
+fn code_distance(a: Row, b: Row) -> u32
+    ensures { λ r. ⌜ r ≡ codeDistance (profileOf a) (profileOf b) ⌝ }
+{
+    let first = differing_bits(
+        joined(a[CODE_0_LOW], a[CODE_0_HIGH]),
+        joined(b[CODE_0_LOW], b[CODE_0_HIGH]),
+    );
+    let second = differing_bits(
+        joined(a[CODE_1_LOW], a[CODE_1_HIGH]),
+        joined(b[CODE_1_LOW], b[CODE_1_HIGH]),
+    );
+    first + second
+}
+
+// The distance between the profiles of two rows, by a table's header row. A number that is no metric reads as 1. A search makes its query a row
+// once (`row_of`), so that each slot costs a row against a row.
+pub fn distance_between(header: &Row, a: Row, b: Row) -> u32
+    ensures { λ r. ⌜ r ≡ distance (spaceOf (now (header .entry))) (profileOf a) (profileOf b) ⌝ }
+{
+    if header[METRIC_AT] == 0 {
+        measure_distance(a, b)
+    } else {
+        code_distance(a, b)
+    }
+}
+
+// The distance between a row's profile and a query.
+pub fn distance_to(header: &Row, row: Row, query: Profile) -> u32
+    ensures { λ r. ⌜ r ≡ distance (spaceOf (now (header .entry))) (profileOf row) query ⌝ }
+{
+    distance_between(header, row, row_of(0, query, 0, 0))
+}
+
+// The least tag, country 1 with national 0, and the first number past the last, country 999 with the largest national.
+const LEAST_TAG: u64 = 1_000_000_000_000;
+
+const PAST_TAGS: u64 = 1_000_000_000_000_000;
+
+// The largest size of a measure, in hundredths.
+const MEASURE_LIMIT: i32 = 1_000_000;
+
+// Both ends of a range are tested at once, with no branch.
+pub fn valid_tag(tag: u64) -> bool
+    ensures { λ r. ⌜ r ≡ validTag tag ⌝ }
+{
+    (LEAST_TAG <= tag) & (tag < PAST_TAGS)
+}
+
+fn valid_measure(measure: i32) -> bool
+    ensures { λ r. ⌜ r ≡ validMeasure measure ⌝ }
+{
+    (-MEASURE_LIMIT <= measure) & (measure <= MEASURE_LIMIT)
+}
+
+pub fn valid_measures(profile: Profile) -> bool
+    ensures { λ r. ⌜ r ≡ validMeasures profile ⌝ }
+{
+    let m = profile.measures;
+    valid_measure(m[0]) & valid_measure(m[1]) & valid_measure(m[2]) & valid_measure(m[3])
 }

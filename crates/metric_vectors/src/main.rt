@@ -2,8 +2,8 @@
 mod vectors;
 
 use libc::STDOUT_FILENO;
-use metric::Profile;
-use metric::Row;
+use metric_rules::Profile;
+use metric_rules::Row;
 use vectors::COUNT;
 
 fn print_space() {
@@ -105,11 +105,11 @@ fn print_profile(profile: Profile, expected: [i32; 4]) {
 // The row of object i's fields; then the fields of its row in the table, and whether its tag and its measures are valid.
 fn print_object(i: usize) {
     let row = row_at(i);
-    print_words(metric::row_of(tag_at(i), profile_at(i), threshold_at(i), mark_at(i)));
-    print_number(metric::tag_of(row));
-    print_profile(metric::profile_of(row), measures_at(i));
-    print_number(metric::threshold_of(row) as u64);
-    print_number(metric::mark_of(row) as u64);
+    print_words(rows::row_of(tag_at(i), profile_at(i), threshold_at(i), mark_at(i)));
+    print_number(rows::tag_of(row));
+    print_profile(rows::profile_of(row), measures_at(i));
+    print_number(rows::threshold_of(row) as u64);
+    print_number(rows::mark_of(row) as u64);
     print_number(metric::valid_tag(tag_at(i)) as u64);
     print_last(metric::valid_measures(profile_at(i)) as u64);
 }
@@ -120,16 +120,32 @@ fn print_objects() {
     }
 }
 
+// A header row with this metric.
+fn header(metric: u32) -> Row {
+    [0, metric, 0, 0, 0, 0, 0, 0, 0, 0, 0, 0]
+}
+
+// The distance of two rows, and of a row and a query, by a metric's number.
+fn between(metric: u32, a: Row, b: Row) -> u64 {
+    let by = header(metric);
+    metric::distance_between(&by, a, b) as u64
+}
+
+fn to_query(metric: u32, a: Row, query: Profile) -> u64 {
+    let by = header(metric);
+    metric::distance_to(&by, a, query) as u64
+}
+
 // The distances of objects i and j: by each metric and by two numbers that are none, then from a row to a query.
 fn print_pair(i: usize, j: usize) {
     let a = row_at(i);
     let b = row_at(j);
-    print_number(metric::distance_between(0, a, b) as u64);
-    print_number(metric::distance_between(1, a, b) as u64);
-    print_number(metric::distance_between(2, a, b) as u64);
-    print_number(metric::distance_between(0xffff_ffff, a, b) as u64);
-    print_number(metric::distance_to(0, a, profile_at(j)) as u64);
-    print_last(metric::distance_to(1, a, profile_at(j)) as u64);
+    print_number(between(0, a, b));
+    print_number(between(1, a, b));
+    print_number(between(2, a, b));
+    print_number(between(0xffff_ffff, a, b));
+    print_number(to_query(0, a, profile_at(j)));
+    print_last(to_query(1, a, profile_at(j)));
 }
 
 fn print_distances() {

@@ -8,17 +8,17 @@ use mathlib.Core.Path.{_≡_, refl, sym, _∙_, ap, ap₂, subst}
 use mathlib.Core.List.{List, [], _∷_, _++_, map, foldl, foldl-append, map-map, List·Permᴰ, List·Permᴰ·cons, List·Permᴰ·swap, List·Permᴰ·trans, Permᴰ·refl, Permᴰ·symm}
 use lib.ListN.{length, length-map, length-drop, length-set, getD, set, take, drop}
 use lib.Seq.{take-suc, getD-drop}
-use Rattle.metric.specs.declared.Profile.{Profile}
-use Rattle.metric.specs.Row.{Row, rowWidth, thresholdAt, markAt, thresholdOf, markOf, withThreshold, withMark}
-use Rattle.metric.proofs.Codec.{threshold-with-threshold, tag-with-threshold, mark-with-threshold, mark-with-mark}
-use Rattle.tree.specs.Sorting.{sortBy}
-use Rattle.tree.specs.Layout.{leftSize, Ranked, rankedFrom, tagKey, placed, fromPivot, nearKey, lastDistance, split, node, layout}
-use Rattle.tree.specs.Guided.{All, fromSlot}
-use Rattle.tree.specs.Working.{workKey, firstKey, rankedOf, ranksWritten, Whole, RanksApart, measuredFrom, sortedFrom, arranged, lastMeasured}
-use Rattle.tree.proofs.Lists.{Pairs, all-append, all-always, all-weaken, all-perm, all-take, all-map, pairs-weaken, pairs-perm, pairs-map, perm-map, map-take, map-drop, map-alike}
-use Rattle.tree.proofs.Sorting.{NotAfter, Told, sort-cons, sort-perm, sort-length, sort-permuted, insert-first, sort-map}
-use Rattle.tree.proofs.Placed.{placed-with-threshold, placed-with-mark}
-use Rattle.tree.proofs.Layouts.{stripped, layoutOf, layout-ranked, layout-node, layout-stripped}
+use Rattle.metric_rules.specs.declared.Profile.{Profile}
+use Rattle.metric_rules.specs.Row.{Row, rowWidth, thresholdAt, markAt, thresholdOf, markOf, withThreshold, withMark}
+use Rattle.metric_rules.proofs.Codec.{threshold-with-threshold, tag-with-threshold, mark-with-threshold, mark-with-mark}
+use Rattle.tree_rules.specs.Sorting.{sortBy}
+use Rattle.tree_rules.specs.Layout.{leftSize, Ranked, rankedFrom, tagKey, placed, fromPivot, nearKey, lastDistance, split, node, layout}
+use Rattle.tree_rules.specs.Guided.{All, fromSlot, Whole}
+use Rattle.tree_sort.specs.Working.{workKey, firstKey, rankedOf, ranksWritten, RanksApart, measuredFrom, sortedFrom, arranged, lastMeasured}
+use Rattle.tree_rules.proofs.Lists.{Pairs, all-append, all-always, all-weaken, all-perm, all-take, all-map, pairs-weaken, pairs-perm, pairs-map, perm-map, map-take, map-drop, map-alike}
+use Rattle.tree_rules.proofs.Sorting.{NotAfter, Told, sort-cons, sort-perm, sort-length, sort-permuted, insert-first, sort-map}
+use Rattle.tree_rules.proofs.Placed.{placed-with-threshold, placed-with-mark}
+use Rattle.tree_rules.proofs.Layouts.{stripped, layoutOf, layout-ranked, layout-node, layout-stripped}
 
 abbrev pub Apart : Row → Row → Type 0
 Apart r s = markOf r ≡ markOf s → ⊥

@@ -1,15 +1,3 @@
--- The laws of this crate's definitions, for its own proofs and for the crates above.
-pub mod Lists
-pub mod Tests
-pub mod Sorting
-pub mod Cost
-pub mod Placed
-pub mod Layouts
-pub mod LastKey
-mod Merging
-mod Inserting
-mod Parts
+-- A part as a build arranges it, and its halves.
 mod Arranging
 mod Halving
-pub mod InPlace
-pub mod Marks

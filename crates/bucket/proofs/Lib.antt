@@ -1,2 +1,0 @@
--- Laws of the table's geometry.
-pub mod Geometry

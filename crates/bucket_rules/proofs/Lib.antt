@@ -1,0 +1,19 @@
+-- Laws of the table: its geometry, its buckets one after the other, what the tests of a lent table say, and what its views show after each change.
+pub mod Geometry
+pub mod Buckets
+pub mod Down
+pub mod Passing
+pub mod Windows
+pub mod Views
+pub mod Puts
+pub mod Changes
+pub mod ByNumber
+pub mod Live
+pub mod Finding
+pub mod Sizes
+pub mod Adding
+pub mod Removing
+pub mod Owned
+pub mod RowsFit
+pub mod Fill
+pub mod Replies

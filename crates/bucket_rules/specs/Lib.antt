@@ -1,0 +1,11 @@
+pub mod Refusals
+pub mod Geometry
+pub mod Table
+pub mod Checks
+pub mod Passed
+pub mod Fresh
+pub mod Rebuild
+pub mod Add
+pub mod Remove
+pub mod LookUp
+pub mod Search

@@ -1,0 +1,155 @@
+-- The other direction of the codec: an image is the bytes of its fields. Each field read has the bytes that stand at its place, and the places
+-- adjoin from the first byte to the last, so a table that shows the fields of an image is written as that image.
+use Prim.Native.Nat.{ℕ, suc, _+_, _*_, _^_, _≤_, _<_}
+use mathlib.Core.Path.{_≡_, sym, ap, ap₂, _∙_}
+use mathlib.Core.List.{List, [], _∷_, _++_, map, map-map, append-assoc, flatten}
+use native.Mathlib.Nat.{mul-suc, add-mul, mul-le-mul-left}
+use native.Mathlib.Omega.{arith}
+use lib.ListN.{length, take, drop, length-drop, take-append-drop}
+use lib.Seq.{take-all, take-at, drop-at, take-add, drop-drop}
+use Rattle.metric_rules.specs.Lists.{total, countFrom}
+use Rattle.metric_rules.specs.Row.{Row}
+use Rattle.tree_rules.specs.Guided.{All}
+use Rattle.bucket_rules.specs.Geometry.{bucketsOf}
+use Rattle.bucket_rules.specs.Table.{Table, orderOf, tableSpace, builtOf, liveOf, slotsOf}
+use Rattle.bucket_rules.proofs.ByNumber.{map-count}
+use Rattle.image_rules.specs.Bytes.{bytesOf, bytesOfFields, headerFields, tagFields, recordFields, headerBytes, tagBytes, recordBytes, sizeBytes, pairBytes, sizesEnd, tagWords, imageLength}
+use Rattle.image_rules.specs.Write.{headerBytesOf, sizesOf, tagsOf, recordsOf, allSlots, imageOf}
+use Rattle.image_rules.specs.Read.{numberAt, fieldsAt, headerNumbers, orderIn, spaceIn, zerosIn, builtIn, liveIn, slotsBefore, slotsIn, rowIn, bucketIn}
+use Rattle.image_rules.proofs.Numbers.{length-fields-at, bytes-at, bytes-of-fields-at}
+use Rattle.image_rules.proofs.Blocks.{pieces, runs}
+use Rattle.image_rules.proofs.ReadBack.{ReadsBack}
+
+-- bytes of the length that the sizes among them say, the two after order and metric zero
+pub record WellFormed (image : List ℕ) : Type 0 where
+  pub bytes : All (λ b. b < 2 ^ 8) image
+  pub long : length image ≡ imageLength (orderIn image) (slotsIn image)
+  pub zeros : zerosIn image ≡ 0
+
+-- parts of a list that adjoin
+parts : (xs : List ℕ) (a b c d : ℕ) → length xs ≡ a + b + c + d
+    → take a xs ++ (take b (drop a xs) ++ (take c (drop (a + b) xs) ++ take d (drop (a + b + c) xs))) ≡ xs
+parts xs a b c d h =
+    let last : take d (drop (a + b + c) xs) ≡ drop c (drop (a + b) xs) =
+    take-all d (drop (a + b + c) xs) (omega (arith, length-drop (a + b + c) xs)) ∙ sym (drop-drop c (a + b) xs) in
+    rw (last, take-append-drop c (drop (a + b) xs), ← drop-drop b a xs, take-append-drop b (drop a xs)) (take-append-drop a xs)
+
+-- piece i of n pieces of w elements ends within them
+piece-within : (w i n : ℕ) → i < n → w * i + w ≤ w * n
+piece-within w i n h = omega (arith, mul-suc w i, mul-le-mul-left w h)
+
+module _ (image : List ℕ) (formed : WellFormed image) where
+  order : ℕ
+  order = orderIn image
+
+  slots : ℕ
+  slots = slotsIn image
+
+  long : length image ≡ headerBytes + pairBytes * suc order + tagBytes * slots + recordBytes * slots
+  unfolding order slots imageLength sizesEnd
+  long = formed .long ∙ omega (arith, add-mul tagBytes recordBytes slots)
+
+  -- order, metric and zeros
+  head-there : headerBytesOf order (spaceIn image) ≡ take headerBytes image
+  unfolding order headerBytesOf headerBytes spaceIn orderIn zerosIn headerNumbers headerFields fieldsAt
+  head-there =
+      let first = numberAt image 1 0 in
+      let second = numberAt image 1 1 in
+      ap (λ (n : ℕ). bytesOfFields headerFields (first ∷ second ∷ n ∷ [])) (sym (formed .zeros))
+      ∙ bytes-of-fields-at image (formed .bytes) headerFields 0 (omega (arith, long))
+
+  -- the sizes, bucket by bucket
+  pair-there : (k : ℕ) → k < suc order
+      → bytesOf sizeBytes (builtIn image k) ++ bytesOf sizeBytes (liveIn image k) ≡ take pairBytes (drop (headerBytes + pairBytes * k) image)
+  unfolding builtIn liveIn pairBytes sizeBytes
+  pair-there k h =
+      let at = headerBytes + 4 * k in
+      let built : bytesOf 2 (builtIn image k) ≡ take 2 (drop at image) = bytes-at image (formed .bytes) 2 at (omega (arith, long)) in
+      let live : bytesOf 2 (liveIn image k) ≡ take 2 (drop (at + 2) image) = bytes-at image (formed .bytes) 2 (at + 2) (omega (arith, long)) in
+      ap₂ _++_ built (live ∙ ap (take 2) (sym (drop-drop 2 at image))) ∙ sym (take-add 2 2 (drop at image))
+
+  sizes-there : sizesOf order (builtIn image) (liveIn image) ≡ take (pairBytes * suc order) (drop headerBytes image)
+  unfolding sizesOf bucketsOf
+  sizes-there =
+      let start : headerBytes + pairBytes * 0 ≡ headerBytes = omega arith in
+      ap flatten
+      (map-count (λ k. bytesOf sizeBytes (builtIn image k) ++ bytesOf sizeBytes (liveIn image k)) (λ k. take pairBytes (drop (headerBytes + pairBytes * k) image)) 0 (suc order)
+      (λ k l m. pair-there k (omega arith)))
+      ∙ pieces image pairBytes headerBytes 0 (suc order)
+      ∙ ap (λ (j : ℕ). take (pairBytes * suc order) (drop j image)) start
+
+  -- the rows of all buckets are the image's rows one after the other
+  all-rows : flatten (map (bucketIn image) (bucketsOf order)) ≡ map (rowIn image) (countFrom 0 slots)
+  unfolding order slots bucketIn slotsIn slotsBefore bucketsOf total countFrom
+  all-rows = runs (rowIn image) (builtIn image) 0 (suc order)
+
+  -- one law for tags and for records: where each row's part has the w bytes at its place, the rows' parts have the w · N bytes there
+  fields-there : (part : Row → List ℕ) (w at : ℕ) → ((i : ℕ) → i < slots → part (rowIn image i) ≡ take w (drop (at + w * i) image))
+      → flatten (map part (map (rowIn image) (countFrom 0 slots))) ≡ take (w * slots) (drop at image)
+  fields-there part w at h =
+      let start : at + w * 0 ≡ at = omega arith in
+      ap flatten
+      (map-map part (rowIn image) (countFrom 0 slots)
+      ∙ map-count (λ i. part (rowIn image i)) (λ i. take w (drop (at + w * i) image)) 0 slots (λ i l m. h i (omega arith)))
+      ∙ pieces image w at 0 slots
+      ∙ ap (λ (j : ℕ). take (w * slots) (drop j image)) start
+
+  tagsAt : ℕ
+  tagsAt = headerBytes + pairBytes * suc order
+
+  tag-there : (i : ℕ) → i < slots → bytesOfFields tagFields (take tagWords (rowIn image i)) ≡ take tagBytes (drop (tagsAt + tagBytes * i) image)
+  unfolding order slots tagsAt sizesEnd rowIn tagWords tagBytes
+  tag-there i h =
+      let at = tagsAt + tagBytes * i in
+      ap (bytesOfFields tagFields) (take-at (fieldsAt image tagFields at) _ tagWords (length-fields-at image tagFields at))
+      ∙ bytes-of-fields-at image (formed .bytes) tagFields at (omega (arith, long, piece-within tagBytes i slots h))
+
+  record-there : (i : ℕ) → i < slots
+      → bytesOfFields recordFields (drop tagWords (rowIn image i)) ≡ take recordBytes (drop (tagsAt + tagBytes * slots + recordBytes * i) image)
+  unfolding order slots tagsAt sizesEnd rowIn tagWords recordBytes
+  record-there i h =
+      let tag = tagsAt + tagBytes * i in
+      let at = tagsAt + tagBytes * slots + recordBytes * i in
+      ap (bytesOfFields recordFields)
+      (drop-at (fieldsAt image tagFields tag) (fieldsAt image recordFields at) tagWords (length-fields-at image tagFields tag))
+      ∙ bytes-of-fields-at image (formed .bytes) recordFields at (omega (arith, long, piece-within recordBytes i slots h))
+
+  -- a table that shows the image's fields
+  module _ (t : Table) (reads : ReadsBack t image) where
+    head-alike : headerBytesOf (orderOf t) (tableSpace t) ≡ take headerBytes image
+    unfolding order
+    head-alike = rw (← reads .order, ← reads .space) head-there
+
+    sizes-alike : sizesOf (orderOf t) (builtOf t) (liveOf t) ≡ sizesOf order (builtIn image) (liveIn image)
+    unfolding sizesOf bucketsOf order
+    sizes-alike =
+        rw (reads .order)
+        (ap flatten
+        (map-count (λ k. bytesOf sizeBytes (builtOf t k) ++ bytesOf sizeBytes (liveOf t k)) (λ k. bytesOf sizeBytes (builtIn image k) ++ bytesOf sizeBytes (liveIn image k)) 0 (suc (orderOf t))
+        (λ k l m. ap₂ (λ (a b : ℕ). bytesOf sizeBytes a ++ bytesOf sizeBytes b) (sym (reads .built k (omega arith))) (sym (reads .live k (omega arith))))))
+
+    slots-alike : allSlots t ≡ map (rowIn image) (countFrom 0 slots)
+    unfolding allSlots bucketsOf order
+    slots-alike =
+        rw (← reads .order)
+        (ap flatten (map-count (slotsOf t) (bucketIn image) 0 (suc (orderIn image)) (λ k l m. sym (reads .slots k (omega (arith, reads .order)))))
+        ∙ all-rows)
+
+    tags-alike : tagsOf (allSlots t) ≡ take (tagBytes * slots) (drop tagsAt image)
+    unfolding tagsOf
+    tags-alike = rw slots-alike (fields-there (λ row. bytesOfFields tagFields (take tagWords row)) tagBytes tagsAt tag-there)
+
+    records-alike : recordsOf (allSlots t) ≡ take (recordBytes * slots) (drop (tagsAt + tagBytes * slots) image)
+    unfolding recordsOf
+    records-alike =
+        rw slots-alike (fields-there (λ row. bytesOfFields recordFields (drop tagWords row)) recordBytes (tagsAt + tagBytes * slots) record-there)
+
+    whole : imageOf t ≡ image
+    unfolding imageOf tagsAt
+    whole =
+        rw (head-alike, sizes-alike, sizes-there, tags-alike, records-alike)
+        (simp append-assoc (parts image headerBytes (pairBytes * suc order) (tagBytes * slots) (recordBytes * slots) long))
+
+-- a well-formed image is what a table that shows its fields is written as
+pub gives-back : (t : Table) (image : List ℕ) → WellFormed image → ReadsBack t image → imageOf t ≡ image
+gives-back t image formed reads = whole image formed t reads

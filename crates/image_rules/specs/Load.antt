@@ -1,0 +1,82 @@
+-- 01, "The image", load: the checks in their order, each with its number, and the table after the call.
+use Prim.Native.Nat.{ℕ, zero, suc}
+use mathlib.Core.Bool.{Bool, true, false, _&&_}
+use mathlib.Core.List.{List, map, foldl, flatten}
+use lib.ListN.{length}
+use lib.Dec.{leb, ltb, eqb}
+use Rattle.metric_rules.specs.Lists.{every, select, distinct}
+use Rattle.metric_rules.specs.Row.{Row, tagOf, profileOf, markOf, isLive}
+use Rattle.metric_rules.specs.Validity.{validTag, validMeasures}
+use Rattle.metric_rules.specs.Distance.{Space, validSpace, distance}
+use Rattle.tree_rules.specs.Layout.{isLayout}
+use Rattle.bucket_rules.specs.Refusals.{badOrder, badMetric, imageLengthWrong, imageUnsound, areaShort, tableBroken}
+use Rattle.bucket_rules.specs.Geometry.{validOrder, bucketsOf, tableRows}
+use Rattle.bucket_rules.specs.Table.{Table, putBucket}
+use Rattle.bucket_rules.specs.Checks.{sizesPass}
+use Rattle.bucket_rules.specs.Fresh.{freshTable}
+use Rattle.image_rules.specs.Bytes.{headerBytes, sizesEnd, imageLength}
+use Rattle.image_rules.specs.Read.{orderIn, spaceIn, zerosIn, builtIn, liveIn, slotsIn, bucketIn}
+
+-- a slot's own fields: tag, measures, and a mark that is 0 or 1
+unfoldable pub fieldsPass : Row → Bool
+fieldsPass row = validTag (tagOf row) && validMeasures (profileOf row) && leb (markOf row) 1
+
+-- a bucket: its slots' fields, its 0 marks number its live size, no tag twice, and its slots are a tree's layout, marks aside
+unfoldable pub bucketPasses : Space → ℕ → List Row → Bool
+bucketPasses space live slots =
+    every fieldsPass slots && eqb (length (select isLive slots)) live && distinct (map tagOf slots) && isLayout (distance space) slots
+
+-- the live head of the whole image, bucket by bucket
+unfoldable pub liveRows : List ℕ → List Row
+liveRows image = flatten (map (λ k. select isLive (bucketIn image k)) (bucketsOf (orderIn image)))
+
+-- every bucket passes, and no live tag occurs twice at all
+unfoldable pub slotsPass : List ℕ → Bool
+slotsPass image =
+    every (λ k. bucketPasses (spaceIn image) (liveIn image k) (bucketIn image k)) (bucketsOf (orderIn image))
+    && distinct (map tagOf (liveRows image))
+
+-- once the order is known: size pairs cut 7, sizes 24, total length 7, the table's room 23, then 8
+unfoldable pub bodyRefusal : ℕ → List ℕ → ℕ
+bodyRefusal rows image =
+    elim (leb (sizesEnd (orderIn image)) (length image)) [
+      | false ↦ imageLengthWrong
+      | true ↦
+          elim (sizesPass (orderIn image) (builtIn image) (liveIn image)) [
+            | false ↦ tableBroken
+            | true ↦
+                elim (eqb (length image) (imageLength (orderIn image) (slotsIn image))) [
+                  | false ↦ imageLengthWrong
+                  | true ↦
+                      elim (leb (tableRows (orderIn image)) rows) [
+                        | false ↦ areaShort
+                        | true ↦ elim (slotsPass image) [ false ↦ imageUnsound | true ↦ 0 ]
+                      ]
+                ]
+          ]
+    ]
+
+-- under 4 bytes 7; order 3; metric 4; the two zero bytes 8; then the body. Of the table only its number of rows is read
+unfoldable pub loadRefusal : ℕ → List ℕ → ℕ
+loadRefusal rows image =
+    elim (ltb (length image) headerBytes) [
+      | true ↦ imageLengthWrong
+      | false ↦
+          elim (validOrder (orderIn image)) [
+            | false ↦ badOrder
+            | true ↦
+                elim (validSpace (spaceIn image)) [
+                  | false ↦ badMetric
+                  | true ↦
+                      elim (eqb (zerosIn image) 0) [ false ↦ imageUnsound | true ↦ bodyRefusal rows image ]
+                ]
+          ]
+    ]
+
+-- a fresh table of the image's order and metric, with each bucket put in its place
+unfoldable pub loadedTable : List ℕ → Table → Table
+loadedTable image t =
+    foldl (λ u k. putBucket k (bucketIn image k) (liveIn image k) u) (freshTable (orderIn image) (spaceIn image) t) (bucketsOf (orderIn image))
+
+unfoldable pub tableAfterLoad : List ℕ → Table → Table
+tableAfterLoad image t = elim (loadRefusal (length t) image) [ zero ↦ loadedTable image t | suc n ↦ t ]

@@ -1,0 +1,74 @@
+-- 01, "A head and its distance": the two metrics, and the laws that trees, searches and costs are shown from.
+use Prim.Native.Nat.{ℕ, zero, suc, _+_, _-_, _/_, _%_, _^_, _≤_, _<_, min}
+use mathlib.Core.Path.{_≡_}
+use lib.IntN.{_-ℤ_, natAbs}
+use lib.Bits.{differ}
+use lib.Dec.{leb}
+use mathlib.Core.Bool.{Bool}
+use Rattle.metric_rules.specs.declared.Profile.{Profile}
+use Rattle.metric_rules.specs.Row.{Row, word, measure, codeWord}
+
+-- a distance is an unsigned number of 32 bits, and a larger sum is taken as the largest of them
+unfoldable pub mostDistance : ℕ
+mostDistance = 2 ^ 32 - 1
+
+unfoldable pub saturated : ℕ → ℕ
+unfolding mostDistance
+saturated n = min n mostDistance
+
+-- the absolute difference of the two profiles' measures i
+unfoldable pub gap : Profile → Profile → ℕ → ℕ
+unfolding measure
+gap p q i = natAbs (measure p i -ℤ measure q i)
+
+-- metric 0: the sum of the absolute differences of the four measures
+unfoldable pub measureDistance : Profile → Profile → ℕ
+unfolding gap saturated
+measureDistance p q = saturated (gap p q 0 + gap p q 1 + gap p q 2 + gap p q 3)
+
+-- in how many of their n lowest binary digits two numbers differ: the ones of their exclusive-or, where both have n digits (`differing-ones`)
+unfoldable pub differing : ℕ → ℕ → ℕ → ℕ
+differing zero a b = 0
+differing (suc n) a b = differ (a % 2) (b % 2) + differing n (a / 2) (b / 2)
+
+-- metric 1: the number of bit positions in which the two codes, of two 64-bit words each, differ
+unfoldable pub codeDistance : Profile → Profile → ℕ
+unfolding differing codeWord
+codeDistance p q = differing 64 (codeWord p 0) (codeWord q 0) + differing 64 (codeWord p 1) (codeWord q 1)
+
+-- the distance by a metric's number. A number above 1 is no metric and every call refuses it; here it reads as 1
+unfoldable pub distanceBy : ℕ → Profile → Profile → ℕ
+unfolding measureDistance codeDistance
+distanceBy zero = measureDistance
+distanceBy (suc metric) = codeDistance
+
+-- what a distance depends on, in one value: a table's metric ("A table has one metric, set when fresh")
+pub record Space : Type 0 where
+  pub metric : ℕ
+
+unfoldable pub distance : Space → Profile → Profile → ℕ
+unfolding distanceBy
+distance space = distanceBy (space .metric)
+
+-- where a table's header row has it
+unfoldable pub metricAt : ℕ
+metricAt = 1
+
+unfoldable pub spaceOf : Row → Space
+unfolding word metricAt
+spaceOf header = record { metric = word header metricAt }
+
+-- a metric is 0 or 1 (refusal 4 is for a number above the last)
+unfoldable pub lastMetric : ℕ
+lastMetric = 1
+
+unfoldable pub validSpace : Space → Bool
+unfolding lastMetric
+validSpace space = leb (space .metric) lastMetric
+
+-- what trees, searches and costs rest on: an unsigned 32-bit distance with the three laws
+pub record Metric (dist : Profile → Profile → ℕ) : Type 0 where
+  pub fits : (p q : Profile) → dist p q < 2 ^ 32
+  pub equal : (p : Profile) → dist p p ≡ 0
+  pub symmetric : (p q : Profile) → dist p q ≡ dist q p
+  pub triangle : (p q s : Profile) → dist p s ≤ dist p q + dist q s

@@ -1,0 +1,116 @@
+-- A slot's row: the twelve words of 32 bits, the fields that they hold, and the row of given fields.
+-- Tag, profile, threshold and mark are 01's terms ("A head and its distance", "Order, buckets, trees", "Remove"); the places of the words are
+-- the interface's ("A slot's row": the image's fields in the image's order, each number's low word first).
+use Prim.Native.Nat.{ℕ, _+_, _*_, _/_, _%_, _^_, _<_}
+use mathlib.Core.Path.{_≡_}
+use mathlib.Core.Bool.{Bool}
+use mathlib.Core.List.{List, [], _∷_, _++_}
+use lib.IntN.{ℤ, pos}
+use lib.Dec.{eqb}
+use lib.ListN.{length, getD, set, replicate}
+use mir.Syntax.{w32}
+use mir.Val.{toZ, ofZ, SFits}
+use Rattle.metric_rules.specs.declared.Profile.{Profile}
+
+-- a row is the list of its words
+abbrev pub Row : Type 0
+Row = List ℕ
+
+unfoldable pub rowWidth : ℕ
+rowWidth = 12
+
+-- the places of the tag's two words, of the four measures, of the code's four words, of the threshold and of the mark
+unfoldable pub tagAt : ℕ
+tagAt = 0
+
+unfoldable pub measuresAt : ℕ
+measuresAt = 2
+
+unfoldable pub codeAt : ℕ
+codeAt = 6
+
+unfoldable pub thresholdAt : ℕ
+thresholdAt = 10
+
+unfoldable pub markAt : ℕ
+markAt = 11
+
+unfoldable pub zeroRow : Row
+unfolding rowWidth
+zeroRow = replicate rowWidth 0
+
+-- word i of a row
+unfoldable pub word : Row → ℕ → ℕ
+word row i = getD row i 0
+
+-- a number of 64 bits from its two words, and the two words of a number
+unfoldable pub wide : ℕ → ℕ → ℕ
+wide low high = low + high * 2 ^ 32
+
+unfoldable pub words : ℕ → List ℕ
+words n = n % 2 ^ 32 ∷ n / 2 ^ 32 ∷ []
+
+-- the fields of a row. `toZ w32` reads a word as a signed number in two's complement, and `ofZ w32` writes one
+unfoldable pub tagOf : Row → ℕ
+unfolding word wide tagAt
+tagOf row = wide (word row tagAt) (word row (tagAt + 1))
+
+unfoldable pub profileOf : Row → Profile
+unfolding word wide measuresAt codeAt
+profileOf row =
+    let m = measuresAt in
+    let c = codeAt in
+    record {
+      measures = toZ w32 (word row m) ∷ toZ w32 (word row (m + 1)) ∷ toZ w32 (word row (m + 2)) ∷ toZ w32 (word row (m + 3)) ∷ [];
+      code = wide (word row c) (word row (c + 1)) ∷ wide (word row (c + 2)) (word row (c + 3)) ∷ [];
+    }
+
+unfoldable pub thresholdOf : Row → ℕ
+unfolding word thresholdAt
+thresholdOf row = word row thresholdAt
+
+unfoldable pub markOf : Row → ℕ
+unfolding word markAt
+markOf row = word row markAt
+
+-- a head is live where its mark is 0; any other mark is dead ("Remove", and the end of "Stopped by the state")
+unfoldable pub isLive : Row → Bool
+unfolding markOf
+isLive row = eqb (markOf row) 0
+
+-- measure i and code word i of a profile
+unfoldable pub measure : Profile → ℕ → ℤ
+measure p i = getD (p .measures) i (pos 0)
+
+unfoldable pub codeWord : Profile → ℕ → ℕ
+codeWord p i = getD (p .code) i 0
+
+-- the row of a tag, a profile, a threshold and a mark
+unfoldable pub rowOf : ℕ → Profile → ℕ → ℕ → Row
+unfolding words measure codeWord
+rowOf tag p threshold mark =
+    words tag
+    ++ (ofZ w32 (measure p 0) ∷ ofZ w32 (measure p 1) ∷ ofZ w32 (measure p 2) ∷ ofZ w32 (measure p 3) ∷ [])
+    ++ words (codeWord p 0)
+    ++ words (codeWord p 1)
+    ++ (threshold ∷ mark ∷ [])
+
+-- a row with another threshold, or another mark, and every other word kept
+unfoldable pub withThreshold : ℕ → Row → Row
+unfolding thresholdAt
+withThreshold m row = set row thresholdAt m
+
+unfoldable pub withMark : ℕ → Row → Row
+unfolding markAt
+withMark mark row = set row markAt mark
+
+-- the values that `[u32; 12]` and `Profile` have
+pub record IsRow (row : Row) : Type 0 where
+  pub width : length row ≡ rowWidth
+  pub fits : (i : ℕ) → word row i < 2 ^ 32
+
+pub record IsProfile (p : Profile) : Type 0 where
+  pub four : length (p .measures) ≡ 4
+  pub two : length (p .code) ≡ 2
+  pub signed : (i : ℕ) → SFits w32 (measure p i)
+  pub wide : (i : ℕ) → codeWord p i < 2 ^ 64

@@ -1,0 +1,42 @@
+-- 01, "A head and its distance": which tags and which measures are valid.
+use Prim.Native.Nat.{ℕ, _/_, _%_, _^_}
+use mathlib.Core.Bool.{Bool, _&&_}
+use lib.IntN.{ℤ, natAbs}
+use lib.Dec.{leb}
+use Rattle.metric_rules.specs.declared.Profile.{Profile}
+use Rattle.metric_rules.specs.Lists.{every}
+
+-- a tag is country × 10^12 + national
+unfoldable pub nationals : ℕ
+nationals = 10 ^ 12
+
+unfoldable pub countryOf : ℕ → ℕ
+unfolding nationals
+countryOf tag = tag / nationals
+
+unfoldable pub nationalOf : ℕ → ℕ
+unfolding nationals
+nationalOf tag = tag % nationals
+
+-- the country is 1 to 999, the national 0 to 999,999,999,999
+unfoldable pub lastCountry : ℕ
+lastCountry = 999
+
+unfoldable pub lastNational : ℕ
+lastNational = 999_999_999_999
+
+unfoldable pub validTag : ℕ → Bool
+unfolding countryOf nationalOf lastCountry lastNational
+validTag tag = leb 1 (countryOf tag) && leb (countryOf tag) lastCountry && leb (nationalOf tag) lastNational
+
+-- a measure is hundredths from -1,000,000 to 1,000,000
+unfoldable pub measureLimit : ℕ
+measureLimit = 1_000_000
+
+unfoldable pub validMeasure : ℤ → Bool
+unfolding measureLimit
+validMeasure m = leb (natAbs m) measureLimit
+
+unfoldable pub validMeasures : Profile → Bool
+unfolding every validMeasure
+validMeasures p = every validMeasure (p .measures)

@@ -1,0 +1,41 @@
+// Profiles and rows: what the other crates' definitions and code name them by.
+
+// The words of a slot's row, and the place of each: the tag's two, the four measures, the two of each code word, the threshold and the mark.
+pub const ROW_WIDTH: usize = 12;
+
+pub const TAG_LOW: usize = 0;
+
+pub const TAG_HIGH: usize = 1;
+
+pub const MEASURE_0: usize = 2;
+
+pub const MEASURE_1: usize = 3;
+
+pub const MEASURE_2: usize = 4;
+
+pub const MEASURE_3: usize = 5;
+
+pub const CODE_0_LOW: usize = 6;
+
+pub const CODE_0_HIGH: usize = 7;
+
+pub const CODE_1_LOW: usize = 8;
+
+pub const CODE_1_HIGH: usize = 9;
+
+pub const THRESHOLD_AT: usize = 10;
+
+pub const MARK_AT: usize = 11;
+
+// The place of the metric in a table's header row.
+pub const METRIC_AT: usize = 1;
+
+// A slot of a table: twelve words of 32 bits. Every twelve words are some slot.
+pub type Row = [u32; ROW_WIDTH];
+
+// 01's profile: four measures in hundredths and the coat code, handed over as one value.
+#[repr(C)]
+pub struct Profile {
+    pub measures: [i32; 4],
+    pub code: [u64; 2],
+}

@@ -1,0 +1,2 @@
+-- What a range search hands on adds up.
+pub mod Collecting

@@ -1,0 +1,140 @@
+// The row codec: a row from its fields, and each field of a row.
+ghost use mathlib.Core.Path.{_≡_};
+ghost use Prim.Native.Nat.{ℕ, _+_, _*_, _/_, _%_, _^_, _<_};
+ghost use mathlib.Core.List.{[]};
+ghost use lib.ListN.{length, getD};
+ghost use mir.Syntax.{w32};
+ghost use mir.Val.{toZ, ofZ};
+ghost use Rattle.metric_rules.specs.Row.{IsRow, tagOf, profileOf, thresholdOf, markOf, isLive, rowOf};
+use metric_rules::CODE_0_HIGH;
+use metric_rules::CODE_0_LOW;
+use metric_rules::CODE_1_HIGH;
+use metric_rules::CODE_1_LOW;
+use metric_rules::MARK_AT;
+use metric_rules::MEASURE_0;
+use metric_rules::MEASURE_1;
+use metric_rules::MEASURE_2;
+use metric_rules::MEASURE_3;
+use metric_rules::Profile;
+use metric_rules::Row;
+use metric_rules::TAG_HIGH;
+use metric_rules::TAG_LOW;
+use metric_rules::THRESHOLD_AT;
+
+// The signed number that a word holds, in two's complement.
+fn signed(word: u32) -> i32
+    ensures { λ r. ⌜ r ≡ toZ w32 word ⌝ }
+{
+    if word < 0x8000_0000 {
+        word as i32
+    } else {
+        (word as i64 - 0x1_0000_0000) as i32
+    }
+}
+
+// The word that holds a measure, in two's complement. The sum is not negative, so that its lowest 32 bits are the word.
+fn unsigned(measure: i32) -> u32
+    ensures { λ r. ⌜ r ≡ ofZ w32 measure ⌝ }
+{
+    ((measure as i64 + 0x1_0000_0000) as u64 % 0x1_0000_0000) as u32
+}
+
+// The number of 64 bits with these two words.
+pub fn joined(low: u32, high: u32) -> u64
+    ensures { λ r. ⌜ r ≡ low + high * 2 ^ 32 ⌝ }
+{
+    low as u64 + high as u64 * 0x1_0000_0000
+}
+
+// The fields of a row.
+pub fn tag_of(row: Row) -> u64
+    ensures { λ r. ⌜ r ≡ tagOf row ⌝ }
+{
+    joined(row[TAG_LOW], row[TAG_HIGH])
+}
+
+pub fn profile_of(row: Row) -> Profile
+    ensures { λ r. ⌜ r ≡ profileOf row ⌝ }
+{
+    Profile {
+        measures: [
+            signed(row[MEASURE_0]),
+            signed(row[MEASURE_1]),
+            signed(row[MEASURE_2]),
+            signed(row[MEASURE_3]),
+        ],
+        code: [
+            joined(row[CODE_0_LOW], row[CODE_0_HIGH]),
+            joined(row[CODE_1_LOW], row[CODE_1_HIGH]),
+        ],
+    }
+}
+
+pub fn threshold_of(row: Row) -> u32
+    ensures { λ r. ⌜ r ≡ thresholdOf row ⌝ }
+{
+    row[THRESHOLD_AT]
+}
+
+pub fn mark_of(row: Row) -> u32
+    ensures { λ r. ⌜ r ≡ markOf row ⌝ }
+{
+    row[MARK_AT]
+}
+
+// Whether the row's head is live; any mark but 0 is dead.
+pub fn is_live(row: Row) -> bool
+    ensures { λ r. ⌜ r ≡ isLive row ⌝ }
+{
+    mark_of(row) == 0
+}
+
+// The low and the high word of a number of 64 bits.
+fn low(n: u64) -> u32
+    ensures { λ r. ⌜ r ≡ n % 2 ^ 32 ⌝ }
+{
+    (n % 0x1_0000_0000) as u32
+}
+
+fn high(n: u64) -> u32
+    ensures { λ r. ⌜ r ≡ n / 2 ^ 32 ⌝ }
+{
+    (n / 0x1_0000_0000) as u32
+}
+
+// The row of these fields.
+pub fn row_of(tag: u64, profile: Profile, threshold: u32, mark: u32) -> Row
+    ensures { λ r. ⌜ r ≡ rowOf tag profile threshold mark ⌝ }
+{
+    let m = profile.measures;
+    let c = profile.code;
+    [
+        low(tag),
+        high(tag),
+        unsigned(m[0]),
+        unsigned(m[1]),
+        unsigned(m[2]),
+        unsigned(m[3]),
+        low(c[0]),
+        high(c[0]),
+        low(c[1]),
+        high(c[1]),
+        threshold,
+        mark,
+    ]
+}
+
+// Nothing is done here, and nothing is compiled: the caller learns that the row is twelve words of 32 bits. A row that was read from a slice comes
+// without that fact, and a parameter has it by its type.
+pub fn row_fits(row: Row)
+    ensures { λ _. ⌜ IsRow row ⌝ }
+{}
+
+// The same of every row of a slice. The loop has no effect, so it is compiled away.
+pub fn rows_fit(rows: &[Row])
+    ensures { λ _. ⌜ ((i : ℕ) → i < length (now (rows .entry)) → IsRow (getD (now (rows .entry)) i [])) ⌝ }
+{
+    for i in 0..rows.len() {
+        row_fits(rows[i]);
+    }
+}

@@ -1,0 +1,5 @@
+pub mod Range
+pub mod Reached
+pub mod Nearest
+pub mod Collected
+pub mod Asked

@@ -1,0 +1,68 @@
+-- 01, "Searching", nearest: the visit of one tree's slots with the k best so far passed through every step.
+use Prim.Native.Nat.{ℕ, zero, suc}
+use mathlib.Core.Bool.{Bool, true, false, _||_}
+use mathlib.Core.List.{List, [], _∷_, foldl}
+use lib.ListN.{length, take, drop}
+use lib.Dec.{leb, ltb}
+use Rattle.metric_rules.specs.declared.Profile.{Profile}
+use Rattle.metric_rules.specs.Row.{Row, thresholdOf}
+use Rattle.tree_rules.specs.Layout.{leftSize}
+use Rattle.search_rules.specs.Range.{Entry, entryDistance, ordered, toQuery, entryOf, entersLeft, entersRight}
+
+-- the first k of some entries by distance, then tag
+unfoldable pub keep : ℕ → List Entry → List Entry
+unfolding ordered
+keep k es = take k (ordered es)
+
+-- what a nearest search carries: the entries kept, in their order, and the number of slots visited
+pub record Tally : Type 0 where
+  pub kept : List Entry
+  pub count : ℕ
+
+-- the distance of the worst entry kept
+unfoldable pub worst : List Entry → ℕ
+unfolding entryDistance
+worst kept = foldl (λ d e. entryDistance e) 0 kept
+
+-- with fewer than k head found both tests pass; after that r is the worst distance kept. `enters` is a side's test
+unfoldable pub opens : ℕ → (ℕ → Bool) → List Entry → Bool
+unfolding worst
+opens k enters kept = ltb (length kept) k || enters (worst kept)
+
+-- `reports` tells which slots' head may be reported: those that are live
+module _ (dist : Profile → Profile → ℕ) (query : Profile) (reports : Row → Bool) (k : ℕ) where
+  -- the slot's own head is taken in where it may be reported, and its distance is counted, dead or not
+  unfoldable pub taken : Tally → Row → Tally
+  unfolding keep entryOf
+  taken t row =
+      record { kept = elim (reports row) [ true ↦ keep k (entryOf dist query row ∷ t .kept) | false ↦ t .kept ]; count = suc (t .count) }
+
+  -- a half whose turn has come: its test is made on what is kept by then
+  unfoldable pub turn : (ℕ → Bool) → (Tally → Tally) → Tally → Tally
+  unfolding opens
+  turn enters search t = elim (opens k enters (t .kept)) [ true ↦ search t | false ↦ t ]
+
+  -- the half on the query's side goes first: left if d ≤ m
+  unfoldable pub halvesInTurn : ℕ → ℕ → (Tally → Tally) → (Tally → Tally) → Tally → Tally
+  unfolding turn entersLeft entersRight
+  halvesInTurn d m left right t =
+      elim (leb d m) [
+        | true ↦ turn (entersRight d m) right (turn (entersLeft d m) left t)
+        | false ↦ turn (entersLeft d m) left (turn (entersRight d m) right t)
+      ]
+
+  unfoldable pub nearestWithin : ℕ → Tally → List Row → Tally
+  unfolding taken halvesInTurn toQuery thresholdOf leftSize
+  nearestWithin zero t slots = t
+  nearestWithin (suc depth) t [] = t
+  nearestWithin (suc depth) t (s ∷ rest) =
+      let l = leftSize (suc (length rest)) in
+      halvesInTurn (toQuery dist query s) (thresholdOf s)
+      (λ u. nearestWithin depth u (take l rest))
+      (λ u. nearestWithin depth u (drop l rest))
+      (taken t s)
+
+  -- nearest over one tree's slots, whatever they hold, from what is kept and counted before
+  unfoldable pub nearestTree : Tally → List Row → Tally
+  unfolding nearestWithin
+  nearestTree t slots = nearestWithin (length slots) t slots

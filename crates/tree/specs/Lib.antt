@@ -1,5 +1,0 @@
-pub mod Sorting
-pub mod Layout
-pub mod Guided
-pub mod InPlace
-pub mod Working

@@ -1,2 +1,0 @@
--- What the exported calls promise, from what the searches leave.
-mod Replied

@@ -1,0 +1,13 @@
+-- The laws of trees, for the code and for the crates above: lists and sorting, the layout, c(n), the test in place, and marks.
+pub mod Lists
+pub mod Tests
+pub mod Parts
+pub mod Sorting
+pub mod Cost
+pub mod Placed
+pub mod Layouts
+pub mod LastKey
+pub mod InPlace
+pub mod Marks
+pub mod Built
+pub mod Distinct

@@ -1,0 +1,4 @@
+pub mod Sorting
+pub mod Layout
+pub mod Guided
+pub mod InPlace

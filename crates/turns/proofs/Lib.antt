@@ -1,0 +1,3 @@
+-- The parts that wait for their turn.
+pub mod Pending
+pub mod Sending

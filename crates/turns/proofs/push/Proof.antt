@@ -1,0 +1,45 @@
+-- A part without slots does not wait, and any other is the last of those that do. (The walk calls the parameter `part` t3.)
+-- Assumes nothing.
+use borrow.Author.Needs.{needs}
+use Rattle.turns.proofs.Sending.{pushed-none, push-place, pushed-some}
+use Rattle.turns.proofs.push.Statement.{statement}
+use Rattle.turns.proofs.push.Tie as tie
+
+array-read-if1 : tie.Need-array-read-if1
+array-read-if1 c = search needs
+
+returns : tie.Need-returns
+returns c =
+    let a = c .before .args in
+    pushed-none (a .t3) (a .pending .now) (a .depth) (c .if1 .taken)
+
+mul-t7 : tie.Need-mul-t7
+mul-t7 c = search needs
+
+slice-set-from-pending : tie.Need-slice-set-from-pending
+slice-set-from-pending c =
+    let a = c .before .args in
+    push-place (a .t3) (a .pending .now) (a .depth) (c .if1 .left) (c .before .pre)
+
+add-result : tie.Need-add-result
+add-result c = search needs
+
+same-length : tie.Need-same-length
+same-length c = search needs
+
+returns-2 : tie.Need-returns-2
+returns-2 c =
+    let a = c .before .args in
+    pushed-some (a .t3) (a .pending .now) (a .depth) (c .if1 .left) (c .before .pre)
+
+pub push-spec : {M : Type 1} → statement M
+push-spec =
+    tie.close
+    (tie.spec
+    array-read-if1
+    returns
+    mul-t7
+    slice-set-from-pending
+    add-result
+    same-length
+    returns-2)
