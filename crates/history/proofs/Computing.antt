@@ -1,0 +1,47 @@
+-- A call's outcome with every definition that it goes by opened, so that antt computes it. Proofs about the definitions open one at a time;
+-- the worked lines, which are runs, open them all, and this is the one place that lists them.
+use mathlib.Core.List.{flatten}
+use Rattle.metric_rules.specs.Lists.{countFrom, total, select, every, alike, distinct, sameNumbers}
+use Rattle.metric_rules.specs.Row.{rowWidth, tagAt, measuresAt, codeAt, thresholdAt, markAt, zeroRow, word, wide, words, tagOf, profileOf, thresholdOf, markOf, isLive, measure, codeWord, rowOf, withThreshold, withMark}
+use Rattle.metric_rules.specs.Validity.{nationals, countryOf, nationalOf, lastCountry, lastNational, validTag, measureLimit, validMeasure, validMeasures}
+use Rattle.metric_rules.specs.Distance.{mostDistance, saturated, gap, measureDistance, differing, codeDistance, distanceBy, distance, metricAt, spaceOf, lastMetric, validSpace}
+use Rattle.tree_rules.specs.Sorting.{keyLe, insertBy, sortBy}
+use Rattle.tree_rules.specs.Layout.{leftSize, costWithin, cost, rankedFrom, tagKey, placed, fromPivot, nearKey, lastDistance, split, node, layoutWithin, layout, isLayout}
+use Rattle.search_rules.specs.Range.{entry, entryDistance, entryKey, ordered, entersLeft, entersRight, nothing, both, toQuery, entryOf, isHit, visited, rangeWithin, rangeTree}
+use Rattle.search_rules.specs.Nearest.{keep, worst, opens, taken, turn, halvesInTurn, nearestWithin, nearestTree}
+use Rattle.bucket_rules.specs.Geometry.{leastOrder, mostOrder, validOrder, room, bucketsOf, headerRow, sizesRow, firstSlot, tableRows, workRows}
+use Rattle.bucket_rules.specs.Table.{rowAt, orderOf, tableSpace, builtOf, liveOf, inUse, liveTotal, slotsOf, liveSlots, pairRow, headerOf, putSizes, putBucket, emptied, cleared}
+use Rattle.bucket_rules.specs.Checks.{sizePasses, sizesPass, marksPass, tableRefusal, readRefusal, changeRefusal}
+use Rattle.bucket_rules.specs.Fresh.{freshRefusal, freshTable, tableAfterFresh}
+use Rattle.bucket_rules.specs.Rebuild.{liveItems, rebuilt}
+use Rattle.bucket_rules.specs.Add.{addRefusal, emptyFrom, lowestEmpty, gathered, addBucket, addTarget, added, addReply, tableAfterAdd, workAfterAdd}
+use Rattle.bucket_rules.specs.Remove.{removeRefusal, marked, united, thinned, settled, removed, removeReply, tableAfterRemove, workAfterRemove}
+use Rattle.bucket_rules.specs.LookUp.{placeFrom, placeIn, find, isLiveTag, lookUpRefusal, noProfile, notFound, lookUpReply}
+use Rattle.bucket_rules.specs.Search.{bucketsDown, rangeMet, rangeAnswer, nearestTally, nearestAnswer, fitRefusal, rangeRefusal, nearestRefusal, searchReply, zeroEntry, resultAfter, rangeReply, resultAfterRange, nearestReply, resultAfterNearest}
+use Rattle.image_rules.specs.Bytes.{bytesOf, numberOf, headerFields, tagFields, recordFields, bytesOfFields, headerBytes, tagBytes, recordBytes, sizeBytes, pairBytes, sizesEnd, tagWords, imageLength}
+use Rattle.image_rules.specs.Write.{headerBytesOf, sizesOf, tagsOf, recordsOf, allSlots, imageOf, writeRefusal, writeReply, imageAfterWrite}
+use Rattle.image_rules.specs.Read.{numberAt, fieldsAt, headerNumbers, orderIn, spaceIn, zerosIn, builtIn, liveIn, slotsBefore, slotsIn, rowIn, bucketIn}
+use Rattle.image_rules.specs.Load.{fieldsPass, bucketPasses, liveRows, slotsPass, bodyRefusal, loadRefusal, loadedTable, tableAfterLoad}
+use Rattle.history.specs.Calls.{Call, Lent, Outcome, withTable, withWork, withResult, withImage, areasAfter, replyTo, outcome}
+
+unfoldable pub performed : Call → Lent → Outcome
+unfolding
+    countFrom total select every flatten alike sameNumbers rowWidth tagAt measuresAt codeAt thresholdAt markAt zeroRow word wide words tagOf
+    profileOf thresholdOf markOf measure codeWord rowOf withThreshold withMark nationals countryOf nationalOf lastCountry lastNational validTag
+    measureLimit validMeasure validMeasures mostDistance saturated gap measureDistance differing codeDistance distanceBy distance
+    metricAt spaceOf lastMetric validSpace keyLe insertBy sortBy leftSize costWithin cost rankedFrom tagKey placed fromPivot nearKey lastDistance
+    split node layoutWithin layout isLayout entry entryDistance entryKey ordered isLive entersLeft entersRight nothing
+    both toQuery entryOf isHit visited rangeWithin rangeTree keep worst opens taken turn halvesInTurn nearestWithin
+    nearestTree leastOrder mostOrder validOrder room bucketsOf headerRow sizesRow firstSlot tableRows workRows rowAt
+    orderOf tableSpace builtOf liveOf inUse liveTotal slotsOf liveSlots pairRow headerOf putSizes putBucket emptied cleared
+    sizePasses sizesPass marksPass tableRefusal readRefusal changeRefusal freshRefusal freshTable tableAfterFresh
+    liveItems rebuilt addRefusal emptyFrom lowestEmpty gathered addBucket addTarget added addReply tableAfterAdd
+    workAfterAdd removeRefusal marked united thinned settled removed removeReply tableAfterRemove workAfterRemove
+    placeFrom placeIn find isLiveTag lookUpRefusal noProfile notFound lookUpReply bucketsDown rangeMet rangeAnswer
+    nearestTally nearestAnswer fitRefusal rangeRefusal nearestRefusal searchReply zeroEntry resultAfter rangeReply
+    resultAfterRange nearestReply resultAfterNearest bytesOf numberOf headerFields tagFields recordFields bytesOfFields headerBytes tagBytes
+    recordBytes sizeBytes pairBytes sizesEnd tagWords imageLength headerBytesOf sizesOf tagsOf recordsOf allSlots imageOf writeRefusal
+    writeReply imageAfterWrite numberAt fieldsAt headerNumbers orderIn spaceIn zerosIn builtIn liveIn slotsBefore slotsIn rowIn bucketIn
+    distinct fieldsPass bucketPasses liveRows slotsPass bodyRefusal loadRefusal loadedTable tableAfterLoad withTable
+    withWork withResult withImage areasAfter replyTo outcome
+performed c lent = outcome c lent

@@ -1,0 +1,185 @@
+-- A rebuild keeps the invariant: the tree of the items gathered is good, the buckets gathered from are empty, the rest is kept; the live items are permuted, the
+-- new ones with them, whatever a row has besides threshold and mark.
+use Prim.Native.Nat.{ℕ, _+_, _≤_}
+use mathlib.Core.Path.{_≡_, refl, sym, _∙_, ap, ap₂, subst}
+use mathlib.Core.Bool.{Bool, true, _&&_}
+use mathlib.Core.Logic.{inl, inr}
+use mathlib.Core.List.{List, [], _∷_, _++_, map, map-append, flatten, append-assoc, List·Permᴰ, List·Permᴰ·trans, Permᴰ·symm, Permᴰ·append-left}
+use native.Mathlib.Omega.{arith}
+use native.Mathlib.Decide.{ℕ-discrete}
+use lib.Dec.{leb}
+use lib.ListN.{length, length-map}
+use borrow.Author.Tests.{le-leb}
+use Rattle.metric_rules.specs.Lists.{distinct}
+use Rattle.metric_rules.specs.Row.{Row, IsRow, tagOf, profileOf, markOf, isLive}
+use Rattle.metric_rules.specs.Validity.{validTag, validMeasures}
+use Rattle.metric_rules.specs.Distance.{Space, distance}
+use Rattle.metric_rules.proofs.Laws.{distance-metric}
+use Rattle.tree_rules.specs.Layout.{layout, placed}
+use Rattle.tree_rules.specs.Guided.{All}
+use Rattle.tree_rules.proofs.Lists.{Pairs, all-weaken, all-both, all-append, all-perm, all-map, all-of-map, perm-length, perm-map, perm-of-eq}
+use Rattle.tree_rules.proofs.Tests.{and-first, and-pass, every-all, all-every}
+use Rattle.tree_rules.proofs.Distinct.{distinct-perm, distinct-left, distinct-of}
+use Rattle.tree_rules.proofs.Placed.{tag-placed, profile-placed}
+use Rattle.tree_rules.proofs.Layouts.{layout-length, layout-permutes}
+use Rattle.tree_rules.proofs.InPlace.{layout-is-layout}
+use Rattle.tree_rules.proofs.Built.{Fresh, layout-fresh}
+use Rattle.search_rules.proofs.Selecting.{select-all}
+use Rattle.bucket_rules.specs.Table.{Table, orderOf, tableSpace, builtOf, liveOf, slotsOf, liveSlots, emptied}
+use Rattle.bucket_rules.specs.Checks.{sizePasses}
+use Rattle.bucket_rules.specs.Rebuild.{liveItems, rebuilt}
+use Rattle.bucket_rules.proofs.Views.{Only, same-order, kept-built, kept-live}
+use Rattle.bucket_rules.proofs.Puts.{Holds, held-built, held-live, apart-or}
+use Rattle.bucket_rules.proofs.Live.{allLive, is-live, emptied-live, rebuilt-holds, rebuilt-only, rebuilt-empties, rebuilt-permutes}
+use Rattle.bucket_rules.proofs.Sizes.{size-none, size-used}
+use Rattle.bucket_rules.proofs.Adding.{Target}
+use Rattle.image_rules.specs.Load.{fieldsPass}
+use Rattle.history.proofs.ScannedLists.{select-all as all-selected}
+use Rattle.history.proofs.Standing.{Good, Stocked, Standing, good-none, standing-roomy, standing-changed}
+use Rattle.history.proofs.SoundStanding.{standing-good}
+
+-- tag and measures of a row are valid
+unfoldable pub validRow : Row → Bool
+validRow row = validTag (tagOf row) && validMeasures (profileOf row)
+
+pub valid-placed : (m : ℕ) (row : Row) → validRow (placed m row) ≡ validRow row
+unfolding validRow
+valid-placed m row = ap₂ (λ (a b : Bool). a && b) (ap validTag (tag-placed m row)) (ap validMeasures (profile-placed m row))
+
+pub valid-fields : (row : Row) → fieldsPass row ≡ true → validRow row ≡ true
+unfolding fieldsPass validRow
+valid-fields row h = and-first (validTag (tagOf row) && validMeasures (profileOf row)) (leb (markOf row) 1) h
+
+fields-fresh : (row : Row) → validRow row ≡ true → Fresh row → fieldsPass row ≡ true
+unfolding fieldsPass validRow
+fields-fresh row h f =
+    and-pass (validTag (tagOf row) && validMeasures (profileOf row)) (leb (markOf row) 1) h (le-leb (markOf row) 1 (omega (arith, f .mark)))
+
+-- the tree of some rows with valid fields and distinct tags
+module _ (space : Space) (rows : List Row) (whole : All IsRow rows) (valid : All (λ r. validRow r ≡ true) rows) (apart : distinct (map tagOf rows) ≡ true) where
+  tree-fresh : All Fresh (layout (distance space) rows)
+  tree-fresh = layout-fresh (distance space) (distance-metric space .fits) rows whole
+
+  tree-valid : All (λ r. validRow r ≡ true) (layout (distance space) rows)
+  tree-valid =
+      all-of-map validRow (λ b. b ≡ true) (layout (distance space) rows)
+      (all-perm (λ b. b ≡ true) (Permᴰ·symm (layout-permutes (distance space) validRow valid-placed rows)) (all-map validRow (λ b. b ≡ true) rows valid))
+
+  pub good-tree : Good space (layout (distance space) rows) (length rows)
+  good-tree =
+      record {
+        rows = all-weaken (λ r f. f .isRow) (layout (distance space) rows) tree-fresh;
+        lives =
+            ap length (select-all isLive (layout (distance space) rows) (all-weaken (λ r f. is-live r (f .mark)) (layout (distance space) rows) tree-fresh))
+            ∙ layout-length (distance space) rows;
+        fields = all-every fieldsPass (layout (distance space) rows) (all-both fields-fresh (layout (distance space) rows) tree-valid tree-fresh);
+        apart = distinct-perm (Permᴰ·symm (layout-permutes (distance space) tagOf tag-placed rows)) apart;
+        laid = layout-is-layout (distance space) rows (all-weaken (λ r i. i .width) rows whole) (distinct-of tagOf rows apart);
+      }
+
+-- what all slots of a table have its live items have
+pub live-all : (t : Table) (P : Row → Type 0) → ((k : ℕ) → k ≤ orderOf t → All P (slotsOf t k)) → (ks : List ℕ) → All (λ k. k ≤ orderOf t) ks → All P (liveItems t ks)
+unfolding liveItems flatten liveSlots
+live-all t P each [] h = tt
+live-all t P each (k ∷ ks) h = all-append P (liveSlots t k) (liveItems t ks) (all-selected isLive P (slotsOf t k) (each k (h .0))) (live-all t P each ks (h .1))
+
+-- the buckets listed gathered, with some new rows, and built in bucket k
+module _ {t : Table} (s : Standing t) (ks : List ℕ) (inOrder : All (λ k. k ≤ orderOf t) ks) (separate : Pairs (λ i j. i ≡ j → ⊥) ks)
+    (new : List Row) (newRows : All IsRow new) (newValid : All (λ r. validRow r ≡ true) new) (once : distinct (map tagOf (new ++ allLive t)) ≡ true)
+    (k : ℕ) (target : Target t ks k (length (new ++ liveItems t ks))) where
+  gathered-rows : All IsRow (new ++ liveItems t ks)
+  gathered-rows = all-append IsRow new (liveItems t ks) newRows (live-all t IsRow (λ j h. standing-good s j h .rows) ks inOrder)
+
+  gathered-valid : All (λ r. validRow r ≡ true) (new ++ liveItems t ks)
+  gathered-valid =
+      all-append (λ r. validRow r ≡ true) new (liveItems t ks) newValid
+      (live-all t (λ r. validRow r ≡ true)
+      (λ j h. all-weaken valid-fields (slotsOf t j) (every-all fieldsPass (slotsOf t j) (standing-good s j h .fields))) ks inOrder)
+
+  gathered-once : distinct (map tagOf (new ++ liveItems t ks)) ≡ true
+  gathered-once =
+      let rest : List Row = allLive (emptied ks t) in
+      let all : List·Permᴰ (new ++ allLive t) ((new ++ liveItems t ks) ++ rest) =
+      List·Permᴰ·trans (Permᴰ·append-left new (emptied-live ks t (standing-roomy s) inOrder separate))
+      (perm-of-eq (sym (append-assoc new (liveItems t ks) rest))) in
+      distinct-left (map tagOf (new ++ liveItems t ks)) (map tagOf rest)
+      (subst (λ (ns : List ℕ). distinct ns ≡ true) (map-append tagOf (new ++ liveItems t ks) rest) (distinct-perm (perm-map tagOf all) once))
+
+  tree-held : Holds (rebuilt t ks k (new ++ liveItems t ks) .table) k (layout (distance (tableSpace t)) (new ++ liveItems t ks)) (length (new ++ liveItems t ks))
+  tree-held = rebuilt-holds t (standing-roomy s) ks inOrder k (target .reached) (new ++ liveItems t ks) (target .fits)
+
+  tree-only : Only (λ j. All (λ i. j ≡ i → ⊥) (k ∷ ks)) t (rebuilt t ks k (new ++ liveItems t ks) .table)
+  tree-only = rebuilt-only t (standing-roomy s) ks inOrder k (target .reached) (new ++ liveItems t ks) (target .fits)
+
+  -- bucket j afterwards: kept, or the tree, or empty
+  data After (j : ℕ) : Type 0 where
+    kept : All (λ i. j ≡ i → ⊥) (k ∷ ks) → After j
+    built : j ≡ k → After j
+    empty : Holds (rebuilt t ks k (new ++ liveItems t ks) .table) j [] 0 → After j
+
+  after-each : (j : ℕ) → After j
+  after-each j =
+      elim (ℕ-discrete j k) [
+        | yes e ↦ built e
+        | no ne ↦
+            elim (apart-or (λ i. (i ≡ k → ⊥) → Holds (rebuilt t ks k (new ++ liveItems t ks) .table) i [] 0) j ks
+            (rebuilt-empties t (standing-roomy s) ks inOrder k (target .reached) (new ++ liveItems t ks) (target .fits))) [
+              | inl a ↦ kept (ne, a)
+              | inr held ↦ empty (held ne)
+            ]
+      ]
+
+  pub rebuilt-standing : Standing (rebuilt t ks k (new ++ liveItems t ks) .table)
+  rebuilt-standing =
+      standing-changed s tree-only
+      (λ j h. elim (after-each j) [
+        | kept a ↦ inl a
+        | built e ↦
+            inr
+            (subst (Stocked (tableSpace t) (rebuilt t ks k (new ++ liveItems t ks) .table)) (sym e)
+            (record {
+              slots = layout (distance (tableSpace t)) (new ++ liveItems t ks);
+              live = length (new ++ liveItems t ks);
+              held = tree-held;
+              good = good-tree (tableSpace t) (new ++ liveItems t ks) gathered-rows gathered-valid gathered-once;
+            }))
+        | empty held ↦ inr (record { slots = []; live = 0; held = held; good = good-none (tableSpace t) })
+      ])
+
+  tree-size : sizePasses k (builtOf (rebuilt t ks k (new ++ liveItems t ks) .table) k) (liveOf (rebuilt t ks k (new ++ liveItems t ks) .table) k) ≡ true
+  tree-size =
+      let n : ℕ = length (new ++ liveItems t ks) in
+      let number : builtOf (rebuilt t ks k (new ++ liveItems t ks) .table) k ≡ n = held-built tree-held ∙ layout-length (distance (tableSpace t)) (new ++ liveItems t ks) in
+      ap₂ (sizePasses k) number (held-live tree-held)
+      ∙ size-used k n n (record { live-built = omega arith; built-room = target .fits; half = target .half; quarter = omega (arith, target .half) })
+
+  -- sizes pass where those of the other buckets did
+  pub rebuilt-sizes :
+      ((j : ℕ) → j ≤ orderOf t → All (λ i. j ≡ i → ⊥) (k ∷ ks) → sizePasses j (builtOf t j) (liveOf t j) ≡ true)
+      → (j : ℕ) → j ≤ orderOf (rebuilt t ks k (new ++ liveItems t ks) .table)
+      → sizePasses j (builtOf (rebuilt t ks k (new ++ liveItems t ks) .table) j) (liveOf (rebuilt t ks k (new ++ liveItems t ks) .table) j) ≡ true
+  rebuilt-sizes before j h =
+      let below : j ≤ orderOf t = omega (arith, h, same-order (tree-only .header)) in
+      elim (after-each j) [
+        | kept a ↦
+            (let same = tree-only .others j below a in
+            ap₂ (sizePasses j) (kept-built same) (kept-live same) ∙ before j below a)
+        | built e ↦ subst (λ (i : ℕ). sizePasses i (builtOf (rebuilt t ks k (new ++ liveItems t ks) .table) i) (liveOf (rebuilt t ks k (new ++ liveItems t ks) .table) i) ≡ true) (sym e) tree-size
+        | empty held ↦ ap₂ (sizePasses j) (held-built held) (held-live held) ∙ size-none j
+      ]
+
+  pub rebuilt-live :
+      {B : Type 0} (f : Row → B) → ((m : ℕ) (row : Row) → f (placed m row) ≡ f row)
+      → List·Permᴰ (map f (allLive (rebuilt t ks k (new ++ liveItems t ks) .table))) (map f (new ++ allLive t))
+  rebuilt-live f same =
+      rebuilt-permutes t (standing-roomy s) ks inOrder k (target .reached) (new ++ liveItems t ks) (target .fits) separate (target .vacant) gathered-rows f same new
+      refl
+
+  pub rebuilt-once : distinct (map tagOf (allLive (rebuilt t ks k (new ++ liveItems t ks) .table))) ≡ true
+  rebuilt-once = distinct-perm (Permᴰ·symm (rebuilt-live tagOf tag-placed)) once
+
+  pub rebuilt-number : length (allLive (rebuilt t ks k (new ++ liveItems t ks) .table)) ≡ length (new ++ allLive t)
+  rebuilt-number =
+      sym (length-map (allLive (rebuilt t ks k (new ++ liveItems t ks) .table)) tagOf)
+      ∙ perm-length (rebuilt-live tagOf tag-placed)
+      ∙ length-map (new ++ allLive t) tagOf

@@ -1,0 +1,177 @@
+-- Every refusal number of 01 at least once, with what the areas then hold: a refusal replies its number and zeros and leaves every area as it
+-- was, but 6 on range and nearest leaves the result area all zero. Each is a run that antt computes.
+use Prim.Native.Nat.{ℕ, _+_, _^_}
+use mathlib.Core.Path.{_≡_, refl}
+use mathlib.Core.List.{List, [], _∷_, _++_}
+use lib.IntN.{pos, negsuc}
+use lib.ListN.{set, take, replicate}
+use Rattle.metric_rules.specs.declared.Profile.{Profile}
+use Rattle.metric_rules.specs.Row.{zeroRow, rowOf, withMark}
+use Rattle.bucket_rules.specs.Geometry.{firstSlot}
+use Rattle.bucket_rules.specs.Table.{Table, rowAt, pairRow, putSizes}
+use Rattle.bucket_rules.specs.LookUp.{notFound}
+use Rattle.history.specs.Calls.{Call, Lent, Reply, Outcome}
+use Rattle.history.specs.Calls.Call.{fresh, load, add, remove, lookUp, range, nearest, write}
+use Rattle.history.specs.Calls.Reply.{number, added, removed, lookedUp, searched, written}
+use Rattle.history.proofs.Computing.{performed}
+use Rattle.history.proofs.Running.{by, tag, valued, areas, table}
+
+-- the herd's table, written out, so that no try works it out again; and that it is the herd's
+laid : Table
+unfolding rowOf tag valued zeroRow pairRow
+laid =
+    (pairRow 2 0 ∷ zeroRow ∷ zeroRow ∷ pairRow 4 4 ∷ zeroRow ∷ zeroRow ∷ zeroRow ∷ [])
+    ++ (rowOf (tag 1) (valued 10) 3 0 ∷ rowOf (tag 2) (valued 13) 0 0 ∷ rowOf (tag 3) (valued 13) 0 0 ∷ rowOf (tag 4) (valued 20) 0 0 ∷ [])
+    ++ replicate 10 (replicate 12 6)
+
+herds : table ≡ laid
+unfolding table laid
+herds = refl
+
+-- a call with the areas lent to it
+record Try : Type 0 where
+  call : Call
+  lent : Lent
+
+on : Table → Call → Try
+unfolding areas
+on t c = record { call = c; lent = areas t }
+
+outcomes : List Try → List Outcome
+unfolding performed
+outcomes [] = []
+outcomes (x ∷ xs) = performed (x .call) (x .lent) ∷ outcomes xs
+
+-- every area as it was, with these replies
+refusals : List Reply → List Try → List Outcome
+refusals [] xs = []
+refusals (r ∷ rs) [] = []
+refusals (r ∷ rs) (x ∷ xs) = record { reply = r; areas = x .lent } ∷ refusals rs xs
+
+noAdd : ℕ → Reply
+noAdd n = added (record { refusal = n; bucket = 0; distances = 0 })
+
+noRemove : ℕ → Reply
+noRemove n = removed (record { refusal = n; distances = 0 })
+
+noProfile : ℕ → Reply
+unfolding notFound
+noProfile n = lookedUp (notFound n)
+
+noSearch : ℕ → Reply
+noSearch n = searched (record { refusal = n; found = 0; distances = 0 })
+
+noImage : ℕ → Reply
+noImage n = written (record { refusal = n; length = 0 })
+
+below : Profile
+below = record { measures = pos 0 ∷ pos 0 ∷ pos 0 ∷ negsuc 1_000_000 ∷ []; code = 0 ∷ 0 ∷ [] }
+
+shortWork : Lent
+unfolding laid
+shortWork = record { table = laid; work = replicate 3 (replicate 12 7); result = []; image = [] }
+
+-- the herd with another header; other sizes in bucket 2, or a fifth live item in bucket 0; and a mark that is neither 0 nor 1
+headed : ℕ → ℕ → Table
+unfolding pairRow laid
+headed order metric = set laid 0 (pairRow order metric)
+
+sized : ℕ → ℕ → ℕ → Table
+unfolding putSizes laid
+sized k built live = putSizes k built live laid
+
+misMarked : Table
+unfolding withMark rowAt firstSlot laid
+misMarked = let at = firstSlot 2 2 + 1 in set laid at (withMark 2 (rowAt laid at))
+
+tries : List Try
+unfolding on laid tag valued below shortWork headed sized misMarked
+tries =
+    on laid (add (10 ^ 12) (valued 1_000_001))
+    ∷ on laid (add 999_999_999_999 (valued 1_000_001))
+    ∷ on laid (remove (10 ^ 15))
+    ∷ on laid (lookUp 0)
+    ∷ on laid (add (tag 4) below)
+    ∷ on laid (range below 0)
+    ∷ on laid (nearest below 0)
+    ∷ on laid (fresh 13 (by 2))
+    ∷ on laid (fresh 12 (by 2))
+    ∷ on laid (nearest (valued 0) 0)
+    ∷ on laid write
+    ∷ on laid (load (0 ∷ 0 ∷ 0 ∷ []))
+    ∷ on laid (load (13 ∷ 2 ∷ 1 ∷ 0 ∷ []))
+    ∷ on laid (load (0 ∷ 2 ∷ 1 ∷ 0 ∷ []))
+    ∷ on laid (load (0 ∷ 0 ∷ 1 ∷ 0 ∷ []))
+    ∷ on laid (load (0 ∷ 0 ∷ 0 ∷ 0 ∷ 1 ∷ 0 ∷ 0 ∷ []))
+    ∷ on laid (load (0 ∷ 0 ∷ 0 ∷ 0 ∷ 1 ∷ 0 ∷ 0 ∷ 0 ∷ []))
+    ∷ on laid (load (0 ∷ 0 ∷ 0 ∷ 0 ∷ 1 ∷ 0 ∷ 1 ∷ 0 ∷ []))
+    ∷ on [] (load (0 ∷ 0 ∷ 0 ∷ 0 ∷ 0 ∷ 0 ∷ 0 ∷ 0 ∷ []))
+    ∷ on laid (load (0 ∷ 0 ∷ 0 ∷ 0 ∷ 1 ∷ 0 ∷ 1 ∷ 0 ∷ replicate 48 0))
+    ∷ on laid (add (tag 4) (valued 0))
+    ∷ on laid (remove (tag 5))
+    ∷ on laid (lookUp (tag 5))
+    ∷ on laid (add (tag 5) (valued 0))
+    ∷ on [] (add 0 below)
+    ∷ on (take 10 laid) (lookUp 0)
+    ∷ on (take 10 laid) (fresh 2 (by 0))
+    ∷ record { call = add (tag 5) (valued 0); lent = shortWork }
+    ∷ on (take 1 (headed 13 0)) (remove 0)
+    ∷ on (headed 2 2) (range below 0)
+    ∷ on (sized 2 4 1) (lookUp 0)
+    ∷ on (sized 0 1 1) write
+    ∷ on misMarked (add 0 below)
+    ∷ []
+
+-- in the order of the tries: the first number that applies
+expected : List Reply
+unfolding noAdd noRemove noProfile noSearch noImage
+expected =
+    noAdd 2
+    ∷ noAdd 1
+    ∷ noRemove 1
+    ∷ noProfile 1
+    ∷ noAdd 2
+    ∷ noSearch 2
+    ∷ noSearch 2
+    ∷ number 3
+    ∷ number 4
+    ∷ noSearch 5
+    ∷ noImage 6
+    ∷ number 7
+    ∷ number 3
+    ∷ number 4
+    ∷ number 8
+    ∷ number 7
+    ∷ number 24
+    ∷ number 7
+    ∷ number 23
+    ∷ number 8
+    ∷ noAdd 20
+    ∷ noRemove 21
+    ∷ noProfile 21
+    ∷ noAdd 22
+    ∷ noAdd 23
+    ∷ noProfile 23
+    ∷ number 23
+    ∷ noAdd 23
+    ∷ noRemove 24
+    ∷ noSearch 24
+    ∷ noProfile 24
+    ∷ noImage 24
+    ∷ noAdd 24
+    ∷ []
+
+unchanged : outcomes tries ≡ refusals expected tries
+unfolding outcomes refusals tries expected
+unchanged = refl
+
+-- 6 on range and nearest: four and two entries for an area of one
+shortResult : ℕ → Lent
+unfolding laid
+shortResult n = record { table = laid; work = []; result = (n ∷ n ∷ []) ∷ []; image = [] }
+
+zeroed :
+    outcomes (record { call = range (valued 0) 99; lent = shortResult 8 } ∷ record { call = nearest (valued 0) 2; lent = shortResult 8 } ∷ [])
+    ≡ record { reply = noSearch 6; areas = shortResult 0 } ∷ record { reply = noSearch 6; areas = shortResult 0 } ∷ []
+unfolding outcomes valued shortResult noSearch
+zeroed = refl

@@ -1,0 +1,119 @@
+-- The table after one call of a list: where the call is refused or only reads, it matches the model as before, and the model is as it was; where it is
+-- accepted, it is enough that the changed table matches the changed model. What a call does not reach is kept by the state.
+use Prim.Native.Nat.{ℕ, zero, suc}
+use mathlib.Core.Path.{_≡_, refl, sym, _∙_, ap, ap₂, subst}
+use mathlib.Core.List.{[], _++_, map, append-nil}
+use lib.ListN.{length, take, drop, length-append, take-append-drop, drop-of-length-le}
+use lib.Seq.{take-all, take-append-le}
+use native.Mathlib.Nat.{lt-of-not-le}
+use native.Mathlib.Omega.{arith}
+use native.Mathlib.Decide.{decLe}
+use Rattle.bucket_rules.specs.Geometry.{tableRows}
+use Rattle.bucket_rules.specs.Table.{Table, orderOf}
+use Rattle.bucket_rules.specs.Fresh.{freshRefusal, freshTable, tableAfterFresh}
+use Rattle.bucket_rules.specs.Add.{added, tableAfterAdd}
+use Rattle.bucket_rules.specs.Remove.{removed, tableAfterRemove}
+use Rattle.image_rules.specs.Read.{orderIn, spaceIn}
+use Rattle.image_rules.specs.Load.{loadRefusal, liveRows, loadedTable, tableAfterLoad}
+use Rattle.history.specs.Calls.{Call, Lent, areasAfter, outcome, withTable, withWork, withResult, withImage}
+use Rattle.history.specs.Calls.Call.{fresh, load, add, remove, lookUp, range, nearest, write}
+use Rattle.history.specs.Trace.{Step, State, overlaid, leftBy, stepOutcome, stateAfter}
+use Rattle.history.specs.Model.{itemOf, Model, Answered, lengthsOf, with, without, canChange, tagRefusal, itemRefusal, becomes, finds, unless, answer, answerAt}
+use Rattle.history.proofs.ScannedItems.{Matches}
+use Rattle.history.proofs.ScannedRefusals.{changeable, add-refusal, remove-refusal}
+use Rattle.history.proofs.ScannedShown.{enough-accepts}
+use Rattle.history.proofs.ScannedOwn.{matches-own}
+use Rattle.history.proofs.ScannedStep.{overlaid-length, overlaid-lendable}
+
+-- rows past the table do not matter
+pub matches-longer : {t : Table} {m : Model} → Matches t m → (rest : Table) → Matches (t ++ rest) m
+matches-longer {t} ok rest =
+    matches-own ok (t ++ rest) (take-append-le (tableRows (orderOf t)) t rest (ok .sound .long)) (omega (arith, ok .sound .long, length-append t rest))
+
+-- a call that leaves its area as lent leaves the table as it was, with what the area has past it
+pub left-kept : (left area : Table) → leftBy left (overlaid left area) ≡ left ++ drop (length left) area
+unfolding leftBy overlaid
+left-kept left area =
+    let past = drop (length left) area in
+    let n = length area in
+    ap (λ (i : ℕ). overlaid left area ++ drop i left) (overlaid-length left area)
+    ∙ elim (decLe n (length left)) [
+      | yes h ↦
+          (let none : past ≡ [] = drop-of-length-le area {i = length left} h in
+          ap (λ (d : Table). take n left ++ d ++ drop n left) none
+          ∙ ap (λ (d : Table). d ++ drop n left) (append-nil (take n left))
+          ∙ take-append-drop n left
+          ∙ sym (append-nil left)
+          ∙ ap (λ (d : Table). left ++ d) (sym none))
+      | no h ↦
+          (let less = lt-of-not-le h in
+          ap₂ (λ (a b : Table). a ++ past ++ b) (take-all n left (omega arith)) (drop-of-length-le left {i = n} (omega arith)) ∙ append-nil (left ++ past))
+    ]
+
+-- what is to be shown of an accepted call that changes the table: the changed table matches the changed model
+abbrev pub Change : Call → Table → Model → Type 0
+Change (fresh order space) t m = freshRefusal (length t) order space ≡ 0 → Matches (freshTable order space t) (record { order = order; space = space; items = [] })
+Change (load image) t m =
+    loadRefusal (length t) image ≡ 0 → Matches (loadedTable image t) (record { order = orderIn image; space = spaceIn image; items = map itemOf (liveRows image) })
+Change (add tag p) t m = Matches t m → itemRefusal m tag p ≡ 0 → Matches (added t tag p .table) (with (record { tag = tag; profile = p }) m)
+Change (remove tag) t m = Matches t m → tagRefusal m tag ≡ 0 → Matches (removed t tag .table) (without tag m)
+Change (lookUp tag) t m = Unit {0}
+Change (range q r) t m = Unit {0}
+Change (nearest q k) t m = Unit {0}
+Change write t m = Unit {0}
+
+module _ {left : Table} {m : Model} (ok : Matches left m) where
+  pub matches-left : (area : Table) → Matches (leftBy left (overlaid left area)) m
+  matches-left area = subst (λ (t : Table). Matches t m) (sym (left-kept left area)) (matches-longer ok (drop (length left) area))
+
+  -- a call that changes the table where its refusal is 0, and the model by the same number
+  by-refusal : (area : Table) (n r : ℕ) → n ≡ r → (changed : Table) (after : Model) → (r ≡ 0 → Matches changed after)
+      → Matches (leftBy left (elim n as (λ _. Table) [ zero ↦ changed | suc j ↦ overlaid left area ])) (unless r m (becomes after) .model)
+  unfolding unless becomes leftBy
+  by-refusal area n r e changed after h = subst (λ (k : ℕ). Matches (leftBy left (elim k as (λ _. Table) [ zero ↦ changed | suc j ↦ overlaid left area ])) (unless r m (becomes after) .model)) (sym e) (go r h)
+    where
+      go : (k : ℕ) → (k ≡ 0 → Matches changed after)
+          → Matches (leftBy left (elim k as (λ _. Table) [ zero ↦ changed | suc j ↦ overlaid left area ])) (unless k m (becomes after) .model)
+      go zero f = matches-longer (f refl) (drop (length changed) left)
+      go (suc k) f = matches-left area
+
+  -- a search or a look up changes neither
+  by-reading : (area : Table) (r : ℕ) (a : Answered) → a .model ≡ m → Matches (leftBy left (overlaid left area)) (unless r m a .model)
+  unfolding unless
+  by-reading area zero a e = subst (Matches (leftBy left (overlaid left area))) (sym e) (matches-left area)
+  by-reading area (suc r) a e = matches-left area
+
+  after-call : (c : Call) (given : Lent)
+      → Change c (overlaid left (given .table)) m
+      → Matches (leftBy left (areasAfter c (withTable (overlaid left (given .table)) given) .table)) (answer m c (lengthsOf (withTable (overlaid left (given .table)) given)) .model)
+  unfolding areasAfter answer withTable withWork withResult withImage lengthsOf finds becomes tableAfterFresh tableAfterLoad tableAfterAdd tableAfterRemove
+  after-call (fresh order space) given change = by-refusal (given .table) _ _ refl _ _ change
+  after-call (load image) given change = by-refusal (given .table) _ _ refl _ _ change
+  after-call (add tag p) given change =
+      let lent = withTable (overlaid left (given .table)) given in
+      let lendable = overlaid-lendable ok (given .table) in
+      by-refusal (given .table) _ _ (add-refusal m lent lendable tag p) _ _
+      (λ e.
+      let accepted = enough-accepts (canChange m (lengthsOf lent)) (itemRefusal m tag p) e in
+      change (changeable m lent lendable (accepted .0)) (accepted .1))
+  after-call (remove tag) given change =
+      let lent = withTable (overlaid left (given .table)) given in
+      let lendable = overlaid-lendable ok (given .table) in
+      by-refusal (given .table) _ _ (remove-refusal m lent lendable tag) _ _
+      (λ e.
+      let accepted = enough-accepts (canChange m (lengthsOf lent)) (tagRefusal m tag) e in
+      change (changeable m lent lendable (accepted .0)) (accepted .1))
+  after-call (lookUp tag) given change = by-reading (given .table) _ _ refl
+  after-call (range q r) given change = by-reading (given .table) _ _ refl
+  after-call (nearest q k) given change = by-reading (given .table) _ _ refl
+  after-call write given change = matches-left (given .table)
+
+-- one call of a list: the table after it matches the model after it
+pub step-matches : (state : State) (m : Model) → Matches (state .table) m → (s : Step) → Change (s .call) (overlaid (state .table) (s .lent .table)) m
+    → Matches (stateAfter state s .table) (answerAt m s .model)
+unfolding stateAfter stepOutcome outcome answerAt lengthsOf withTable
+step-matches state m ok s change =
+    subst
+    (λ (n : ℕ). Matches (stateAfter state s .table) (answer m (s .call) (record { table = n; work = length (s .lent .work); result = length (s .lent .result) }) .model))
+    (overlaid-length (state .table) (s .lent .table))
+    (after-call ok (s .call) (s .lent) change)

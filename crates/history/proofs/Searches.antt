@@ -1,0 +1,109 @@
+-- Searches worked by hand from 01's "Searching": equal bounds, dead and foreign slots, both metrics, ties of rank, and the largest distance.
+-- Each is a run that antt computes. A reply is refusal, found, distances and then each entry's tag and distance.
+use Prim.Native.Nat.{ℕ, _+_, _-_, _^_}
+use mathlib.Core.Path.{_≡_, refl}
+use mathlib.Core.List.{List, [], _∷_, map}
+use lib.IntN.{ℤ, pos, negsuc}
+use lib.ListN.{set}
+use Rattle.metric_rules.specs.declared.Profile.{Profile}
+use Rattle.metric_rules.specs.Row.{Row, word, rowOf, tagOf, thresholdOf, withThreshold, withMark}
+use Rattle.metric_rules.specs.Distance.{distance, measureDistance}
+use Rattle.tree_rules.specs.Layout.{layout}
+use Rattle.bucket_rules.specs.Geometry.{firstSlot}
+use Rattle.bucket_rules.specs.Table.{Table, rowAt}
+use Rattle.history.specs.Calls.Call.{fresh, add, lookUp, range, nearest}
+use Rattle.history.proofs.Running.{by, tag, valued, scratch, replies, after, removing, table}
+
+-- four items in one tree of order 2, by their nationals and values
+four : ℕ → ℕ → ℕ → ℕ → ℕ → ℕ → ℕ → ℕ → Table
+unfolding after scratch tag valued
+four a va b vb c vc d vd =
+    after scratch
+    (fresh 2 (by 0) ∷ add (tag a) (valued va) ∷ add (tag b) (valued vb) ∷ add (tag c) (valued vc) ∷ add (tag d) (valued vd) ∷ [])
+
+-- the herd with another threshold in the first slot, or another mark in the second
+foreign : (Row → Row) → ℕ → Table
+unfolding rowAt firstSlot table
+foreign f i = let at = firstSlot 2 2 + i in set table at (f (rowAt table at))
+
+coded : ℕ → ℕ → Profile
+coded a b = record { measures = pos 0 ∷ pos 0 ∷ pos 0 ∷ pos 0 ∷ []; code = a ∷ b ∷ [] }
+
+-- metric 1: codes of no ones, and of 65
+codes : Table
+unfolding after scratch tag coded
+codes = after scratch (fresh 1 (by 1) ∷ add (tag 1) (coded 0 0) ∷ add (tag 2) (coded (2 ^ 64 - 1) 1) ∷ [])
+
+searches : List (List (List ℕ))
+unfolding replies after scratch table four foreign coded codes valued tag removing withThreshold withMark
+searches =
+    replies table (range (valued 0) 4_294_967_295 ∷ nearest (valued 0) 9 ∷ nearest (valued 13) 2 ∷ [])
+    ∷ replies (after scratch (fresh 2 (by 0) ∷ [])) (range (valued 0) 5 ∷ nearest (valued 0) 5 ∷ [])
+    ∷ replies table (range (valued 16) 3 ∷ range (valued 16) 2 ∷ [])
+    ∷ replies (four 1 10 2 13 3 13 4 13) (range (valued 11) 2 ∷ range (valued 11) 1 ∷ [])
+    ∷ replies (four 1 0 2 10 3 14 4 1) (nearest (valued 12) 1 ∷ [])
+    ∷ replies (four 1 100 9 102 3 90 4 110) (nearest (valued 106) 1 ∷ [])
+    ∷ replies (after table (removing (2 ∷ []))) (range (valued 13) 0 ∷ nearest (valued 13) 1 ∷ [])
+    ∷ replies (foreign (withThreshold 0) 0) (range (valued 13) 0 ∷ [])
+    ∷ replies (foreign (withMark 5) 1) (range (valued 13) 0 ∷ lookUp (tag 2) ∷ lookUp (tag 3) ∷ [])
+    ∷ replies codes
+    (range (coded 0 0) 64 ∷ range (coded 0 0) 65 ∷ nearest (coded (2 ^ 64 - 1) (2 ^ 64 - 1)) 1 ∷ [])
+    ∷ []
+
+worked :
+    searches
+    ≡ ( -- the largest radius reports every live item; so does a k above their number; k 2 keeps both at 0
+    ((0 ∷ 4 ∷ 4 ∷ tag 1 ∷ 10 ∷ tag 2 ∷ 13 ∷ tag 3 ∷ 13 ∷ tag 4 ∷ 20 ∷ [])
+    ∷ (0 ∷ 4 ∷ 4 ∷ tag 1 ∷ 10 ∷ tag 2 ∷ 13 ∷ tag 3 ∷ 13 ∷ tag 4 ∷ 20 ∷ [])
+    ∷ (0 ∷ 2 ∷ 4 ∷ tag 2 ∷ 0 ∷ tag 3 ∷ 0 ∷ [])
+    ∷ [])
+    -- an empty table: found 0, count 0
+    ∷ ((0 ∷ 0 ∷ 0 ∷ []) ∷ (0 ∷ 0 ∷ 0 ∷ []) ∷ [])
+    -- d = 6 from head 1, threshold 3: left at r 3 (6 ≤ 6), not at r 2
+    ∷ ((0 ∷ 2 ∷ 4 ∷ tag 2 ∷ 3 ∷ tag 3 ∷ 3 ∷ []) ∷ (0 ∷ 0 ∷ 2 ∷ []) ∷ [])
+    -- 2, 3 and 4 all at 3 from head 1, 4 on the right: d = 1, right at r 2 (1 + 2 ≥ 3), not at r 1
+    ∷ ((0 ∷ 4 ∷ 4 ∷ tag 1 ∷ 1 ∷ tag 2 ∷ 2 ∷ tag 3 ∷ 2 ∷ tag 4 ∷ 2 ∷ []) ∷ (0 ∷ 1 ∷ 2 ∷ tag 1 ∷ 1 ∷ []) ∷ [])
+    -- d = 12 > 10, right first: 3 at 2; then left at the equal bound 12 ≤ 10 + 2: the lower tag 2 at 2
+    ∷ ((0 ∷ 1 ∷ 4 ∷ tag 2 ∷ 2 ∷ []) ∷ [])
+    -- d = 6 ≤ 10, left first: 9 at 4; then right at the equal bound 6 + 4 ≥ 10: the lower tag 4 at 4
+    ∷ ((0 ∷ 1 ∷ 4 ∷ tag 4 ∷ 4 ∷ []) ∷ [])
+    -- a dead slot is counted and guides, and is not reported
+    ∷ ((0 ∷ 1 ∷ 4 ∷ tag 3 ∷ 0 ∷ []) ∷ (0 ∷ 1 ∷ 4 ∷ tag 3 ∷ 0 ∷ []) ∷ [])
+    -- a foreign threshold 0 in the first slot: left not at 3 ≤ 0, right at 3 ≥ 0, where 4 is no hit
+    ∷ ((0 ∷ 0 ∷ 2 ∷ []) ∷ [])
+    -- a foreign mark is dead
+    ∷ ((0 ∷ 1 ∷ 4 ∷ tag 3 ∷ 0 ∷ []) ∷ (21 ∷ 0 ∷ []) ∷ (0 ∷ 2 ∷ []) ∷ [])
+    -- metric 1: 65 bits differ; from all ones 128 and 63
+    ∷ ((0 ∷ 1 ∷ 2 ∷ tag 1 ∷ 0 ∷ []) ∷ (0 ∷ 2 ∷ 2 ∷ tag 1 ∷ 0 ∷ tag 2 ∷ 65 ∷ []) ∷ (0 ∷ 1 ∷ 2 ∷ tag 2 ∷ 63 ∷ []) ∷ [])
+    ∷ [])
+unfolding searches tag
+worked = refl
+
+-- Equal tags, ranked by the order gathered at depth 2 too: from tag 5 at 0 the left half is tag 7 at 1 (gathered last) and tag 7 at 2 (gathered
+-- second), and of these the one gathered first is the half's first slot
+ties :
+    map (λ row. tagOf row ∷ thresholdOf row ∷ word row 2 ∷ [])
+    (layout (distance (by 0)) (rowOf 5 (valued 0) 0 0 ∷ rowOf 7 (valued 2) 0 0 ∷ rowOf 9 (valued 50) 0 0 ∷ rowOf 7 (valued 1) 0 0 ∷ []))
+    ≡ (5 ∷ 2 ∷ 0 ∷ []) ∷ (7 ∷ 1 ∷ 2 ∷ []) ∷ (7 ∷ 0 ∷ 1 ∷ []) ∷ (9 ∷ 0 ∷ 50 ∷ []) ∷ []
+unfolding tagOf thresholdOf word layout distance rowOf valued
+ties = refl
+
+measured : ℤ → ℤ → ℤ → ℤ → Profile
+measured a b c d = record { measures = a ∷ b ∷ c ∷ d ∷ []; code = 0 ∷ 0 ∷ [] }
+
+-- the ends of 32 bits: one difference of 2^32 - 1 is itself, two of 2^31 are one too many, and four of the largest are far too many
+largest : List ℕ
+unfolding measureDistance measured
+largest =
+    let low = negsuc (2 ^ 31 - 1) in
+    let high = pos (2 ^ 31 - 1) in
+    let none = pos 0 in
+    measureDistance (measured low none none none) (measured high none none none)
+    ∷ measureDistance (measured low none low none) (measured none none none none)
+    ∷ measureDistance (measured low low low low) (measured high high high high)
+    ∷ measureDistance (measured low none high none) (measured none none none none)
+    ∷ []
+
+saturates : largest ≡ 4_294_967_295 ∷ 4_294_967_295 ∷ 4_294_967_295 ∷ 4_294_967_295 ∷ []
+unfolding largest
+saturates = refl

@@ -1,0 +1,41 @@
+-- START HERE. What is claimed of the index, one demand after the other; the theorem that proves a claim stands in proofs/Theorems under the
+-- name given.
+--
+-- Demand 1. Every call, for every input and every lent area, replies and leaves what the rules say: the refusal that comes first in their order
+-- and only under its condition, and every reply, count and area. It is the contract of each public call, which has no `requires` and cites
+-- the definitions that `specs/Calls` joins: `replyTo` and `areasAfter`.
+use Prim.Native.Nat.{ℕ, _^_, _≤_, _<_}
+use mathlib.Core.Path.{_≡_}
+use mathlib.Core.List.{List}
+use lib.ListN.{length}
+use Rattle.tree_rules.specs.Guided.{All}
+use Rattle.bucket_rules.specs.Geometry.{tableRows}
+use Rattle.image_rules.specs.Read.{orderIn}
+use Rattle.history.specs.Calls.{Lent, replyTo}
+use Rattle.history.specs.Calls.Call.{load}
+use Rattle.history.specs.Calls.Reply.{number}
+use Rattle.history.specs.History.{History, finalState, finalModel}
+use Rattle.history.specs.Images.{imageSize, LoadsBack, GivesBack}
+use Rattle.history.specs.Represents.{Holds}
+
+-- Demands 2 and 3, one claim over every list of calls on one table, refused ones too, that an accepted fresh or load began (`History`): at each call
+-- table and reference model show the same; after the list the buckets and trees are those of the published method, they hold the model's items,
+-- range and nearest answer as a scan of them, and all rebuilds together keep within 4·T·(T+1)·A + 11·T·R distances.
+-- Theorem: `every-list`
+abbrev pub EveryList : Type 0
+EveryList = (h : History) → Holds h
+
+-- Demand 2, images. After every such list, writing is accepted wherever table area and byte area are long enough, and what it wrote loads, into any
+-- table area that is long enough, as the table it came from.
+-- Theorem: `written-loads`
+abbrev pub WrittenLoads : Type 0
+WrittenLoads =
+    (h : History) (lent area : Lent) → tableRows (finalModel h .order) ≤ length (lent .table) → imageSize (finalState h .table) ≤ length (lent .image)
+    → tableRows (finalModel h .order) ≤ length (area .table) → LoadsBack (finalState h .table) lent area
+
+-- And whatever bytes are handed to load: they are accepted only if writing the loaded table, into any areas that are long enough, gives them back.
+-- Theorem: `accepted-gives-back`
+abbrev pub AcceptedGivesBack : Type 0
+AcceptedGivesBack =
+    (image : List ℕ) (area lent : Lent) → All (λ b. b < 2 ^ 8) image → replyTo (load image) area ≡ number 0
+    → tableRows (orderIn image) ≤ length (lent .table) → length image ≤ length (lent .image) → GivesBack image area lent

@@ -1,0 +1,7 @@
+pub mod Calls
+pub mod Trace
+pub mod Model
+pub mod History
+pub mod Images
+pub mod Represents
+pub mod Demands

@@ -1,0 +1,68 @@
+-- What holds of a table after a list of calls: demand 2 on buckets, trees and searches, and demand 3.
+use Prim.Native.Nat.{ℕ, _+_, _*_, _≤_}
+use mathlib.Core.Path.{_≡_}
+use mathlib.Core.Bool.{Bool, true, not, _||_}
+use mathlib.Core.List.{List, map, List·Permᴰ}
+use lib.ListN.{length}
+use lib.Dec.{ltb, eqb}
+use Rattle.metric_rules.specs.declared.Profile.{Profile}
+use Rattle.metric_rules.specs.Lists.{every, select, distinct}
+use Rattle.metric_rules.specs.Row.{IsProfile, tagOf}
+use Rattle.metric_rules.specs.Distance.{validSpace, distance}
+use Rattle.tree_rules.specs.Layout.{isLayout}
+use Rattle.bucket_rules.specs.Geometry.{validOrder, room, bucketsOf, tableRows}
+use Rattle.bucket_rules.specs.Table.{Table, orderOf, tableSpace, builtOf, liveOf, slotsOf, inUse, liveSlots}
+use Rattle.bucket_rules.specs.Checks.{sizesPass, marksPass}
+use Rattle.bucket_rules.specs.Rebuild.{liveItems}
+use Rattle.bucket_rules.specs.Search.{rangeAnswer, nearestAnswer}
+use Rattle.history.specs.Trace.{Sums, trace}
+use Rattle.history.specs.Model.{Model, Item, itemOf, modelRange, modelNearest, modelTrace}
+use Rattle.history.specs.History.{History, before, blankModel, steps, finalState, finalModel}
+
+-- the items in the table's built slots of mark 0
+unfoldable pub itemsIn : Table → List Item
+itemsIn t = map itemOf (liveItems t (bucketsOf (orderOf t)))
+
+-- every bucket in use was built more than half full
+unfoldable pub moreThanHalfFull : Table → Bool
+moreThanHalfFull t = every (λ k. not (inUse t k) || ltb (room k) (2 * builtOf t k)) (bucketsOf (orderOf t))
+
+-- the buckets in which a live slot has the tag
+unfoldable pub bucketsWith : Table → ℕ → List ℕ
+bucketsWith t tag = select (λ k. not (every (λ row. not (eqb (tagOf row) tag)) (liveSlots t k))) (bucketsOf (orderOf t))
+
+-- demand 2: the table is one of the published method (1 to 4), and it is the model's (5 to 9)
+pub record Represents (t : Table) (m : Model) : Type 0 where
+  -- 1. a valid order and metric, and as many rows as the order needs
+  pub valid : validOrder (orderOf t) ≡ true × validSpace (tableSpace t) ≡ true
+  pub long : tableRows (orderOf t) ≤ length t
+  -- 2. sizes and marks pass the rules of refusal 24
+  pub sizes : sizesPass (orderOf t) (builtOf t) (liveOf t) ≡ true
+  pub marks : marksPass t ≡ true
+  -- 3. every bucket's slots are a tree's layout, marks aside
+  pub layouts : (k : ℕ) → k ≤ orderOf t → isLayout (distance (tableSpace t)) (slotsOf t k) ≡ true
+  -- 4. every bucket in use was built more than half full
+  pub halfFull : moreThanHalfFull t ≡ true
+  -- 5. order and metric are those that the calls set
+  pub order : orderOf t ≡ m .order
+  pub space : tableSpace t ≡ m .space
+  -- 6. the model's items, each once, are the items in the table's built slots of mark 0
+  pub same : List·Permᴰ (itemsIn t) (m .items)
+  pub once : distinct (map (λ i. i .tag) (m .items)) ≡ true
+  -- 7. every live item is in exactly one bucket
+  pub oneBucket : every (λ i. eqb (length (bucketsWith t (i .tag))) 1) (m .items) ≡ true
+  -- 8. range answers as a scan of the model, for every query and radius
+  pub range : (q : Profile) (r : ℕ) → IsProfile q → rangeAnswer t q r .entries ≡ modelRange m q r
+  -- 9. nearest likewise, for every query and k
+  pub nearest : (q : Profile) (k : ℕ) → IsProfile q → nearestAnswer t q k .entries ≡ modelNearest m q k
+
+-- the bound on all rebuilds together, with A adds and R removals at order T: 4·T·(T+1)·A + 11·T·R
+unfoldable pub rebuildBound : ℕ → Sums → ℕ
+rebuildBound order sums = 4 * order * (order + 1) * sums .adds + 11 * order * sums .removals
+
+-- demand 3: at each call table and model show the same; after the list the table represents the model, and all rebuilds since the last fresh or load
+-- keep within the bound, of the order that the calls set
+pub record Holds (h : History) : Type 0 where
+  pub traces : trace (before (h .initial)) (steps h) ≡ modelTrace blankModel (steps h)
+  pub represents : Represents (finalState h .table) (finalModel h)
+  pub bound : finalState h .sums .distances ≤ rebuildBound (finalModel h .order) (finalState h .sums)

@@ -1,0 +1,1 @@
+// Lists of calls on one table, and the reference model that is kept beside them.
