@@ -1,0 +1,60 @@
+-- `add::add` meets its contract: a refused call leaves all as it was, and an accepted one is `put_in`. Assumes nothing.
+use borrow.Author.Needs.{needs}
+use mathlib.Core.Path.{sym, _∙_}
+use Rattle.bucket_rules.proofs.Passing.{framed-rows}
+use Rattle.bucket_rules.proofs.Fill.{changeable, add-accepted}
+use Rattle.add.proofs.Refusing.{refused-call, accepted-call}
+use Rattle.add.proofs.add.Statement.{statement}
+use Rattle.add.proofs.add.Tie as tie
+
+add-refusal-requires : tie.Need-add-refusal-requires
+add-refusal-requires c κs = search needs
+
+same-length : tie.Need-same-length
+same-length c = search needs
+
+same-length-2 : tie.Need-same-length-2
+same-length-2 c = search needs
+
+returns : tie.Need-returns
+returns c =
+    let a = c .before .before .before .before .args in
+    let f = c .before .add-refusal in
+    let r = refused-call (a .table .now) (a .work .now) (a .tag) (a .profile) (f .result) (f .ensures) (c .if1 .taken) in
+    (r .0, (r .1, r .2))
+
+order-in-requires : tie.Need-order-in-requires
+order-in-requires c κs =
+    let a = c .before .before .before .before .before .args in
+    let e = sym (c .before .before .add-refusal .ensures) ∙ c .before .if1 .left in
+    framed-rows (changeable (a .work .now) (a .table .now) (add-accepted (a .table .now) (a .work .now) (a .tag) (a .profile) e .0) .passed .framed)
+
+put-in-requires : tie.Need-put-in-requires
+put-in-requires c κs = search needs
+
+same-length-3 : tie.Need-same-length-3
+same-length-3 c = search needs
+
+same-length-4 : tie.Need-same-length-4
+same-length-4 c = search needs
+
+returns-2 : tie.Need-returns-2
+returns-2 c =
+    let a = c .before .before .before .before .before .before .before .before .before .before .before .args in
+    let p = c .before .before .put-in .ensures in
+    let r = accepted-call (a .table .now) (a .work .now) (a .tag) (a .profile) (sym (c .before .before .before .before .before .before .before .before .add-refusal .ensures) ∙ c .before .before .before .before .before .before .before .if1 .left) in
+    (p .0 ∙ r .0, (p .1 .0 ∙ r .1, p .1 .1 ∙ r .2))
+
+pub add-spec : {M : Type 1} → statement M
+add-spec =
+    tie.close
+    (tie.spec
+    add-refusal-requires
+    same-length
+    same-length-2
+    returns
+    order-in-requires
+    put-in-requires
+    same-length-3
+    same-length-4
+    returns-2)

@@ -1,0 +1,81 @@
+-- `buckets::empty_bucket` meets its contract: the bucket's room, given back zeroed, is a bucket of no slots.
+-- Assumes nothing.
+use borrow.Author.Needs.{needs}
+use native.Mathlib.Omega.{arith}
+use Prim.Native.Nat.{ℕ, _+_, _-_, _≤_}
+use mathlib.Core.Path.{_≡_, _∙_, ap}
+use mathlib.Core.List.{List, []}
+use lib.ListN.{length, take, drop, replicate, length-take, length-drop}
+use borrow.Rule.Slice.PartMut.{same-len-mid}
+use Rattle.metric_rules.specs.Row.{Row, zeroRow}
+use Rattle.bucket_rules.specs.Geometry.{room, firstSlot}
+use Rattle.buckets.proofs.Places.{sizes-inside, room-inside, room-given-back}
+use Rattle.buckets.proofs.empty_bucket.Statement.{statement}
+use Rattle.buckets.proofs.empty_bucket.Tie as tie
+
+inside : (c : tie.Start) → firstSlot (c .args .order .t) (c .args .k) + room (c .args .k) ≤ length (c .args .table .now)
+inside c = room-inside (c .pre .0) (c .args .k) (c .pre .1)
+
+first-slot-requires : tie.Need-first-slot-requires
+first-slot-requires c κs = search needs
+
+room-requires : tie.Need-room-requires
+room-requires c κs = search needs
+
+add-end : tie.Need-add-end
+add-end c = omega (arith, inside (c .before .before))
+
+mul-zero-rows : tie.Need-mul-zero-rows
+mul-zero-rows c = omega (arith, inside (c .before .before))
+
+sub-zero-rows : tie.Need-sub-zero-rows
+sub-zero-rows c = search needs
+
+part-zero-rows-start : tie.Need-part-zero-rows-start
+part-zero-rows-start c = search needs
+
+part-zero-rows-end : tie.Need-part-zero-rows-end
+part-zero-rows-end c = omega (arith, inside (c .before .before))
+
+zero-rows-requires : tie.Need-zero-rows-requires
+zero-rows-requires c κs = search needs
+
+put-sizes-requires : tie.Need-put-sizes-requires
+put-sizes-requires c κs =
+    let s = c .before .before .before .before .before .before in
+    let z = c .before .before .zero-rows in
+    let first : ℕ = c .before .before .before .before .before .first-slot .result in
+    let size : ℕ = c .before .before .before .before .room .result in
+    omega (arith, same-len-mid first (first + size - first) (s .args .table .now) (z .last .0) (z .kept .0), sizes-inside (s .pre .0) (s .args .k) (s .pre .1))
+
+same-length : tie.Need-same-length
+same-length c = search needs
+
+returns : tie.Need-returns
+returns c =
+    let s = c .before .before .before .before .before .before .before .before in
+    let t : List Row = s .args .table .now in
+    let first : ℕ = c .before .before .before .before .before .before .before .first-slot .result in
+    let size : ℕ = c .before .before .before .before .before .before .room .result in
+    let z = c .before .before .before .before .zero-rows in
+    let whole : length (take (first + size - first) (drop first t)) ≡ room (s .args .k) - 0 =
+    omega (arith, length-take (first + size - first) (drop first t), length-drop first t, inside s) in
+    c .before .put-sizes .ensures
+    ∙ room-given-back (s .pre .0) (s .args .k) [] 0 first (first + size - first) (z .last .0)
+    (omega arith) (omega arith) (omega arith) (z .ensures ∙ ap (λ (n : ℕ). replicate n zeroRow) whole)
+
+pub empty-bucket-spec : {M : Type 1} → statement M
+empty-bucket-spec =
+    tie.close
+    (tie.spec
+    first-slot-requires
+    room-requires
+    add-end
+    mul-zero-rows
+    sub-zero-rows
+    part-zero-rows-start
+    part-zero-rows-end
+    zero-rows-requires
+    put-sizes-requires
+    same-length
+    returns)

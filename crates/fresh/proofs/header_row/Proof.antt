@@ -1,0 +1,22 @@
+-- `fresh::header_row` meets its contract: two words written over zeros.
+-- Assumes nothing.
+use mathlib.Core.Path.{refl}
+use Rattle.metric_rules.specs.Row.{zeroRow}
+use Rattle.metric_rules.specs.Distance.{metricAt}
+use Rattle.bucket_rules.specs.Table.{headerOf}
+use borrow.Author.Needs.{needs}
+use Rattle.fresh.proofs.header_row.Statement.{statement}
+use Rattle.fresh.proofs.header_row.Tie as tie
+
+array-write-row : tie.Need-array-write-row
+array-write-row c = search needs
+
+array-write-row-2 : tie.Need-array-write-row-2
+array-write-row-2 c = search needs
+
+returns : tie.Need-returns
+unfolding headerOf zeroRow metricAt
+returns c = refl
+
+pub header-row-spec : {M : Type 1} → statement M
+header-row-spec = tie.close (tie.spec array-write-row array-write-row-2 returns)

@@ -1,0 +1,17 @@
+-- `table::in_use` meets its contract.
+-- Assumes nothing.
+use Prim.Native.Nat.{ℕ}
+use mathlib.Core.Path.{ap}
+use mathlib.Core.Bool.{not}
+use lib.Dec.{eqb}
+use borrow.Author.Needs.{needs}
+use Rattle.bucket_rules.specs.Table.{inUse}
+use Rattle.table.proofs.in_use.Statement.{statement}
+use Rattle.table.proofs.in_use.Tie as tie
+
+returns : tie.Need-returns
+unfolding inUse
+returns c = ap (λ (n : ℕ). not (eqb n 0)) (c .built-of .ensures)
+
+pub in-use-spec : {M : Type 1} → statement M
+in-use-spec = tie.close (tie.spec (λ c κs. search needs) returns)

@@ -1,0 +1,63 @@
+-- `table::slots_of` meets its contract: the rows from the bucket's first slot on, as many as it built.
+-- Assumes nothing.
+use native.Mathlib.Omega.{arith}
+use Prim.Native.Nat.{ℕ, _+_, _-_}
+use mathlib.Core.Path.{_≡_, _∙_, ap, ap₂}
+use lib.ListN.{take, drop}
+use Rattle.bucket_rules.specs.Geometry.{firstSlot}
+use Rattle.bucket_rules.specs.Table.{orderOf, builtOf, slotsOf}
+use Rattle.bucket_rules.proofs.Geometry.{sizes-before-slots}
+use borrow.Author.Needs.{needs}
+use Rattle.table.proofs.slots_of.Statement.{statement}
+use Rattle.table.proofs.slots_of.Tie as tie
+
+first-slot-requires : tie.Need-first-slot-requires
+first-slot-requires c κs = search needs
+
+built-of-requires : tie.Need-built-of-requires
+built-of-requires c κs =
+    let a = c .before .args in
+    omega (arith, c .before .pre, sizes-before-slots (a .order .t) (a .k) (a .k) (c .before .pre .2))
+
+cast-end : tie.Need-cast-end
+cast-end c = search needs
+
+add-end : tie.Need-add-end
+add-end c = search needs
+
+mul-result : tie.Need-mul-result
+mul-result c = search needs
+
+sub-result : tie.Need-sub-result
+sub-result c = search needs
+
+part-result-start : tie.Need-part-result-start
+part-result-start c = search needs
+
+part-result-end : tie.Need-part-result-end
+part-result-end c = search needs
+
+returns : tie.Need-returns
+unfolding slotsOf
+returns c =
+    let s = c .before .before .before in
+    let t = s .args .table .now in
+    let k = s .args .k in
+    let first = c .before .before .first-slot .result in
+    let n : first + c .before .built-of .result - first ≡ builtOf t k = omega (arith, c .before .built-of .ensures) in
+    let at : first ≡ firstSlot (orderOf t) k = c .before .before .first-slot .ensures ∙ ap (λ (o : ℕ). firstSlot o k) (s .pre .0) in
+    ap₂ (λ (m i : ℕ). take m (drop i t)) n at
+
+pub slots-of-spec : {M : Type 1} → statement M
+slots-of-spec =
+    tie.close
+    (tie.spec
+    first-slot-requires
+    built-of-requires
+    cast-end
+    add-end
+    mul-result
+    sub-result
+    part-result-start
+    part-result-end
+    returns)

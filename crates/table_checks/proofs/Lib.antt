@@ -1,0 +1,2 @@
+-- Laws of the frame test and of the marks, for the code.
+pub mod Framing

@@ -1,0 +1,106 @@
+-- `table_checks::change_refusal` meets its contract: the frame, the work area, the sizes, and then the marks.
+-- Assumes nothing.
+use native.Mathlib.Omega.{arith}
+use Prim.Native.Nat.{ℕ}
+use borrow.Author.Tests.{not-true, not-false, lt-leb, le-leb}
+use mathlib.Core.Path.{_≡_, sym, _∙_, ap}
+use mathlib.Core.Bool.{Bool, true, false}
+use lib.Dec.{leb}
+use Rattle.bucket_rules.specs.Geometry.{workRows}
+use Rattle.bucket_rules.specs.Table.{Table, orderOf, builtOf, liveOf}
+use Rattle.bucket_rules.specs.Checks.{sizesPass, marksPass}
+use Rattle.table_checks.specs.Frame.{frameRefusal}
+use Rattle.table_checks.proofs.Framing.{some-rows, framed, sizes-asked, frame-stops, area-stops, sizes-stop, sound-decides}
+use borrow.Author.Needs.{needs}
+use Rattle.table_checks.proofs.change_refusal.Statement.{statement}
+use Rattle.table_checks.proofs.change_refusal.Tie as tie
+
+abbrev roomy : ℕ → Table → Bool
+roomy rows t = leb (workRows (orderOf t)) rows
+
+frame-refusal-requires : tie.Need-frame-refusal-requires
+frame-refusal-requires c κs = search needs
+
+returns : tie.Need-returns
+returns c =
+    let a = c .before .before .args in
+    let f = c .before .frame-refusal in
+    f .ensures ∙ frame-stops (roomy (a .rows)) marksPass (a .table .now) (λ z. c .if1 .taken (f .ensures ∙ z))
+
+stands : (c : tie.Else1) → frameRefusal (c .before .before .args .table .now) ≡ 0
+stands c = sym (c .before .frame-refusal .ensures) ∙ c .if1 .left
+
+order-in-requires : tie.Need-order-in-requires
+order-in-requires c κs = some-rows (c .before .before .args .table .now) (stands c)
+
+work-rows-requires : tie.Need-work-rows-requires
+work-rows-requires c κs = omega (arith, c .order-in .ensures, framed (c .before .before .before .args .table .now) (stands (c .before)) .order)
+
+work-told : (c : tie.After-work-rows) → c .work-rows .result ≡ workRows (orderOf (c .before .before .before .before .args .table .now))
+work-told c = c .work-rows .ensures ∙ ap workRows (c .before .order-in .ensures)
+
+room-told : (c : tie.Else2) → let a = c .before .before .before .before .before .args in roomy (a .rows) (a .table .now) ≡ true
+room-told c =
+    let a = c .before .before .before .before .before .args in
+    le-leb (workRows (orderOf (a .table .now))) (a .rows) (omega (arith, work-told (c .before)))
+
+returns-2 : tie.Need-returns-2
+returns-2 c =
+    let at = c .before .before .before in
+    let a = at .before .before .args in
+    sym (area-stops (roomy (a .rows)) marksPass (a .table .now) (stands at) (lt-leb (workRows (orderOf (a .table .now))) (a .rows) (omega (arith, work-told (c .before)))))
+
+sizes-pass-requires : tie.Need-sizes-pass-requires
+sizes-pass-requires c κs =
+    let at = c .before .before .before in
+    sizes-asked (at .before .before .args .table .now) (stands at) (c .before .before .order-in .result .t) (c .before .before .order-in .ensures)
+
+sizes-tested :
+    (c : tie.After-sizes-pass) → let t = c .before .before .before .before .before .before .args .table .now in sizesPass (orderOf t) (builtOf t) (liveOf t) ≡ c .sizes-pass .result
+sizes-tested c =
+    let t = c .before .before .before .before .before .before .args .table .now in
+    ap (λ (o : ℕ). sizesPass o (builtOf t) (liveOf t)) (sym (c .before .before .before .order-in .ensures)) ∙ sym (c .sizes-pass .ensures)
+
+sizes-passed :
+    (c : tie.Else3) → let t = c .before .before .before .before .before .before .before .args .table .now in sizesPass (orderOf t) (builtOf t) (liveOf t) ≡ true
+sizes-passed c = sizes-tested (c .before) ∙ not-false (c .before .sizes-pass .result) (c .if3 .left)
+
+returns-3 : tie.Need-returns-3
+returns-3 c =
+    let at = c .before .before .before .before .before in
+    let a = at .before .before .args in
+    sym (sizes-stop (roomy (a .rows)) marksPass (a .table .now) (stands at) (room-told (c .before .before)) (sizes-tested (c .before) ∙ not-true (c .before .sizes-pass .result) (c .if3 .taken)))
+
+marks-pass-requires : tie.Need-marks-pass-requires
+marks-pass-requires c κs =
+    let at = c .before .before .before .before .before in
+    (c .before .before .before .before .order-in .ensures, record { framed = framed (at .before .before .args .table .now) (stands at); sizes = sizes-passed c })
+
+returns-4 : tie.Need-returns-4
+returns-4 c =
+    let at = c .before .before .before .before .before .before .before in
+    let a = at .before .before .args in
+    sym (sound-decides (roomy (a .rows)) marksPass (a .table .now) false (stands at) (room-told (c .before .before .before .before)) (sizes-passed (c .before .before))
+    (sym (c .before .marks-pass .ensures) ∙ not-true (c .before .marks-pass .result) (c .if4 .taken)))
+
+returns-5 : tie.Need-returns-5
+returns-5 c =
+    let at = c .before .before .before .before .before .before .before in
+    let a = at .before .before .args in
+    sym (sound-decides (roomy (a .rows)) marksPass (a .table .now) true (stands at) (room-told (c .before .before .before .before)) (sizes-passed (c .before .before))
+    (sym (c .before .marks-pass .ensures) ∙ not-false (c .before .marks-pass .result) (c .if4 .left)))
+
+pub change-refusal-spec : {M : Type 1} → statement M
+change-refusal-spec =
+    tie.close
+    (tie.spec
+    frame-refusal-requires
+    returns
+    order-in-requires
+    work-rows-requires
+    returns-2
+    sizes-pass-requires
+    returns-3
+    marks-pass-requires
+    returns-4
+    returns-5)

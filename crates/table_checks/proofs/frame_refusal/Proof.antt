@@ -1,0 +1,111 @@
+-- `table_checks::frame_refusal` meets its contract: its tests are those of `frameRefusal`, the metric's before the order's.
+-- Assumes nothing.
+use native.Mathlib.Omega.{arith}
+use Prim.Native.Nat.{_≤_}
+use borrow.Author.Tests.{not-true, not-false, lt-leb, le-leb}
+use mathlib.Core.Path.{_≡_, sym, _∙_, ap}
+use mathlib.Core.Bool.{true, false}
+use lib.ListN.{length}
+use Rattle.metric_rules.specs.Distance.{validSpace}
+use Rattle.bucket_rules.specs.Geometry.{validOrder, headerRow, tableRows}
+use Rattle.bucket_rules.specs.Table.{rowAt, orderOf, tableSpace}
+use Rattle.bucket_rules.proofs.Buckets.{order-valid}
+use Rattle.order.specs.Answers.{answerOf}
+use Rattle.order.proofs.Orders.{is-order, no-order}
+use Rattle.table_checks.proofs.Framing.{no-rows, space-breaks, order-breaks, too-short, frame-stands}
+use borrow.Author.Needs.{needs}
+use Rattle.table_checks.proofs.frame_refusal.Statement.{statement}
+use Rattle.table_checks.proofs.frame_refusal.Tie as tie
+
+-- the tests as they were made
+space-tested :
+    (c : tie.After-valid-space) → validSpace (tableSpace (c .before .before .before .args .table .now)) ≡ c .valid-space .result
+unfolding tableSpace rowAt headerRow
+space-tested c = sym (c .valid-space .ensures)
+
+space-passed :
+    (c : tie.Else2) → validSpace (tableSpace (c .before .before .before .before .args .table .now)) ≡ true
+space-passed c = space-tested (c .before) ∙ not-false (c .before .valid-space .result) (c .if2 .left)
+
+order-told :
+    (c : tie.After-order)
+    → (c .order .given .0 .0 .t ≡ orderOf (c .before .before .before .before .before .before .before .before .args .table .now))
+    × (orderOf (c .before .before .before .before .before .before .before .before .args .table .now) ≤ 12)
+order-told c =
+    let n = c .before .before .before .order-of in
+    let is = is-order (c .order .given .0 .0) (n .result) (ap answerOf (sym (c .order .given .1)) ∙ c .before .before .new .ensures) in
+    (is .0 ∙ n .ensures, omega (arith, is .1, n .ensures))
+
+returns : tie.Need-returns
+returns c = sym (no-rows (c .before .args .table .now) (c .if1 .taken))
+
+shared-slice-copy-out-valid-space : tie.Need-shared-slice-copy-out-valid-space
+shared-slice-copy-out-valid-space c = search needs
+
+valid-space-requires : tie.Need-valid-space-requires
+valid-space-requires c κs = search needs
+
+returns-2 : tie.Need-returns-2
+returns-2 c =
+    let t = c .before .before .before .before .args .table .now in
+    sym (space-breaks t (omega (arith, c .before .before .before .if1 .left)) (space-tested (c .before) ∙ not-true (c .before .valid-space .result) (c .if2 .taken)))
+
+order-of-requires : tie.Need-order-of-requires
+order-of-requires c κs = search needs
+
+new-requires : tie.Need-new-requires
+new-requires c κs = search needs
+
+enum-told : tie.Need-enum-told
+enum-told c = search needs
+
+enum-known-order : tie.Need-enum-known-order
+enum-known-order c = search needs
+
+table-rows-requires : tie.Need-table-rows-requires
+table-rows-requires c κs = omega (arith, order-told (c .before))
+
+returns-3 : tie.Need-returns-3
+returns-3 c =
+    let at = c .before .before .before in
+    let t = at .before .before .before .before .before .args .table .now in
+    let n : validOrder (at .order-of .result) ≡ false =
+    no-order (at .order-of .result) (ap answerOf (sym (c .enum-told .given .1)) ∙ c .before .before .new .ensures) in
+    sym (order-breaks t (omega (arith, at .before .before .before .before .if1 .left)) (ap validOrder (sym (at .order-of .ensures)) ∙ n))
+
+returns-4 : tie.Need-returns-4
+returns-4 c =
+    let at = c .before .before .before in
+    let t = at .before .before .before .before .before .before .before .before .args .table .now in
+    let told : (at .order .given .0 .0 .t ≡ orderOf t) × (orderOf t ≤ 12) = order-told at in
+    let rows : tableRows (orderOf t) ≡ c .before .table-rows .result = sym (c .before .table-rows .ensures ∙ ap tableRows (told .0)) in
+    sym (too-short t (omega (arith, at .before .before .before .before .before .before .before .if1 .left)) (order-valid (orderOf t) (told .1))
+    (space-passed (at .before .before .before .before))
+    (lt-leb (tableRows (orderOf t)) (length t) (omega arith)))
+
+returns-5 : tie.Need-returns-5
+returns-5 c =
+    let at = c .before .before .before in
+    let t = at .before .before .before .before .before .before .before .before .args .table .now in
+    let told : (at .order .given .0 .0 .t ≡ orderOf t) × (orderOf t ≤ 12) = order-told at in
+    let rows : tableRows (orderOf t) ≡ c .before .table-rows .result = sym (c .before .table-rows .ensures ∙ ap tableRows (told .0)) in
+    sym (frame-stands t (omega (arith, at .before .before .before .before .before .before .before .if1 .left)) (order-valid (orderOf t) (told .1))
+    (space-passed (at .before .before .before .before))
+    (le-leb (tableRows (orderOf t)) (length t) (omega arith)))
+
+pub frame-refusal-spec : {M : Type 1} → statement M
+frame-refusal-spec =
+    tie.close
+    (tie.spec
+    returns
+    shared-slice-copy-out-valid-space
+    valid-space-requires
+    returns-2
+    order-of-requires
+    new-requires
+    enum-told
+    enum-known-order
+    table-rows-requires
+    returns-3
+    returns-4
+    returns-5)

@@ -1,0 +1,29 @@
+-- `table_checks::size_passes` meets its contract: its tests are the definition's, on numbers of 64 bits.
+-- Assumes nothing.
+use Prim.Native.Nat.{ℕ, _*_}
+use mathlib.Core.Path.{ap}
+use mathlib.Core.Bool.{_&&_, _||_}
+use lib.Dec.{leb, ltb, eqb}
+use Rattle.bucket_rules.specs.Checks.{sizePasses}
+use borrow.Author.Needs.{needs}
+use Rattle.table_checks.proofs.size_passes.Statement.{statement}
+use Rattle.table_checks.proofs.size_passes.Tie as tie
+
+room-requires : tie.Need-room-requires
+room-requires c κs = search needs
+
+mul-result : tie.Need-mul-result
+mul-result c = search needs
+
+mul-result-2 : tie.Need-mul-result-2
+mul-result-2 c = search needs
+
+returns : tie.Need-returns
+unfolding sizePasses
+returns c =
+    let b = c .before .args .built in
+    let l = c .before .args .live in
+    ap (λ (n : ℕ). (eqb b 0 && eqb l 0) || (leb l b && leb b n && ltb n (2 * b) && ltb n (4 * l))) (c .room .ensures)
+
+pub size-passes-spec : {M : Type 1} → statement M
+size-passes-spec = tie.close (tie.spec room-requires mul-result mul-result-2 returns)

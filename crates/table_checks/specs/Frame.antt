@@ -1,0 +1,25 @@
+-- The first half of `tableRefusal`, which reads a table's header and length alone; the sizes can be read once it is 0. And the marks of one bucket.
+use Prim.Native.Nat.{ℕ}
+use mathlib.Core.Bool.{Bool, true, false, _&&_}
+use mathlib.Core.List.{List, [], _∷_}
+use lib.ListN.{length}
+use lib.Dec.{leb, eqb}
+use Rattle.metric_rules.specs.Lists.{every, select}
+use Rattle.metric_rules.specs.Row.{Row, markOf, isLive}
+use Rattle.metric_rules.specs.Distance.{validSpace}
+use Rattle.bucket_rules.specs.Refusals.{areaShort, tableBroken}
+use Rattle.bucket_rules.specs.Geometry.{validOrder, tableRows}
+use Rattle.bucket_rules.specs.Table.{Table, orderOf, tableSpace}
+
+unfoldable pub frameRefusal : Table → ℕ
+frameRefusal [] = areaShort
+frameRefusal (r ∷ rs) =
+    let t = r ∷ rs in
+    elim (validOrder (orderOf t) && validSpace (tableSpace t)) [
+      | false ↦ tableBroken
+      | true ↦ elim (leb (tableRows (orderOf t)) (length t)) [ false ↦ areaShort | true ↦ 0 ]
+    ]
+
+-- `marksPass` in one bucket
+unfoldable pub slotsMarked : List Row → ℕ → Bool
+slotsMarked slots live = every (λ row. leb (markOf row) 1) slots && eqb (length (select isLive slots)) live

@@ -1,0 +1,151 @@
+// What stops a call on a lent table, by 01's numbers in their order: 23 and 24. The table's content and length are any.
+ghost use mathlib.Core.Path.{_≡_};
+ghost use mathlib.Core.Bool.{true};
+ghost use Prim.Native.Nat.{_≤_, _<_};
+ghost use lib.Dec.{leb};
+ghost use lib.ListN.{length};
+ghost use Rattle.metric_rules.specs.Lists.{every};
+ghost use Rattle.bucket_rules.specs.Geometry.{bucketsOf, sizesRow, workRows};
+ghost use Rattle.bucket_rules.specs.Table.{orderOf, builtOf, liveOf};
+ghost use Rattle.bucket_rules.specs.Checks.{sizePasses, sizesPass, marksPass, tableRefusal, readRefusal};
+ghost use Rattle.bucket_rules.specs.Passed.{Passed};
+ghost use Rattle.table_checks.specs.Frame.{frameRefusal, slotsMarked};
+use bucket_rules::AREA_SHORT;
+use bucket_rules::TABLE_BROKEN;
+use metric_rules::Row;
+use order::Order;
+use order::Ordered;
+use rows::mark_of;
+use table::HEADER_ROW;
+use table::built_of;
+use table::live_of;
+use table::live_total;
+use table::order_in;
+use table::order_of;
+use table::slots_of;
+use table::valid_space;
+
+// A bucket's sizes are words of any value, and four times a word fits 64 bits.
+pub fn size_passes(k: u32, built: u32, live: u32) -> bool
+    requires { ⌜ k < 32 ⌝ }
+    ensures { λ r. ⌜ r ≡ sizePasses k built live ⌝ }
+{
+    let room = Order::room(k);
+    let b = built as usize;
+    let l = live as usize;
+    ((b == 0) & (l == 0)) | ((l <= b) & (b <= room) & (room < 2 * b) & (room < 4 * l))
+}
+
+fn each_size_passes(table: &[Row], order: Order) -> bool
+    requires { ⌜ (order .t < 31) × (sizesRow (order .t) < length (now table)) ⌝ }
+    ensures { λ r. ⌜ r ≡ every (λ k. sizePasses k (builtOf (now (table .entry)) k) (liveOf (now (table .entry)) k)) (bucketsOf (order .t)) ⌝ }
+{
+    let t = order.t;
+    let mut k = 0;
+    while k <= t {
+        if !size_passes(k, built_of(table, k), live_of(table, k)) {
+            return false;
+        }
+        k += 1;
+    }
+    true
+}
+
+fn sizes_pass(table: &[Row], order: Order) -> bool
+    requires { ⌜ (order .t < 31) × (sizesRow (order .t) < length (now table)) ⌝ }
+    ensures { λ r. ⌜ r ≡ sizesPass (order .t) (builtOf (now (table .entry))) (liveOf (now (table .entry))) ⌝ }
+{
+    if !each_size_passes(table, order) {
+        return false;
+    }
+    live_total(table, order) <= Order::room(order.t) as u64
+}
+
+// One pass over a bucket's slots: a mark above 1 ends it, and the 0 marks are counted.
+fn slots_marked(slots: &[Row], live: u32) -> bool
+    ensures { λ r. ⌜ r ≡ slotsMarked (now (slots .entry)) live ⌝ }
+{
+    let mut found: usize = 0;
+    let mut i = 0;
+    while i < slots.len() {
+        let mark = mark_of(slots[i]);
+        if 1 < mark {
+            return false;
+        }
+        found += (1 - mark) as usize;
+        i += 1;
+    }
+    found == live as usize
+}
+
+fn marks_pass(table: &[Row], order: Order) -> bool
+    requires { ⌜ (order .t ≡ orderOf (now table)) × Passed (now table) ⌝ }
+    ensures { λ r. ⌜ r ≡ marksPass (now (table .entry)) ⌝ }
+{
+    let last = order.t;
+    let mut k = 0;
+    while k <= last {
+        if !slots_marked(slots_of(table, order, k), live_of(table, k)) {
+            return false;
+        }
+        k += 1;
+    }
+    true
+}
+
+// No rows 23, order or metric 24, a short table 23.
+fn frame_refusal(table: &[Row]) -> u32
+    ensures { λ r. ⌜ r ≡ frameRefusal (now (table .entry)) ⌝ }
+{
+    if table.len() == 0 {
+        return AREA_SHORT;
+    }
+    if !valid_space(table[HEADER_ROW]) {
+        return TABLE_BROKEN;
+    }
+    match Order::new(order_of(table)) {
+        Ordered::TooLarge => TABLE_BROKEN,
+        Ordered::Is(order) => {
+            if table.len() < order.table_rows() {
+                AREA_SHORT
+            } else {
+                0
+            }
+        }
+    }
+}
+
+// What stops a call that only reads the table.
+pub fn read_refusal(table: &[Row]) -> u32
+    ensures { λ r. ⌜ r ≡ readRefusal (now (table .entry)) ⌝ }
+{
+    let refusal = frame_refusal(table);
+    if refusal != 0 {
+        return refusal;
+    }
+    if !sizes_pass(table, order_in(table)) {
+        return TABLE_BROKEN;
+    }
+    0
+}
+
+// What stops add and remove, which are lent a work area of so many rows and go by the marks.
+pub fn change_refusal(table: &[Row], rows: usize) -> u32
+    ensures { λ r. ⌜ r ≡ tableRefusal (λ u. leb (workRows (orderOf u)) rows) marksPass (now (table .entry)) ⌝ }
+{
+    let refusal = frame_refusal(table);
+    if refusal != 0 {
+        return refusal;
+    }
+    let order = order_in(table);
+    if rows < order.work_rows() {
+        return AREA_SHORT;
+    }
+    if !sizes_pass(table, order) {
+        return TABLE_BROKEN;
+    }
+    if !marks_pass(table, order) {
+        return TABLE_BROKEN;
+    }
+    0
+}
