@@ -1,0 +1,2 @@
+-- Slots read one by one.
+mod Slots

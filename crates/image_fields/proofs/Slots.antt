@@ -1,0 +1,35 @@
+-- What a slot that passes adds to the live ones counted.
+use Prim.Native.Nat.{ℕ, _+_, _-_, _≤_, _<_}
+use mathlib.Core.Path.{_≡_, ap}
+use mathlib.Core.Bool.{true, _&&_}
+use mathlib.Core.List.{List, [], _∷_}
+use native.Mathlib.Omega.{arith}
+use native.Mathlib.Decide.{decLe}
+use borrow.Author.Tests.{leb-true, eq-eqb, ne-eqb}
+use lib.Dec.{leb}
+use lib.ListN.{length, getD, take, length-append}
+use Rattle.metric_rules.specs.Lists.{select}
+use Rattle.metric_rules.specs.Row.{Row, tagOf, profileOf, markOf, isLive}
+use Rattle.metric_rules.specs.Validity.{validTag, validMeasures}
+use Rattle.tree_rules.proofs.Tests.{and-second}
+use Rattle.image_rules.specs.Load.{fieldsPass}
+use Rattle.gather.proofs.Stored.{selected-next, passed-over}
+
+-- a slot that passes has a mark of 0 or 1
+pub mark-most : (row : Row) → fieldsPass row ≡ true → markOf row ≤ 1
+unfolding fieldsPass
+mark-most row e = leb-true (markOf row) 1 (and-second (validTag (tagOf row) && validMeasures (profileOf row)) (leb (markOf row) 1) e)
+
+-- and adds 1 less its mark to the live ones
+pub live-next : (slots : List Row) (i : ℕ) → i < length slots → markOf (getD slots i []) ≤ 1
+    → length (select isLive (take (i + 1) slots)) ≡ length (select isLive (take i slots)) + (1 - markOf (getD slots i []))
+unfolding isLive
+live-next slots i h m =
+    let row = getD slots i [] in
+    let before = select isLive (take i slots) in
+    elim (decLe 1 (markOf row)) [
+      | yes d ↦ (let e = ap length (passed-over isLive slots i [] h (ne-eqb (markOf row) 0 (λ z. omega arith))) in omega arith)
+      | no d ↦
+          (let e = ap length (selected-next isLive slots i [] h (eq-eqb (markOf row) 0 (omega arith))) in
+          omega (arith, length-append before (row ∷ [])))
+    ]

@@ -1,0 +1,135 @@
+-- `image_fields::slots_read` meets its contract. The loop's invariant: the fields of the slots that are left decide, and the live ones among the
+-- slots passed are counted.
+use Prim.Native.Nat.{ℕ, suc, _+_, _-_, _≤_, _<_}
+use mathlib.Core.Path.{_≡_, refl, sym, _∙_, ap, ap₂}
+use mathlib.Core.Bool.{Bool, true, false, _&&_}
+use mathlib.Core.List.{List, [], _∷_, map}
+use native.Mathlib.Omega.{arith}
+use borrow.Author.Needs.{needs}
+use borrow.Author.Tests.{not-true, not-false}
+use lib.Dec.{eqb}
+use lib.ListN.{length, getD, take, drop}
+use lib.Seq.{take-all}
+use Rattle.metric_rules.specs.Lists.{countFrom, every, select}
+use Rattle.metric_rules.specs.Row.{Row, markOf, isLive}
+use Rattle.tree_rules.proofs.Tests.{scan-fails, scan-passes, scan-ends}
+use Rattle.image_rules.specs.Read.{rowIn}
+use Rattle.image_rules.specs.Load.{fieldsPass}
+use Rattle.image_fields.specs.SlotsRead.{slotsRead}
+use Rattle.image_read.proofs.Slots.{counted-at, length-counted, few-slots}
+use Rattle.image_fields.proofs.Slots.{mark-most, live-next}
+use Rattle.image_fields.proofs.slots_read.Statement.{statement}
+use Rattle.image_fields.proofs.slots_read.Tie as tie
+
+abbrev slots : List ℕ → ℕ → ℕ → List Row
+slots image first count = map (rowIn image) (countFrom first count)
+
+abbrev Inv-loop : tie.InvT-loop
+Inv-loop image tags records first count live found₀ i₀ found i =
+    (i ≤ count) × (found ≤ i)
+    × (every fieldsPass (drop i (slots image first count)) ≡ every fieldsPass (slots image first count))
+    × (found ≡ length (select isLive (take i (slots image first count))))
+
+abbrev μ-loop : tie.MeasureT-loop
+μ-loop image tags records first count live found₀ i₀ found i = count - i
+
+loop-holds : tie.Need-loop-holds Inv-loop μ-loop
+unfolding select
+loop-holds c = (omega arith, omega arith, refl, refl)
+
+add-row-in : tie.Need-add-row-in Inv-loop μ-loop
+add-row-in c = let p = c .before .before .before .pre in omega (arith, few-slots (p .0), p .1)
+
+row-in-requires : tie.Need-row-in-requires Inv-loop μ-loop
+row-in-requires c κs = let p = c .before .before .before .pre in (p .0, omega (arith, p .1))
+
+-- the slot in hand, and its test
+module _ (c : tie.After-slot-passes Inv-loop μ-loop) where
+  here : getD (slots (c .before .before .before .before .before .args .image .now) (c .before .before .before .before .before .args .first) (c .before .before .before .before .before .args .count)) (c .before .before .before .loop .i) [] ≡ c .before .row-in .result
+  here =
+      let a = c .before .before .before .before .before .args in
+      let l = c .before .before .before .loop in
+      counted-at (rowIn (a .image .now)) (a .first) (a .count) (l .i) [] (omega arith) ∙ sym (c .before .row-in .ensures)
+
+  tested : fieldsPass (getD (slots (c .before .before .before .before .before .args .image .now) (c .before .before .before .before .before .args .first) (c .before .before .before .before .before .args .count)) (c .before .before .before .loop .i) []) ≡ c .slot-passes .result
+  tested = ap fieldsPass here ∙ sym (c .slot-passes .ensures)
+
+  long : length (slots (c .before .before .before .before .before .args .image .now) (c .before .before .before .before .before .args .first) (c .before .before .before .before .before .args .count)) ≡ c .before .before .before .before .before .args .count
+  long = length-counted (rowIn (c .before .before .before .before .before .args .image .now)) (c .before .before .before .before .before .args .first) (c .before .before .before .before .before .args .count)
+
+returns : tie.Need-returns Inv-loop μ-loop
+unfolding slotsRead
+returns c =
+    let a = c .before .before .before .before .before .before .args in
+    let l = c .before .before .before .before .loop in
+    let rows = slots (a .image .now) (a .first) (a .count) in
+    ap (λ (b : Bool). b && eqb (length (select isLive rows)) (a .live))
+    (scan-fails fieldsPass [] rows (l .i) (omega (arith, long (c .before))) (l .inv .2)
+    (tested (c .before) ∙ not-true (c .before .slot-passes .result) (c .if1 .taken)))
+
+-- the mark of a slot that passes
+mark : (c : tie.After-mark-of Inv-loop μ-loop)
+    → (c .mark-of .result ≡ markOf (getD (slots (c .before .before .before .before .before .before .before .args .image .now) (c .before .before .before .before .before .before .before .args .first) (c .before .before .before .before .before .before .before .args .count)) (c .before .before .before .before .before .loop .i) [])) × (c .mark-of .result ≤ 1)
+mark c =
+    let e = c .mark-of .ensures ∙ ap markOf (sym (here (c .before .before))) in
+    let pass = tested (c .before .before) ∙ not-false (c .before .before .slot-passes .result) (c .before .if1 .left) in
+    (e, omega (arith, e, mark-most _ pass))
+
+sub-found : tie.Need-sub-found Inv-loop μ-loop
+sub-found c = mark c .1
+
+cast-found : tie.Need-cast-found Inv-loop μ-loop
+cast-found c = omega arith
+
+add-found : tie.Need-add-found Inv-loop μ-loop
+add-found c = let p = c .before .before .before .before .before .before .before .pre in omega (arith, few-slots (p .0), p .1)
+
+add-i : tie.Need-add-i Inv-loop μ-loop
+add-i c = omega arith
+
+loop-less : tie.Need-loop-less Inv-loop μ-loop
+loop-less c = omega arith
+
+loop-again : tie.Need-loop-again Inv-loop μ-loop
+loop-again c =
+    let a = c .before .before .before .before .before .before .before .args in
+    let l = c .before .before .before .before .before .loop in
+    let rows = slots (a .image .now) (a .first) (a .count) in
+    let low : l .i < length rows = omega (arith, long (c .before .before)) in
+    let m = mark c in
+    let pass = tested (c .before .before) ∙ not-false (c .before .before .slot-passes .result) (c .before .if1 .left) in (
+      omega arith,
+      omega arith,
+      scan-passes fieldsPass [] rows (l .i) low (l .inv .2) pass,
+      omega (arith, live-next rows (l .i) low (omega (arith, m)), m .0, l .inv .3),
+    )
+
+returns-2 : tie.Need-returns-2 Inv-loop μ-loop
+unfolding slotsRead
+returns-2 c =
+    let a = c .before .before .before .args in
+    let l = c .before .loop in
+    let rows = slots (a .image .now) (a .first) (a .count) in
+    let end : length rows ≤ l .i = omega (arith, length-counted (rowIn (a .image .now)) (a .first) (a .count)) in
+    ap (λ (n : ℕ). eqb n (a .live)) (l .inv .3 ∙ ap (λ (rs : List Row). length (select isLive rs)) (take-all (l .i) rows end))
+    ∙ ap (λ (b : Bool). b && eqb (length (select isLive rows)) (a .live)) (scan-ends fieldsPass rows (l .i) end (l .inv .2))
+
+pub slots-read-spec : {M : Type 1} → statement M
+slots-read-spec =
+    tie.close
+    (tie.spec
+    Inv-loop
+    μ-loop
+    loop-holds
+    add-row-in
+    row-in-requires
+    (λ c κs. search needs)
+    returns
+    (λ c κs. search needs)
+    sub-found
+    cast-found
+    add-found
+    add-i
+    loop-less
+    loop-again
+    returns-2)

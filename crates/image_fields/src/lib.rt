@@ -1,0 +1,115 @@
+// What an image's sizes and its slots one by one must pass. Tags and layouts of whole buckets come after this.
+ghost use mathlib.Core.Path.{_≡_};
+ghost use mathlib.Core.List.{map};
+ghost use Prim.Native.Nat.{_+_, _≤_};
+ghost use lib.ListN.{length};
+ghost use Rattle.metric_rules.specs.Lists.{total, countFrom, every};
+ghost use Rattle.bucket_rules.specs.Geometry.{bucketsOf};
+ghost use Rattle.bucket_rules.specs.Checks.{sizePasses, sizesPass};
+ghost use Rattle.image_rules.specs.Bytes.{sizesEnd};
+ghost use Rattle.image_rules.specs.Read.{orderIn, builtIn, liveIn, slotsIn, rowIn, bucketIn};
+ghost use Rattle.image_rules.specs.Load.{fieldsPass};
+ghost use Rattle.image_read.specs.Places.{Places};
+ghost use Rattle.image_fields.specs.SlotsRead.{slotsRead};
+use image_read::built_in;
+use image_read::live_in;
+use image_read::order_in;
+use image_read::row_in;
+use metric::valid_measures;
+use metric::valid_tag;
+use metric_rules::Row;
+use order::Order;
+use rows::mark_of;
+use rows::profile_of;
+use rows::tag_of;
+use table_checks::size_passes;
+
+// Every bucket's sizes.
+fn each_size_passes(image: &[u8], t: u32) -> bool
+    requires { ⌜ (t ≤ 12) × (sizesEnd t ≤ length (now image)) ⌝ }
+    ensures { λ r. ⌜ r ≡ every (λ k. sizePasses k (builtIn (now (image .entry)) k) (liveIn (now (image .entry)) k)) (bucketsOf t) ⌝ }
+{
+    let mut k = 0;
+    while k <= t {
+        if !size_passes(k, built_in(image, k), live_in(image, k)) {
+            return false;
+        }
+        k += 1;
+    }
+    true
+}
+
+// The live sizes of all buckets.
+fn live_total(image: &[u8], t: u32) -> usize
+    requires { ⌜ (t ≤ 12) × (sizesEnd t ≤ length (now image)) ⌝ }
+    ensures { λ r. ⌜ r ≡ total (map (liveIn (now (image .entry))) (bucketsOf t)) ⌝ }
+{
+    let mut sum: usize = 0;
+    let mut k = 0;
+    while k <= t {
+        sum += live_in(image, k) as usize;
+        k += 1;
+    }
+    sum
+}
+
+pub fn sizes_pass(image: &[u8], t: u32) -> bool
+    requires { ⌜ (t ≤ 12) × (sizesEnd t ≤ length (now image)) ⌝ }
+    ensures { λ r. ⌜ r ≡ sizesPass t (builtIn (now (image .entry))) (liveIn (now (image .entry))) ⌝ }
+{
+    if !each_size_passes(image, t) {
+        return false;
+    }
+    live_total(image, t) <= Order::room(t)
+}
+
+// A slot's own fields.
+fn slot_passes(row: Row) -> bool
+    ensures { λ r. ⌜ r ≡ fieldsPass row ⌝ }
+{
+    valid_tag(tag_of(row)) & valid_measures(profile_of(row)) & (mark_of(row) <= 1)
+}
+
+// Some slots: a field that fails ends it, and the 0 marks are counted.
+fn slots_read(
+    image: &[u8],
+    tags: usize,
+    records: usize,
+    first: usize,
+    count: usize,
+    live: u32,
+) -> bool
+    requires { ⌜ Places (now image) tags records × (first + count ≤ slotsIn (now image)) ⌝ }
+    ensures { λ r. ⌜ r ≡ slotsRead (map (rowIn (now (image .entry))) (countFrom first count)) live ⌝ }
+{
+    let mut found: usize = 0;
+    let mut i = 0;
+    while i < count {
+        let row = row_in(image, tags, records, first + i);
+        if !slot_passes(row) {
+            return false;
+        }
+        found += (1 - mark_of(row)) as usize;
+        i += 1;
+    }
+    found == live as usize
+}
+
+// The slots of every bucket.
+pub fn buckets_read(image: &[u8], tags: usize, records: usize) -> bool
+    requires { ⌜ Places (now image) tags records × (orderIn (now image) ≤ 12) ⌝ }
+    ensures { λ r. ⌜ r ≡ every (λ k. slotsRead (bucketIn (now (image .entry)) k) (liveIn (now (image .entry)) k)) (bucketsOf (orderIn (now (image .entry)))) ⌝ }
+{
+    let t = order_in(image);
+    let mut first = 0;
+    let mut k = 0;
+    while k <= t {
+        let count = built_in(image, k) as usize;
+        if !slots_read(image, tags, records, first, count, live_in(image, k)) {
+            return false;
+        }
+        first += count;
+        k += 1;
+    }
+    true
+}

@@ -1,0 +1,2 @@
+-- A room filled row by row.
+mod Filling

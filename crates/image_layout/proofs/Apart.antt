@@ -1,0 +1,98 @@
+-- Distinct numbers: every two of a list differ, so their order does not count, and in an ascending list each need only be compared with the next.
+-- Assumes nothing.
+use Prim.Native.Nat.{ℕ, zero, suc, _+_, _≤_, _<_}
+use native.Mathlib.Omega.{arith}
+use native.Mathlib.Numerals.{add-one}
+use mathlib.Core.Path.{_≡_, refl, sym, _∙_, ap, subst}
+use mathlib.Core.Bool.{Bool, true, false, not, _&&_, false≢true}
+use mathlib.Core.List.{List, [], _∷_, List·Permᴰ, Permᴰ·symm}
+use lib.Dec.{eqb}
+use lib.ListN.{length, getD, drop}
+use lib.Seq.{drop-cons}
+use borrow.Author.Tests.{eq-eqb, ne-eqb}
+use Rattle.metric_rules.specs.Lists.{every, distinct}
+use Rattle.tree_rules.specs.Guided.{All}
+use Rattle.tree_rules.proofs.Lists.{Pairs, all-weaken, pairs-perm, pairs-drop}
+use Rattle.tree_rules.proofs.Tests.{and-first, and-second, and-pass, pass-alike, every-all, all-every}
+
+abbrev pub Differ : ℕ → ℕ → Type 0
+Differ m n = m ≡ n → ⊥
+
+differs : (m n : ℕ) → not (eqb m n) ≡ true → Differ n m
+differs m n h e = absurd (false≢true (sym (ap not (eq-eqb m n (sym e))) ∙ h))
+
+differing : (m n : ℕ) → Differ n m → not (eqb m n) ≡ true
+differing m n f = ap not (ne-eqb m n (λ e. f (sym e)))
+
+pub distinct-pairs : (ns : List ℕ) → distinct ns ≡ true → Pairs Differ ns
+unfolding distinct
+distinct-pairs [] h = tt
+distinct-pairs (n ∷ ns) h =
+    let here : Bool = every (λ m. not (eqb m n)) ns in (
+      all-weaken (λ m. differs m n) ns (every-all (λ m. not (eqb m n)) ns (and-first here (distinct ns) h)),
+      distinct-pairs ns (and-second here (distinct ns) h),
+    )
+
+pub pairs-distinct : (ns : List ℕ) → Pairs Differ ns → distinct ns ≡ true
+unfolding distinct
+pairs-distinct [] h = refl
+pairs-distinct (n ∷ ns) h =
+    and-pass (every (λ m. not (eqb m n)) ns) (distinct ns) (all-every (λ m. not (eqb m n)) ns (all-weaken (λ m. differing m n) ns (h .0))) (pairs-distinct ns (h .1))
+
+-- the order does not count
+pub distinct-permuted : {ms ns : List ℕ} → List·Permᴰ ms ns → distinct ms ≡ distinct ns
+distinct-permuted {ms} {ns} p =
+    pass-alike (distinct ms) (distinct ns)
+    (λ h. pairs-distinct ns (pairs-perm Differ (λ m n f e. f (sym e)) p (distinct-pairs ms h)))
+    (λ h. pairs-distinct ms (pairs-perm Differ (λ m n f e. f (sym e)) (Permᴰ·symm p) (distinct-pairs ns h)))
+
+-- numbers at two places of a list
+pub pairs-at : (R : ℕ → ℕ → Type 0) (ns : List ℕ) (i j : ℕ) → i < j → j < length ns → Pairs R ns → R (getD ns i 0) (getD ns j 0)
+pairs-at R [] i j h k p = absurd (omega arith)
+pairs-at R (n ∷ ns) i zero h k p = absurd (omega arith)
+pairs-at R (n ∷ ns) zero (suc j) h k p = at ns j (omega arith) (p .0)
+  where
+    at : (ms : List ℕ) (j : ℕ) → j < length ms → All (R n) ms → R n (getD ms j 0)
+    at [] j q a = absurd (omega arith)
+    at (m ∷ ms) zero q a = a .0
+    at (m ∷ ms) (suc j) q a = at ms j (omega arith) (a .1)
+pairs-at R (n ∷ ns) (suc i) (suc j) h k p = pairs-at R ns i j (omega arith) (omega arith) (p .1)
+
+-- in an ascending list the next decides
+next-apart : (m n : ℕ) (ns : List ℕ) → Pairs _≤_ (m ∷ n ∷ ns) → Differ m n → distinct (m ∷ n ∷ ns) ≡ distinct (n ∷ ns)
+unfolding distinct
+next-apart m n ns p f =
+    ap (λ (b : Bool). b && distinct (n ∷ ns))
+    (all-every (λ k. not (eqb k m)) (n ∷ ns) (differing n m f, all-weaken (λ k h. differing k m (λ e. f (omega arith))) ns (p .1 .0)))
+
+next-equal : (m n : ℕ) (ns : List ℕ) → m ≡ n → distinct (m ∷ n ∷ ns) ≡ false
+unfolding distinct
+next-equal m n ns e = go (distinct (m ∷ n ∷ ns)) refl
+  where
+    go : (b : Bool) → distinct (m ∷ n ∷ ns) ≡ b → b ≡ false
+    go true h = absurd (distinct-pairs (m ∷ n ∷ ns) h .0 .0 e)
+    go false h = refl
+
+-- a scan of an ascending list, at place i: what is left decides
+module _ (ns : List ℕ) (ascending : Pairs _≤_ ns) (i : ℕ) where
+  two-left : i + 1 < length ns → drop i ns ≡ getD ns i 0 ∷ getD ns (i + 1) 0 ∷ drop (suc (i + 1)) ns
+  two-left h =
+      drop-cons ns i 0 (omega arith)
+      ∙ ap (λ (ms : List ℕ). getD ns i 0 ∷ ms) (ap (λ (k : ℕ). drop k ns) (sym (add-one i)) ∙ drop-cons ns (i + 1) 0 h)
+
+  pub scan-apart : i + 1 < length ns → Differ (getD ns i 0) (getD ns (i + 1) 0) → distinct (drop (i + 1) ns) ≡ distinct (drop i ns)
+  scan-apart h f =
+      ap distinct (drop-cons ns (i + 1) 0 h)
+      ∙ sym (next-apart (getD ns i 0) (getD ns (i + 1) 0) (drop (suc (i + 1)) ns) (subst (Pairs _≤_) (two-left h) (pairs-drop _≤_ i ns ascending)) f)
+      ∙ ap distinct (sym (two-left h))
+
+  pub scan-equal : i + 1 < length ns → getD ns i 0 ≡ getD ns (i + 1) 0 → distinct (drop i ns) ≡ false
+  scan-equal h e = ap distinct (two-left h) ∙ next-equal (getD ns i 0) (getD ns (i + 1) 0) (drop (suc (i + 1)) ns) e
+
+pub scan-last : (ns : List ℕ) (i : ℕ) → length ns ≤ i + 1 → distinct (drop i ns) ≡ true
+unfolding distinct every
+scan-last [] zero h = refl
+scan-last [] (suc i) h = refl
+scan-last (n ∷ []) zero h = refl
+scan-last (n ∷ m ∷ ns) zero h = absurd (omega arith)
+scan-last (n ∷ ns) (suc i) h = scan-last ns i (omega arith)

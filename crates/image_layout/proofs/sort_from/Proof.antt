@@ -1,0 +1,30 @@
+-- Entries with their distances are pairs, so that the sort gives their order. Assumes nothing.
+use mathlib.Core.Path.{refl, sym, _∙_, ap, subst}
+use Rattle.tree_rules.specs.Guided.{All}
+use Rattle.tree_rules.proofs.Lists.{all-map, all-always}
+use Rattle.metric_rules.specs.Distance.{distance, spaceOf}
+use Rattle.search_rules.specs.Range.{Entry, Pair, entry, ordered}
+use Rattle.image_layout.specs.Entries.{measuredIn}
+use Rattle.image_layout.specs.InImage.{slotIn}
+use borrow.Author.Needs.{needs}
+use Rattle.image_layout.proofs.sort_from.Statement.{statement}
+use Rattle.image_layout.proofs.sort_from.Tie as tie
+
+measure-requires : tie.Need-measure-requires
+measure-requires c κs = search needs
+
+sort-entries-requires : tie.Need-sort-entries-requires
+sort-entries-requires c κs = search needs
+
+same-length : tie.Need-same-length
+same-length c = search needs
+
+returns : tie.Need-returns
+unfolding measuredIn entry
+returns c = let a = c .before .before .before .before .before .before .before .args in
+    let m : Entry → Entry = measuredIn (slotIn (a .image .now) (a .at)) (distance (spaceOf (a .header .now))) (a .v) in
+    let measured = c .before .before .before .before .measure .ensures in
+    c .before .sort-entries .ensures (subst (All Pair) (sym measured) (all-map m Pair (a .entries .now) (all-always (λ e. refl) (a .entries .now)))) ∙ ap ordered measured
+
+pub sort-from-spec : {M : Type 1} → statement M
+sort-from-spec = tie.close (tie.spec measure-requires sort-entries-requires same-length returns)

@@ -1,0 +1,191 @@
+// The test of a bucket of an image with a slice of entries: a tag that occurs twice, and the first slot that differs from its layout.
+// An entry's first word is tag · 2^12 + place, the place being the slot's number in its bucket, and its second a distance.
+ghost use mathlib.Core.Path.{_≡_};
+ghost use Prim.Native.Nat.{ℕ, _+_, _-_, _/_, _≤_, _<_, _^_};
+ghost use mathlib.Core.Bool.{_&&_};
+ghost use lib.Dec.{eqb};
+ghost use mathlib.Core.List.{[], map};
+ghost use lib.ListN.{length, take, drop, getD, set};
+ghost use Rattle.metric_rules.specs.Lists.{distinct};
+ghost use Rattle.metric_rules.specs.Row.{tagOf, thresholdOf};
+ghost use Rattle.metric_rules.specs.Distance.{distance, spaceOf};
+ghost use Rattle.tree_rules.specs.Guided.{All};
+ghost use Rattle.tree_rules.specs.Layout.{isLayout};
+ghost use Rattle.search_rules.specs.Range.{ordered};
+ghost use Rattle.image_layout.specs.Entries.{places, entryTag, entryPlace, tagEntry, Fresh, lastOf, IsEntry, TagsFit, TagsTell, slotEntries, measuredIn, laidOut, laidFrom, partFault};
+ghost use Rattle.image_layout.specs.InImage.{InImage, slotIn, slotsAt};
+use entries::sort_entries;
+use image_read::row_in;
+use metric::distance_between;
+use metric_rules::Row;
+use rows::tag_of;
+use rows::threshold_of;
+use search_rules::Entry;
+
+// A bucket's slots in an image: the places of the tags and of the records, the bucket's first slot among all, and the number of its slots.
+pub struct Slots {
+    pub tags: usize,
+    pub records: usize,
+    pub first: usize,
+    pub count: usize,
+}
+
+// Slot i of a bucket.
+pub fn slot_in(image: &[u8], at: Slots, i: usize) -> Row
+    requires { ⌜ InImage (now image) at × (i < at .count) ⌝ }
+    ensures { λ r. ⌜ r ≡ slotIn (now (image .entry)) at i ⌝ }
+{
+    row_in(image, at.tags, at.records, at.first + i)
+}
+
+// The entry of a tag and a place.
+pub fn tag_entry(tag: u64, place: usize) -> Entry
+    requires { ⌜ (tag < 2 ^ 50) × (place < places) ⌝ }
+    ensures { λ r. ⌜ r ≡ tagEntry tag place ⌝ }
+{
+    [tag * 4096 + place as u64, 0]
+}
+
+// The entries of a bucket's slots.
+fn enter_slots(image: &[u8], at: Slots, entries: &mut [Entry])
+    requires { ⌜ InImage (now image) at × (at .count ≤ places) × (length (now entries) ≡ at .count) × TagsFit (slotIn (now image) at) (at .count) ⌝ }
+    ensures { λ _. ⌜ now (entries .exit) ≡ slotEntries (slotIn (now (image .entry)) at) (at .count) ⌝ }
+{
+    let mut i = 0;
+    while i < at.count {
+        entries[i] = tag_entry(tag_of(slot_in(image, at, i)), i);
+        i += 1;
+    }
+}
+
+// Whether no tag occurs twice among entries without a distance. Sorted, equal tags stand side by side.
+pub fn tags_apart(entries: &mut [Entry]) -> bool
+    requires { ⌜ All Fresh (now entries) ⌝ }
+    ensures apart { λ r. ⌜ r ≡ distinct (map entryTag (now (entries .entry))) ⌝ }
+    ensures sorted { λ _. ⌜ now (entries .exit) ≡ ordered (now (entries .entry)) ⌝ }
+{
+    sort_entries(entries);
+    let mut i = 0;
+    while i + 1 < entries.len() {
+        if entries[i][0] / 4096 == entries[i + 1][0] / 4096 {
+            return false;
+        }
+        i += 1;
+    }
+    true
+}
+
+// The place of the entry with the least first word.
+fn least_at(entries: &[Entry]) -> usize
+    requires { ⌜ 1 ≤ length (now entries) ⌝ }
+    ensures { λ r. ⌜ (r < length (now (entries .entry))) × All (λ e. getD (getD (now (entries .entry)) r []) 0 0 ≤ getD e 0 0) (now (entries .entry)) ⌝ }
+{
+    let mut at = 0;
+    let mut i = 1;
+    while i < entries.len() {
+        if entries[i][0] < entries[at][0] {
+            at = i;
+        }
+        i += 1;
+    }
+    at
+}
+
+// The first entry and the entry at a place change places.
+fn bring_first(entries: &mut [Entry], at: usize)
+    requires { ⌜ at < length (now entries) ⌝ }
+    ensures { λ _. ⌜ now (entries .exit) ≡ set (set (now (entries .entry)) 0 (getD (now (entries .entry)) at [])) at (getD (now (entries .entry)) 0 []) ⌝ }
+{
+    let first = entries[0];
+    let entry = entries[at];
+    entries[0] = entry;
+    entries[at] = first;
+}
+
+// The distance of the last of l entries behind the first, or 0 where l is 0.
+fn last_distance(entries: &[Entry], l: usize) -> u64
+    requires { ⌜ l < length (now entries) ⌝ }
+    ensures { λ r. ⌜ r ≡ lastOf (take l (drop 1 (now (entries .entry)))) ⌝ }
+{
+    if l == 0 { 0 } else { entries[l][1] }
+}
+
+// The entries with the distance of each one's slot from v.
+fn measure(image: &[u8], at: Slots, header: &Row, v: Row, entries: &mut [Entry])
+    requires { ⌜ InImage (now image) at × All (IsEntry (slotIn (now image) at) (at .count)) (now entries) ⌝ }
+    ensures { λ _. ⌜ now (entries .exit) ≡ map (measuredIn (slotIn (now (image .entry)) at) (distance (spaceOf (now (header .entry)))) v) (now (entries .entry)) ⌝ }
+{
+    let mut i = 0;
+    while i < entries.len() {
+        let word = entries[i][0];
+        let row = slot_in(image, at, (word % 4096) as usize);
+        entries[i] = [word, distance_between(header, v, row) as u64];
+        i += 1;
+    }
+}
+
+// The entries with their distances from v, in order.
+fn sort_from(image: &[u8], at: Slots, header: &Row, v: Row, entries: &mut [Entry])
+    requires { ⌜ InImage (now image) at × All (IsEntry (slotIn (now image) at) (at .count)) (now entries) ⌝ }
+    ensures { λ _. ⌜ now (entries .exit) ≡ ordered (map (measuredIn (slotIn (now (image .entry)) at) (distance (spaceOf (now (header .entry)))) v) (now (entries .entry))) ⌝ }
+{
+    measure(image, at, header, v, entries);
+    sort_entries(entries);
+}
+
+// A part's entries arranged: the first slot's, and the others in order of their distance from it.
+fn arrange(image: &[u8], at: Slots, header: &Row, entries: &mut [Entry])
+    requires { ⌜ InImage (now image) at × (1 ≤ length (now entries)) × All (IsEntry (slotIn (now image) at) (at .count)) (now entries) ⌝ }
+    ensures laid { λ _. ⌜ laidFrom (slotIn (now (image .entry)) at) (distance (spaceOf (now (header .entry)))) (now (entries .exit)) ≡ laidOut (slotIn (now (image .entry)) at) (distance (spaceOf (now (header .entry)))) (now (entries .entry)) ⌝ }
+    ensures kept { λ _. ⌜ All (IsEntry (slotIn (now (image .entry)) at) (at .count)) (now (entries .exit)) ⌝ }
+{
+    let least = least_at(entries);
+    bring_first(entries, least);
+    let v = slot_in(image, at, (entries[0][0] % 4096) as usize);
+    sort_from(image, at, header, v, &mut entries[1..]);
+}
+
+// Whether the row that an arranged part puts first is that of slot `place`, at the threshold that the slot has.
+fn first_seated(image: &[u8], at: Slots, entries: &[Entry], place: usize) -> bool
+    requires { ⌜ InImage (now image) at × (place < at .count) × (1 ≤ length (now entries)) ⌝ }
+    ensures { λ r. ⌜ r ≡ (eqb (entryPlace (getD (now (entries .entry)) 0 [])) place && eqb (lastOf (take (length (now (entries .entry)) / 2) (drop 1 (now (entries .entry))))) (thresholdOf (slotIn (now (image .entry)) at place))) ⌝ }
+{
+    if entries[0][0] % 4096 != place as u64 {
+        return false;
+    }
+    let threshold = threshold_of(slot_in(image, at, place));
+    last_distance(entries, entries.len() / 2) == threshold as u64
+}
+
+// The first slot from `place` on that differs from the layout of a part's entries, or the place behind the part where none does.
+fn first_fault(image: &[u8], at: Slots, header: &Row, entries: &mut [Entry], place: usize) -> usize
+    requires { ⌜ InImage (now image) at × (place + length (now entries) ≤ at .count) × All (IsEntry (slotIn (now image) at) (at .count)) (now entries) × TagsTell (slotIn (now image) at) (at .count) ⌝ }
+    ensures { λ r. ⌜ r ≡ partFault (slotIn (now (image .entry)) at) (distance (spaceOf (now (header .entry)))) place (now (entries .entry)) ⌝ }
+{
+    let n = entries.len();
+    if n == 0 {
+        return place;
+    }
+    arrange(image, at, header, entries);
+    if !first_seated(image, at, entries, place) {
+        return place;
+    }
+    let end = 1 + n / 2;
+    let left = first_fault(image, at, header, &mut entries[1..end], place + 1);
+    if left < place + end {
+        return left;
+    }
+    first_fault(image, at, header, &mut entries[end..], place + end)
+}
+
+// Whether no tag occurs twice in a bucket and its slots are their layout, marks aside.
+pub fn bucket_stands(image: &[u8], at: Slots, header: &Row, entries: &mut [Entry]) -> bool
+    requires { ⌜ InImage (now image) at × (at .count ≤ places) × (length (now entries) ≡ at .count) × TagsFit (slotIn (now image) at) (at .count) ⌝ }
+    ensures { λ r. ⌜ r ≡ (distinct (map tagOf (slotsAt (now (image .entry)) at)) && isLayout (distance (spaceOf (now (header .entry)))) (slotsAt (now (image .entry)) at)) ⌝ }
+{
+    enter_slots(image, at, entries);
+    if !tags_apart(entries) {
+        return false;
+    }
+    first_fault(image, at, header, entries, 0) == at.count
+}

@@ -1,0 +1,3 @@
+-- Load's checks, one after the other, and the table that it leaves.
+mod Steps
+mod Loading

@@ -1,0 +1,53 @@
+-- What an accepted image makes of the table: fresh first, then each bucket put; and a refused one changes nothing.
+use Prim.Native.Nat.{ℕ, zero, suc, _≤_}
+use mathlib.Core.Path.{_≡_, refl, sym, _∙_}
+use mathlib.Core.List.{List, foldl}
+use native.Mathlib.Omega.{arith}
+use borrow.Author.Tests.{le-leb}
+use lib.ListN.{length}
+use Rattle.metric_rules.specs.Row.{rowWidth, zeroRow, word}
+use Rattle.metric_rules.specs.Distance.{Space, metricAt, spaceOf}
+use Rattle.bucket_rules.specs.Geometry.{bucketsOf, tableRows}
+use Rattle.bucket_rules.specs.Table.{Table, headerOf, putBucket}
+use Rattle.bucket_rules.specs.Fresh.{freshRefusal, freshTable, tableAfterFresh}
+use Rattle.bucket_rules.proofs.Buckets.{order-most}
+use Rattle.bucket_rules.proofs.Changes.{fresh-order, fresh-long}
+use Rattle.image_rules.specs.Read.{orderIn, spaceIn, liveIn, bucketIn}
+use Rattle.image_rules.specs.Load.{loadRefusal, loadedTable, tableAfterLoad}
+use Rattle.image_rules.proofs.Accepting.{Accepted}
+use Rattle.image_rules.proofs.Loaded.{table-after-load}
+use Rattle.buckets.specs.Lent.{Lent}
+
+-- a header row shows what it was made of
+pub header-space : (order : ℕ) (space : Space) → spaceOf (headerOf order space) ≡ space
+unfolding spaceOf headerOf word metricAt zeroRow rowWidth
+header-space order space = refl
+
+module _ (image : List ℕ) (t : Table) (ok : Accepted (length t) image) where
+  fresh-goes : freshRefusal (length t) (orderIn image) (spaceIn image) ≡ 0
+  unfolding freshRefusal
+  fresh-goes = rw (ok .order, freshRefusal, ok .space, le-leb (tableRows (orderIn image)) (length t) (ok .roomy)) refl
+
+  pub fresh-accepted : tableAfterFresh (orderIn image) (spaceIn image) t ≡ freshTable (orderIn image) (spaceIn image) t
+  unfolding tableAfterFresh
+  fresh-accepted = rw (fresh-goes, tableAfterFresh) refl
+
+  pub fresh-lent : Lent (freshTable (orderIn image) (spaceIn image) t) (orderIn image)
+  fresh-lent =
+      record {
+        told = fresh-order (orderIn image) (spaceIn image) t;
+        most = order-most (orderIn image) (ok .order);
+        long = rw (fresh-long (orderIn image) (spaceIn image) t (ok .roomy)) (ok .roomy);
+      }
+
+  pub load-puts : loadRefusal (length t) image ≡ 0 → (last : Table)
+      → last ≡ foldl (λ u k. putBucket k (bucketIn image k) (liveIn image k) u) (freshTable (orderIn image) (spaceIn image) t) (bucketsOf (orderIn image))
+      → last ≡ tableAfterLoad image t
+  unfolding loadedTable
+  load-puts e last put = put ∙ sym (table-after-load image t e)
+
+-- a refusal changes nothing
+pub load-stops : (image : List ℕ) (t : Table) (n : ℕ) → n ≡ loadRefusal (length t) image → (n ≡ 0 → ⊥) → t ≡ tableAfterLoad image t
+unfolding tableAfterLoad
+load-stops image t zero e some = absurd (some refl)
+load-stops image t (suc n) e some = rw (sym e, tableAfterLoad) refl

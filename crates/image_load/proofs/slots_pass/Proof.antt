@@ -1,0 +1,59 @@
+-- `image_load::slots_pass` meets its contract: the slots one by one, and then tags and layouts, are all that is asked of them.
+use Prim.Native.Nat.{ℕ}
+use mathlib.Core.Path.{_≡_, refl, sym, ap, _∙_}
+use mathlib.Core.Bool.{Bool, true, _&&_}
+use borrow.Author.Needs.{needs}
+use borrow.Author.Tests.{not-true, not-false}
+use Rattle.metric_rules.specs.Lists.{every}
+use Rattle.metric_rules.specs.Row.{Row}
+use Rattle.metric_rules.specs.Distance.{Space, spaceOf}
+use Rattle.bucket_rules.specs.Geometry.{mostOrder, bucketsOf}
+use Rattle.bucket_rules.specs.Table.{headerOf}
+use Rattle.image_rules.specs.Read.{orderIn, spaceIn}
+use Rattle.image_fields.specs.SlotsRead.{slotsRead}
+use Rattle.image_test.specs.Standing.{bucketRead, slotsStand}
+use Rattle.image_test.proofs.Checked.{slots-pass-parts}
+use Rattle.image_load.proofs.Loading.{header-space}
+use Rattle.image_load.proofs.slots_pass.Statement.{statement}
+use Rattle.image_load.proofs.slots_pass.Tie as tie
+
+-- the slots one by one, as they were tested
+read-tested : (c : tie.After-buckets-read)
+    → every (bucketRead (c .before .before .args .image .now)) (bucketsOf (orderIn (c .before .before .args .image .now))) ≡ c .buckets-read .result
+unfolding bucketRead slotsRead
+read-tested c = sym (c .buckets-read .ensures)
+
+returns : tie.Need-returns
+returns c =
+    let image = c .before .before .before .args .image .now in
+    sym (slots-pass-parts image
+    ∙ ap (λ (x : Bool). x && slotsStand (spaceIn image) image) (read-tested (c .before) ∙ not-true (c .before .buckets-read .result) (c .if1 .taken)))
+
+slots-stand-requires : tie.Need-slots-stand-requires
+unfolding mostOrder
+slots-stand-requires c κs =
+    let p = c .before .before .before .before .before .before .before .pre in
+    (p .0, p .1, p .3, read-tested (c .before .before .before .before .before) ∙ not-false (c .before .before .before .before .before .buckets-read .result) (c .before .before .before .before .if1 .left))
+
+returns-2 : tie.Need-returns-2
+returns-2 c =
+    let image = c .before .before .before .before .before .before .before .before .args .image .now in
+    let made = c .before .before .header-row in
+    let space : spaceOf (made .result) ≡ spaceIn image =
+    ap spaceOf (made .ensures) ∙ header-space _ _ ∙ ap (λ (m : ℕ). record { metric = m }) (c .before .before .before .metric-in .ensures) in
+    c .slots-stand .ensures
+    ∙ ap (λ (s : Space). slotsStand s image) space
+    ∙ sym (slots-pass-parts image
+    ∙ ap (λ (x : Bool). x && slotsStand (spaceIn image) image) (read-tested (c .before .before .before .before .before .before) ∙ not-false (c .before .before .before .before .before .before .buckets-read .result) (c .before .before .before .before .before .if1 .left)))
+
+pub slots-pass-spec : {M : Type 1} → statement M
+slots-pass-spec =
+    tie.close
+    (tie.spec
+    (λ c κs. search needs)
+    returns
+    (λ c κs. search needs)
+    (λ c κs. search needs)
+    (λ c κs. search needs)
+    slots-stand-requires
+    returns-2)

@@ -1,0 +1,77 @@
+// Numbers, tags and records put into an area of bytes, each at its place. Every other byte is kept.
+ghost use mathlib.Core.Path.{_≡_};
+ghost use mathlib.Core.List.{map, flatten};
+ghost use Prim.Native.Nat.{_+_, _*_, _≤_};
+ghost use lib.ListN.{length, take, drop};
+ghost use lib.Seq.{sets};
+ghost use Rattle.image_rules.specs.Bytes.{bytesOf, tagFields, recordFields, bytesOfFields, tagWords};
+ghost use Rattle.image_rules.specs.Write.{tagsOf, recordsOf};
+use metric_rules::Row;
+
+// The two bytes of a number, and its four.
+pub fn put16(image: &mut [u8], at: usize, n: u32)
+    requires { ⌜ at + 2 ≤ length (now image) ⌝ }
+    ensures { λ _. ⌜ now (image .exit) ≡ sets (now (image .entry)) at (bytesOf 2 n) ⌝ }
+{
+    image[at] = (n % 256) as u8;
+    image[at + 1] = (n / 256 % 256) as u8;
+}
+
+fn put32(image: &mut [u8], at: usize, n: u32)
+    requires { ⌜ at + 4 ≤ length (now image) ⌝ }
+    ensures { λ _. ⌜ now (image .exit) ≡ sets (now (image .entry)) at (bytesOf 4 n) ⌝ }
+{
+    image[at] = (n % 256) as u8;
+    image[at + 1] = (n / 256 % 256) as u8;
+    image[at + 2] = (n / 256 / 256 % 256) as u8;
+    image[at + 3] = (n / 256 / 256 / 256 % 256) as u8;
+}
+
+// n words of a row from one on.
+fn put_words(image: &mut [u8], at: usize, row: Row, first: usize, n: usize)
+    requires { ⌜ (first + n ≤ 12) × (at + 4 * n ≤ length (now image)) ⌝ }
+    ensures { λ _. ⌜ now (image .exit) ≡ sets (now (image .entry)) at (flatten (map (bytesOf 4) (take n (drop first row)))) ⌝ }
+{
+    let mut j = 0;
+    while j < n {
+        put32(image, at + 4 * j, row[first + j]);
+        j += 1;
+    }
+}
+
+fn put_tag(image: &mut [u8], at: usize, row: Row)
+    requires { ⌜ at + 8 ≤ length (now image) ⌝ }
+    ensures { λ _. ⌜ now (image .exit) ≡ sets (now (image .entry)) at (bytesOfFields tagFields (take tagWords row)) ⌝ }
+{
+    put_words(image, at, row, 0, 2);
+}
+
+fn put_record(image: &mut [u8], at: usize, row: Row)
+    requires { ⌜ at + 40 ≤ length (now image) ⌝ }
+    ensures { λ _. ⌜ now (image .exit) ≡ sets (now (image .entry)) at (bytesOfFields recordFields (drop tagWords row)) ⌝ }
+{
+    put_words(image, at, row, 2, 10);
+}
+
+// The tags of some rows, one after the other, and their records.
+pub fn put_tags(image: &mut [u8], at: usize, rows: &[Row])
+    requires { ⌜ at + 8 * length (now rows) ≤ length (now image) ⌝ }
+    ensures { λ _. ⌜ now (image .exit) ≡ sets (now (image .entry)) at (tagsOf (now (rows .entry))) ⌝ }
+{
+    let mut i = 0;
+    while i < rows.len() {
+        put_tag(image, at + 8 * i, rows[i]);
+        i += 1;
+    }
+}
+
+pub fn put_records(image: &mut [u8], at: usize, rows: &[Row])
+    requires { ⌜ at + 40 * length (now rows) ≤ length (now image) ⌝ }
+    ensures { λ _. ⌜ now (image .exit) ≡ sets (now (image .entry)) at (recordsOf (now (rows .entry))) ⌝ }
+{
+    let mut i = 0;
+    while i < rows.len() {
+        put_record(image, at + 40 * i, rows[i]);
+        i += 1;
+    }
+}

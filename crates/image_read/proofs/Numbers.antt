@@ -1,0 +1,37 @@
+-- A number of four bytes is read byte by byte. A slot's numbers stand at its places.
+use Prim.Native.Nat.{ℕ, _+_, _*_, _≤_, _<_}
+use mathlib.Core.Path.{_≡_, refl}
+use mathlib.Core.List.{List, [], _∷_}
+use native.Mathlib.Nat.{add-assoc}
+use native.Mathlib.Omega.{arith}
+use lib.ListN.{length, getD}
+use Rattle.metric_rules.specs.Lists.{total}
+use Rattle.image_rules.specs.Bytes.{tagFields, recordFields, tagBytes, recordBytes, imageLength}
+use Rattle.image_rules.specs.Read.{numberAt, fieldsAt, slotsIn}
+use Rattle.image_reader.proofs.Numbers.{number-more, two-at}
+use Rattle.image_read.specs.Places.{Places}
+
+pub four-at : (l : List ℕ) (at : ℕ) → at + 4 ≤ length l
+    → numberAt l 4 at ≡ getD l at 0 + 256 * (getD l (at + 1) 0 + 256 * (getD l (at + 2) 0 + 256 * getD l (at + 3) 0))
+four-at l at h =
+    let first = number-more l 3 at (at + 1) (omega arith) (omega arith) in
+    let second = number-more l 2 (at + 1) (at + 2) (omega arith) (omega arith) in
+    let rest = two-at l (at + 2) (at + 3) (omega arith) (omega arith) in
+    omega arith
+
+-- the fields of a slot, each by its place from the first on
+pub tag-fields : (l : List ℕ) (t : ℕ) → fieldsAt l tagFields t ≡ numberAt l 4 t ∷ numberAt l 4 (t + 4) ∷ []
+unfolding fieldsAt tagFields
+tag-fields l t = refl
+
+pub record-fields : (l : List ℕ) (r : ℕ)
+    → fieldsAt l recordFields r
+    ≡ numberAt l 4 r ∷ numberAt l 4 (r + 4) ∷ numberAt l 4 (r + 8) ∷ numberAt l 4 (r + 12) ∷ numberAt l 4 (r + 16) ∷ numberAt l 4 (r + 20) ∷ numberAt l 4 (r + 24) ∷ numberAt l 4 (r + 28) ∷ numberAt l 4 (r + 32) ∷ numberAt l 4 (r + 36) ∷ []
+unfolding fieldsAt recordFields
+record-fields l r = simp add-assoc
+
+-- in a whole image every slot's tag and record have their bytes
+pub slot-within : {image : List ℕ} {tags records : ℕ} (i : ℕ) → Places image tags records → i < slotsIn image
+    → (tags + 8 * i + 8 ≤ length image) × (records + 40 * i + 40 ≤ length image)
+unfolding imageLength tagBytes recordBytes tagFields recordFields total
+slot-within i p h = (omega (arith, p .tagsAt, p .recordsAt, p .whole), omega (arith, p .tagsAt, p .recordsAt, p .whole))

@@ -1,0 +1,19 @@
+-- `image_read::metric_in` meets its contract: the metric is the second field of the head.
+use mathlib.Core.Path.{ap}
+use native.Mathlib.Omega.{arith}
+use Rattle.metric_rules.specs.Lists.{total}
+use Rattle.image_rules.specs.Bytes.{headerFields, headerBytes}
+use Rattle.image_rules.specs.Read.{fieldsAt, headerNumbers, spaceIn}
+use Rattle.image_read.proofs.metric_in.Statement.{statement}
+use Rattle.image_read.proofs.metric_in.Tie as tie
+
+two-from-requires : tie.Need-two-from-requires
+unfolding headerBytes headerFields total
+two-from-requires c κs = (omega arith, omega arith, omega (arith, c .before .pre))
+
+returns : tie.Need-returns
+unfolding spaceIn headerNumbers headerFields fieldsAt
+returns c = ap (λ two. two .second) (c .two-from .ensures)
+
+pub metric-in-spec : {M : Type 1} → statement M
+metric-in-spec = tie.close (tie.spec two-from-requires returns)

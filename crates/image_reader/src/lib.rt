@@ -1,0 +1,98 @@
+// A reader of an image: it holds the image and its position. What it does is done by functions over a slice and a number, so each function over a reader
+// is thin: the borrow checker covers none that takes, makes or has one, and their proofs are walks by hand. Callers need none of them:
+// `two_from` and `has_bytes` have plain parameters.
+ghost use mathlib.Core.Path.{_≡_};
+ghost use Prim.Native.Nat.{_+_, _*_, _≤_};
+ghost use lib.Dec.{leb};
+ghost use lib.ListN.{length};
+ghost use Rattle.image_rules.specs.Read.{numberAt};
+ghost use Rattle.image_reader.specs.Moved.{movedOn};
+
+pub struct Reader<'a> {
+    pub image: &'a [u8],
+    pub at: usize,
+}
+
+// Two numbers that stand one after the other.
+pub struct Two {
+    pub first: u32,
+    pub second: u32,
+}
+
+// The number of a byte, and of two, lowest first.
+fn of_one(a: u8) -> u32
+    ensures { λ r. ⌜ r ≡ a ⌝ }
+{
+    a as u32
+}
+
+fn of_two(a: u8, b: u8) -> u32
+    ensures { λ r. ⌜ r ≡ a + 256 * b ⌝ }
+{
+    a as u32 + b as u32 * 0x100
+}
+
+// The number that stands in w bytes at a place.
+pub fn number_at(image: &[u8], at: usize, w: usize) -> u32
+    requires { ⌜ (w ≤ 2) × (at + w ≤ length (now image)) ⌝ }
+    ensures { λ r. ⌜ r ≡ numberAt (now (image .entry)) w at ⌝ }
+{
+    if w == 0 {
+        return 0;
+    }
+    if w == 1 {
+        return of_one(image[at]);
+    }
+    of_two(image[at], image[at + 1])
+}
+
+// Whether n bytes are left at a place.
+pub fn bytes_left(image: &[u8], at: usize, n: usize) -> bool
+    ensures { λ r. ⌜ r ≡ leb (at + n) (length (now (image .entry))) ⌝ }
+{
+    if image.len() < at {
+        return false;
+    }
+    n <= image.len() - at
+}
+
+pub fn reader_at<'a>(image: &'a [u8], at: usize) -> Reader<'a>
+    ensures { λ r. ⌜ (r .image ≡ image .entry) × (r .at ≡ at) ⌝ }
+{
+    Reader { image, at }
+}
+
+// Whether n bytes are left.
+pub fn left<'a>(r: Reader<'a>, n: usize) -> bool
+    ensures { λ b. ⌜ b ≡ leb (r .entry .at + n) (length (now (r .entry .image))) ⌝ }
+{
+    bytes_left(r.image, r.at, n)
+}
+
+// The next number of w bytes; the reader is moved on behind it.
+pub fn next<'s, 'a>(r: &'s mut Reader<'a>, w: usize) -> u32
+    requires { ⌜ (w ≤ 2) × (now r .at + w ≤ length (now (now r .image))) ⌝ }
+    ensures { λ n. ⌜ (n ≡ numberAt (now (now (r .entry) .image)) w (now (r .entry) .at)) × (now (r .exit) ≡ movedOn (now (r .entry)) w) ⌝ }
+{
+    let n = number_at(r.image, r.at, w);
+    r.at = r.at + w;
+    n
+}
+
+// Two numbers from a place on, of v bytes and of w.
+pub fn two_from(image: &[u8], at: usize, v: usize, w: usize) -> Two
+    requires { ⌜ (v ≤ 2) × (w ≤ 2) × (at + v + w ≤ length (now image)) ⌝ }
+    ensures { λ t. ⌜ t ≡ record { first = numberAt (now (image .entry)) v at; second = numberAt (now (image .entry)) w (at + v) } ⌝ }
+{
+    let mut r = reader_at(image, at);
+    let first = next(&mut r, v);
+    let second = next(&mut r, w);
+    Two { first, second }
+}
+
+// Whether n bytes are left at a place.
+pub fn has_bytes(image: &[u8], at: usize, n: usize) -> bool
+    ensures { λ b. ⌜ b ≡ leb (at + n) (length (now (image .entry))) ⌝ }
+{
+    left(reader_at(image, at), n)
+}

@@ -1,0 +1,154 @@
+-- What an image shows whose sizes are right and whose slots are valid, one by one: its buckets and its live head fit the array of entries, and its
+-- tags leave room for a place. And the test of all slots in its two steps. Assumes nothing.
+use Prim.Native.Nat.{ℕ, suc, _+_, _^_, _≤_, _<_}
+use native.Mathlib.Nat.{pow-le-pow-right}
+use native.Mathlib.Omega.{arith}
+use mathlib.Core.Path.{_≡_, refl, sym, _∙_, ap, ap₂, subst}
+use mathlib.Core.Bool.{Bool, true, false, _&&_}
+use mathlib.Core.List.{List, [], _∷_, map}
+use lib.Dec.{leb, ltb, eqb}
+use lib.ListN.{length}
+use borrow.Author.Tests.{eqb-true, ltb-true}
+use Rattle.metric_rules.specs.Lists.{countFrom, total, every, select, distinct}
+use Rattle.metric_rules.specs.Row.{Row, tagOf, profileOf, markOf, isLive}
+use Rattle.metric_rules.specs.Validity.{validTag, validMeasures}
+use Rattle.metric_rules.specs.Distance.{Space, distance}
+use Rattle.metric_rules.proofs.Ranges.{tag-range}
+use Rattle.tree_rules.specs.Guided.{All}
+use Rattle.tree_rules.specs.Layout.{isLayout}
+use Rattle.tree_rules.proofs.Lists.{all-of-map}
+use Rattle.tree_rules.proofs.Tests.{and-first, and-second, every-all}
+use Rattle.bucket_rules.specs.Geometry.{mostOrder, room, bucketsOf}
+use Rattle.bucket_rules.specs.Checks.{sizesPass}
+use Rattle.bucket_rules.proofs.ByNumber.{count-all, map-count, length-flatten}
+use Rattle.bucket_rules.proofs.Sizes.{size-room, sizes-at, sizes-total}
+use Rattle.image_rules.specs.Read.{orderIn, builtIn, liveIn, slotsBefore, slotsIn, rowIn, bucketIn, spaceIn}
+use Rattle.image_rules.specs.Load.{fieldsPass, bucketPasses, liveRows, slotsPass}
+use Rattle.image_rules.proofs.Blocks.{all-flatten}
+use Rattle.search_rules.specs.Range.{Entry}
+use Rattle.image_read.specs.Places.{Places}
+use Rattle.image_layout.specs.Entries.{places, TagsFit}
+use Rattle.image_layout.specs.InImage.{InImage, slotIn, slotsAt}
+use Rattle.image_test.specs.Standing.{bucketRead, standing, slotsStand}
+use Rattle.image_test.proofs.Buckets.{rows-before, live-all}
+
+room-few : (k order : ℕ) → k ≤ order → order ≤ mostOrder → room k ≤ places
+unfolding room places mostOrder
+room-few k order h n = pow-le-pow-right (omega arith) {i = k} {j = 12} (omega arith)
+
+-- a valid slot's tag
+tag-fits : (row : Row) → fieldsPass row ≡ true → tagOf row < 2 ^ 50
+unfolding fieldsPass
+tag-fits row h =
+    let valid : validTag (tagOf row) ≡ true =
+    and-first (validTag (tagOf row)) (validMeasures (profileOf row)) (and-first (validTag (tagOf row) && validMeasures (profileOf row)) (leb (markOf row) 1) h) in
+    omega (arith, ltb-true (tagOf row) (10 ^ 15) (and-second (leb (10 ^ 12) (tagOf row)) (ltb (tagOf row) (10 ^ 15)) (sym (tag-range (tagOf row)) ∙ valid)))
+
+module _ (image : List ℕ) (known : orderIn image ≤ mostOrder) (sizes : sizesPass (orderIn image) (builtIn image) (liveIn image) ≡ true)
+    (read : every (bucketRead image) (bucketsOf (orderIn image)) ≡ true) where
+  pub built-few : (k : ℕ) → k ≤ orderIn image → builtIn image k ≤ places
+  built-few k h =
+      omega (
+        arith,
+        size-room k (builtIn image k) (liveIn image k) (sizes-at (orderIn image) (builtIn image) (liveIn image) sizes k h) .1,
+        room-few k (orderIn image) h known,
+      )
+
+  bucket-read : (k : ℕ) → k ≤ orderIn image → bucketRead image k ≡ true
+  unfolding bucketsOf
+  bucket-read k h = count-all (λ j. bucketRead image j ≡ true) 0 (suc (orderIn image)) (every-all (bucketRead image) (bucketsOf (orderIn image)) read) k (omega arith) (omega arith)
+
+  fields-read : (k : ℕ) → k ≤ orderIn image → All (λ row. fieldsPass row ≡ true) (bucketIn image k)
+  unfolding bucketRead
+  fields-read k h =
+      every-all fieldsPass (bucketIn image k)
+      (and-first (every fieldsPass (bucketIn image k)) (eqb (length (select isLive (bucketIn image k))) (liveIn image k)) (bucket-read k h))
+
+  lives-read : (k : ℕ) → k ≤ orderIn image → length (select isLive (bucketIn image k)) ≡ liveIn image k
+  unfolding bucketRead
+  lives-read k h =
+      eqb-true (length (select isLive (bucketIn image k))) (liveIn image k)
+      (and-second (every fieldsPass (bucketIn image k)) (eqb (length (select isLive (bucketIn image k))) (liveIn image k)) (bucket-read k h))
+
+  pub tags-fit : (i : ℕ) → i < slotsIn image → tagOf (rowIn image i) < 2 ^ 50
+  unfolding slotsIn
+  tags-fit i h =
+      tag-fits (rowIn image i)
+      (count-all (λ j. fieldsPass (rowIn image j) ≡ true) 0 (slotsBefore image (suc (orderIn image)))
+      (all-of-map (rowIn image) (λ row. fieldsPass row ≡ true) (countFrom 0 (slotsBefore image (suc (orderIn image))))
+      (subst (All (λ row. fieldsPass row ≡ true)) (rows-before image (suc (orderIn image)))
+      (all-flatten (λ row. fieldsPass row ≡ true) (bucketIn image) 0 (suc (orderIn image)) (λ k l. fields-read k (omega arith)))))
+      i (omega arith) (omega arith))
+
+  pub lives-few : length (liveRows image) ≤ places
+  unfolding liveRows bucketsOf
+  lives-few =
+      omega (
+        arith,
+        length-flatten (λ k. select isLive (bucketIn image k)) (countFrom 0 (suc (orderIn image))),
+        ap total (map-count (λ k. length (select isLive (bucketIn image k))) (liveIn image) 0 (suc (orderIn image)) (λ k l h. lives-read k (omega arith))),
+        sizes-total (orderIn image) (builtIn image) (liveIn image) sizes,
+        room-few (orderIn image) (orderIn image) (omega arith) known,
+      )
+
+  -- what the test of the live tags of all slots asks
+  pub all-asks :
+      (tags records count : ℕ) → Places image tags records → count ≡ slotsIn image → (es : List Entry) → length es ≡ places
+      → InImage image (record { tags = tags; records = records; first = 0; count = count })
+      × (length (select isLive (slotsAt image (record { tags = tags; records = records; first = 0; count = count }))) ≤ length es)
+      × TagsFit (slotIn image (record { tags = tags; records = records; first = 0; count = count })) count
+  unfolding slotIn
+  all-asks tags records count p n es full = (
+    record { places = p; within = omega arith },
+    omega (arith, ap length (live-all image (record { tags = tags; records = records; first = 0; count = count }) refl n), lives-few),
+    λ i l. tags-fit (0 + i) (omega arith),
+  )
+
+-- the two tests, and all slots
+pub stand-fails : (space : Space) (image : List ℕ) (b : Bool) → b ≡ every (λ k. standing space (bucketIn image k)) (bucketsOf (orderIn image)) → b ≡ false → false ≡ slotsStand space image
+unfolding slotsStand
+stand-fails space image b e h = ap (λ (x : Bool). x && distinct (map tagOf (liveRows image))) (sym h ∙ e)
+
+pub stand-tested :
+    (space : Space) (image : List ℕ) (tags records count : ℕ) (b : Bool) → b ≡ every (λ k. standing space (bucketIn image k)) (bucketsOf (orderIn image)) → b ≡ true
+    → count ≡ slotsIn image → (r : Bool)
+    → r ≡ distinct (map tagOf (select isLive (slotsAt image (record { tags = tags; records = records; first = 0; count = count }))))
+    → r ≡ slotsStand space image
+unfolding slotsStand
+stand-tested space image tags records count b e h n r f =
+    f
+    ∙ ap (λ (rows : List Row). distinct (map tagOf rows)) (sym (live-all image (record { tags = tags; records = records; first = 0; count = count }) refl n))
+    ∙ ap (λ (x : Bool). x && distinct (map tagOf (liveRows image))) (sym h ∙ e)
+
+-- tests of all elements, one after the other or both at once
+every-both : {A : Type 0} (f g both : A → Bool) → ((x : A) → both x ≡ (f x && g x)) → (xs : List A) → every both xs ≡ (every f xs && every g xs)
+unfolding every
+every-both f g both e [] = refl
+every-both f g both e (x ∷ xs) = ap₂ _&&_ (e x) (every-both f g both e xs) ∙ shuffle (f x) (g x) (every f xs) (every g xs)
+  where
+    shuffle : (a b c d : Bool) → ((a && b) && (c && d)) ≡ ((a && c) && (b && d))
+    shuffle true true c d = refl
+    shuffle true false true d = refl
+    shuffle true false false d = refl
+    shuffle false b c d = refl
+
+and-assoc : (a b c : Bool) → ((a && b) && c) ≡ (a && (b && c))
+and-assoc true b c = refl
+and-assoc false b c = refl
+
+in-parts : (image : List ℕ) (k : ℕ) → bucketPasses (spaceIn image) (liveIn image k) (bucketIn image k) ≡ (bucketRead image k && standing (spaceIn image) (bucketIn image k))
+unfolding bucketPasses bucketRead standing
+in-parts image k =
+    and-assoc (every fieldsPass (bucketIn image k) && eqb (length (select isLive (bucketIn image k))) (liveIn image k))
+    (distinct (map tagOf (bucketIn image k)))
+    (isLayout (distance (spaceIn image)) (bucketIn image k))
+
+-- the test of all slots, in its two steps
+pub slots-pass-parts : (image : List ℕ) → slotsPass image ≡ (every (bucketRead image) (bucketsOf (orderIn image)) && slotsStand (spaceIn image) image)
+unfolding slotsPass slotsStand
+slots-pass-parts image =
+    let ks : List ℕ = bucketsOf (orderIn image) in
+    let stands : ℕ → Bool = λ (k : ℕ). standing (spaceIn image) (bucketIn image k) in
+    ap (λ (b : Bool). b && distinct (map tagOf (liveRows image)))
+    (every-both (bucketRead image) stands (λ k. bucketPasses (spaceIn image) (liveIn image k) (bucketIn image k)) (in-parts image) ks)
+    ∙ and-assoc (every (bucketRead image) ks) (every stands ks) (distinct (map tagOf (liveRows image)))

@@ -1,0 +1,52 @@
+-- The live slots' entries are put in order by their tags. Assumes nothing.
+use native.Mathlib.Omega.{arith}
+use mathlib.Core.Path.{sym, _∙_, ap, subst}
+use mathlib.Core.List.{List, map}
+use lib.Seq.{length-take-le}
+use Rattle.metric_rules.specs.Lists.{select, distinct}
+use Rattle.metric_rules.specs.Row.{isLive}
+use Rattle.tree_rules.specs.Guided.{All}
+use Rattle.search_rules.specs.Range.{Entry}
+use Rattle.image_layout.specs.Entries.{entryTag, Fresh}
+use Rattle.image_layout.specs.InImage.{slotsAt}
+use Rattle.image_test.proofs.Living.{live-fresh, live-tags}
+use borrow.Author.Needs.{needs}
+use Rattle.image_test.proofs.live_apart.Statement.{statement}
+use Rattle.image_test.proofs.live_apart.Tie as tie
+
+enter-live-requires : tie.Need-enter-live-requires
+enter-live-requires c κs = search needs
+
+slice-relend-prefix-tags-apart : tie.Need-slice-relend-prefix-tags-apart
+slice-relend-prefix-tags-apart c = search needs
+
+slice-aggregate-tags-apart : tie.Need-slice-aggregate-tags-apart
+slice-aggregate-tags-apart c =
+    let e = c .before .before .enter-live in
+    sym (length-take-le _ _ (omega (arith, e .ensures .0, c .before .before .before .before .before .pre .1, e .kept .1 .1 .0)))
+
+tags-apart-requires : tie.Need-tags-apart-requires
+tags-apart-requires c κs =
+    let a = c .before .before .before .before .before .args in
+    subst (All Fresh) (sym (c .before .before .enter-live .ensures .1)) (live-fresh (select isLive (slotsAt (a .image .now) (a .at))))
+
+same-length : tie.Need-same-length
+same-length c = search needs
+
+returns : tie.Need-returns
+returns c =
+    let a = c .before .before .before .before .before .before .before .args in
+    c .before .tags-apart .ensures .0
+    ∙ ap (λ (es : List Entry). distinct (map entryTag es)) (c .before .before .before .before .enter-live .ensures .1)
+    ∙ ap distinct (live-tags (select isLive (slotsAt (a .image .now) (a .at))))
+
+pub live-apart-spec : {M : Type 1} → statement M
+live-apart-spec =
+    tie.close
+    (tie.spec
+    enter-live-requires
+    slice-relend-prefix-tags-apart
+    slice-aggregate-tags-apart
+    tags-apart-requires
+    same-length
+    returns)

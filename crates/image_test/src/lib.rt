@@ -1,0 +1,105 @@
+// The test of all of an image's slots with one array of entries: every bucket's tags and layout, and that no live tag occurs twice at all.
+ghost use mathlib.Core.Path.{_≡_};
+ghost use Prim.Native.Nat.{ℕ, _+_, _≤_, _<_, _^_};
+ghost use mathlib.Core.Bool.{true};
+ghost use mathlib.Core.List.{map};
+ghost use lib.ListN.{length, take};
+ghost use Rattle.metric_rules.specs.Lists.{every, select, distinct};
+ghost use Rattle.metric_rules.specs.Row.{tagOf, isLive};
+ghost use Rattle.metric_rules.specs.Distance.{spaceOf};
+ghost use Rattle.bucket_rules.specs.Geometry.{mostOrder, bucketsOf};
+ghost use Rattle.bucket_rules.specs.Checks.{sizesPass};
+ghost use Rattle.image_rules.specs.Read.{orderIn, builtIn, liveIn, bucketIn, rowIn, slotsIn};
+ghost use Rattle.image_read.specs.Places.{Places};
+ghost use Rattle.image_layout.specs.Entries.{places, TagsFit};
+ghost use Rattle.image_layout.specs.InImage.{InImage, slotIn, slotsAt};
+ghost use Rattle.image_test.specs.Standing.{bucketRead, standing, slotsStand, liveEntry};
+use image_layout::Slots;
+use image_layout::bucket_stands;
+use image_layout::slot_in;
+use image_layout::tag_entry;
+use image_layout::tags_apart;
+use image_read::built_in;
+use image_read::order_in;
+use image_read::slots_in;
+use metric_rules::Row;
+use rows::is_live;
+use rows::tag_of;
+use search_rules::Entry;
+
+// The entries of the live ones of some slots, from the first place on. The reply is their number.
+fn enter_live(image: &[u8], at: Slots, entries: &mut [Entry]) -> usize
+    requires { ⌜ InImage (now image) at × (length (select isLive (slotsAt (now image) at)) ≤ length (now entries)) × TagsFit (slotIn (now image) at) (at .count) ⌝ }
+    ensures counted { λ r. ⌜ r ≡ length (select isLive (slotsAt (now (image .entry)) at)) ⌝ }
+    ensures entered { λ r. ⌜ take r (now (entries .exit)) ≡ map liveEntry (select isLive (slotsAt (now (image .entry)) at)) ⌝ }
+{
+    let mut count = 0;
+    let mut i = 0;
+    while i < at.count {
+        let row = slot_in(image, at, i);
+        if is_live(row) {
+            entries[count] = tag_entry(tag_of(row), 0);
+            count += 1;
+        }
+        i += 1;
+    }
+    count
+}
+
+// Whether no tag of a live slot occurs twice among some slots.
+fn live_apart(image: &[u8], at: Slots, entries: &mut [Entry]) -> bool
+    requires { ⌜ InImage (now image) at × (length (select isLive (slotsAt (now image) at)) ≤ length (now entries)) × TagsFit (slotIn (now image) at) (at .count) ⌝ }
+    ensures { λ r. ⌜ r ≡ distinct (map tagOf (select isLive (slotsAt (now (image .entry)) at))) ⌝ }
+{
+    let count = enter_live(image, at, entries);
+    tags_apart(&mut entries[..count])
+}
+
+// Whether every bucket stands, one after the other.
+fn buckets_stand(
+    image: &[u8],
+    tags: usize,
+    records: usize,
+    header: &Row,
+    entries: &mut [Entry],
+) -> bool
+    requires { ⌜ Places (now image) tags records × (orderIn (now image) ≤ mostOrder) × (length (now entries) ≡ places) × ((k : ℕ) → k ≤ orderIn (now image) → builtIn (now image) k ≤ places) × ((i : ℕ) → i < slotsIn (now image) → tagOf (rowIn (now image) i) < 2 ^ 50) ⌝ }
+    ensures { λ r. ⌜ r ≡ every (λ k. standing (spaceOf (now (header .entry))) (bucketIn (now (image .entry)) k)) (bucketsOf (orderIn (now (image .entry)))) ⌝ }
+{
+    let buckets = order_in(image) + 1;
+    let mut first = 0;
+    let mut k = 0;
+    while k < buckets {
+        let count = built_in(image, k) as usize;
+        let at = Slots {
+            tags,
+            records,
+            first,
+            count,
+        };
+        if !bucket_stands(image, at, header, &mut entries[..count]) {
+            return false;
+        }
+        first += count;
+        k += 1;
+    }
+    true
+}
+
+// Whether the slots of an image that is right but for its tags and layouts stand. The array is all the room that this takes.
+pub fn slots_stand(image: &[u8], tags: usize, records: usize, header: &Row) -> bool
+    requires { ⌜ Places (now image) tags records × (orderIn (now image) ≤ mostOrder) × (sizesPass (orderIn (now image)) (builtIn (now image)) (liveIn (now image)) ≡ true) × (every (bucketRead (now image)) (bucketsOf (orderIn (now image))) ≡ true) ⌝ }
+    ensures { λ r. ⌜ r ≡ slotsStand (spaceOf (now (header .entry))) (now (image .entry)) ⌝ }
+{
+    let mut entries = [[0u64; 2]; 4096];
+    if !buckets_stand(image, tags, records, header, &mut entries[..]) {
+        return false;
+    }
+    let all = Slots {
+        tags,
+        records,
+        first: 0,
+        count: slots_in(image),
+    };
+    live_apart(image, all, &mut entries[..])
+}

@@ -1,0 +1,68 @@
+-- How many slots and bytes there are: a table that passed has few slots, so that its image's length fits 32 bits; and where each part of it begins.
+use Prim.Native.Nat.{ℕ, suc, _+_, _≤_, _<_}
+use mathlib.Core.Path.{_≡_, refl, ap, _∙_}
+use mathlib.Core.List.{List, [], _∷_, _++_, map}
+use native.Mathlib.Omega.{arith}
+use lib.ListN.{length, length-append}
+use lib.Pow.{pow-mono}
+use lib.Seq.{sets}
+use Rattle.metric_rules.specs.Lists.{total, countFrom}
+use Rattle.bucket_rules.specs.Geometry.{room, bucketsOf}
+use Rattle.bucket_rules.specs.Table.{Table, orderOf, tableSpace, builtOf, liveOf, slotsOf}
+use Rattle.bucket_rules.specs.Passed.{Passed}
+use Rattle.bucket_rules.proofs.ByNumber.{map-count, length-flatten}
+use Rattle.bucket_rules.proofs.Passing.{bucket-within}
+use Rattle.image_rules.specs.Bytes.{headerFields, headerBytes, sizesEnd}
+use Rattle.image_rules.specs.Write.{headerBytesOf, sizesOf, tagsOf, recordsOf, allSlots, imageOf}
+use Rattle.image_rules.proofs.Bytes.{length-fields}
+use Rattle.image_rules.proofs.Lengths.{length-sizes}
+use Rattle.image_rules.proofs.Counting.{total-most}
+use Rattle.image_put.proofs.Stores.{sets-more}
+use Rattle.image_write.proofs.Runs.{slots-length}
+
+-- the slots of all buckets are as many as the built sizes add up to
+pub count-slots : {t : Table} → Passed t → length (allSlots t) ≡ total (map (builtOf t) (countFrom 0 (suc (orderOf t))))
+unfolding allSlots bucketsOf
+count-slots {t} p =
+    length-flatten (slotsOf t) (countFrom 0 (suc (orderOf t)))
+    ∙ ap total (map-count (λ j. length (slotsOf t j)) (builtOf t) 0 (suc (orderOf t)) (λ j l m. slots-length p j (omega arith)))
+
+pub slots-most : {t : Table} → Passed t → length (allSlots t) ≤ 53248
+unfolding room
+slots-most {t} p =
+    let each : (k : ℕ) → k < suc (orderOf t) → builtOf t k ≤ 4096 =
+    λ k l. omega (arith, bucket-within p k (omega arith) .1, pow-mono {i = k} {j = 12} (omega (arith, p .framed .order))) in
+    omega (arith, count-slots p, total-most (builtOf t) 4096 (suc (orderOf t)) each, p .framed .order)
+
+-- the four parts of an image
+module _ (t : Table) where
+  unfoldable pub headPart : List ℕ
+  headPart = headerBytesOf (orderOf t) (tableSpace t)
+
+  unfoldable pub sizesPart : List ℕ
+  sizesPart = sizesOf (orderOf t) (builtOf t) (liveOf t)
+
+  pub length-head : length headPart ≡ headerBytes
+  unfolding headPart headerBytesOf headerBytes
+  length-head = length-fields headerFields (orderOf t ∷ tableSpace t .metric ∷ 0 ∷ [])
+
+  pub length-front : length headPart + length sizesPart ≡ sizesEnd (orderOf t)
+  unfolding sizesPart sizesEnd
+  length-front = omega (arith, length-head, length-sizes (orderOf t) (builtOf t) (liveOf t))
+
+  pub length-parts : length (imageOf t) ≡ sizesEnd (orderOf t) + length (tagsOf (allSlots t)) + length (recordsOf (allSlots t))
+  unfolding imageOf headPart sizesPart
+  length-parts = simp length-append (omega (arith, length-front))
+
+  -- put one after the other, each where the one before it ends, they are the image put whole
+  pub parts-put : (l : List ℕ) (a b c : ℕ) → a ≡ headerBytes → b ≡ sizesEnd (orderOf t) → c ≡ sizesEnd (orderOf t) + length (tagsOf (allSlots t))
+      → sets (sets (sets (sets l 0 headPart) a sizesPart) b (tagsOf (allSlots t))) c (recordsOf (allSlots t)) ≡ sets l 0 (imageOf t)
+  unfolding imageOf headPart sizesPart
+  parts-put l a b c ea eb ec =
+      let tags = tagsOf (allSlots t) in
+      let records = recordsOf (allSlots t) in
+      ap (λ (r : List ℕ). sets (sets r b tags) c records) (sets-more l 0 a headPart sizesPart (omega (arith, length-head)))
+      ∙ ap (λ (r : List ℕ). sets r c records)
+      (sets-more l 0 b (headPart ++ sizesPart) tags (omega (arith, length-append headPart sizesPart, length-front)))
+      ∙ sets-more l 0 c (headPart ++ sizesPart ++ tags) records
+      (omega (arith, length-append (headPart ++ sizesPart) tags, length-append headPart sizesPart, length-front))

@@ -1,0 +1,67 @@
+-- `image_write::write` meets its contract: by each test in its order, and then by what is put.
+use mathlib.Core.Path.{_∙_, refl, sym}
+use native.Mathlib.Omega.{arith}
+use borrow.Author.Needs.{needs}
+use Rattle.metric_rules.specs.Lists.{total}
+use Rattle.bucket_rules.proofs.Passing.{read-passed}
+use Rattle.image_rules.specs.Bytes.{headerFields, tagFields, recordFields, headerBytes, tagBytes, recordBytes, sizeBytes, pairBytes, sizesEnd, imageLength}
+use Rattle.image_rules.proofs.Lengths.{length-image}
+use Rattle.image_write.proofs.Runs.{sizes-in}
+use Rattle.image_write.proofs.Counts.{slots-most}
+use Rattle.image_write.proofs.Replies.{stopped, too-short, written}
+use Rattle.image_write.proofs.write.Statement.{statement}
+use Rattle.image_write.proofs.write.Tie as tie
+
+returns : tie.Need-returns
+returns c =
+    let a = c .before .before .before .args in
+    stopped (a .table .now) (a .image .now) (c .before .read-refusal .result) (c .before .read-refusal .ensures) (c .if1 .taken)
+
+order-in-requires : tie.Need-order-in-requires
+order-in-requires c κs =
+    let p = read-passed (c .before .before .before .args .table .now) (sym (c .before .read-refusal .ensures) ∙ c .if1 .left) in
+    omega (arith, sizes-in {k = 0} refl p (omega arith))
+
+image-length-requires : tie.Need-image-length-requires
+image-length-requires c κs =
+    (c .order-in .ensures, read-passed (c .before .before .before .before .args .table .now) (sym (c .before .before .read-refusal .ensures) ∙ c .before .if1 .left))
+
+returns-2 : tie.Need-returns-2
+returns-2 c =
+    let a = c .before .before .before .before .before .before .args in
+    too-short (a .table .now) (a .image .now) (sym (c .before .before .before .before .read-refusal .ensures) ∙ c .before .before .before .if1 .left) (omega (arith, c .before .image-length .ensures))
+
+put-image-requires : tie.Need-put-image-requires
+put-image-requires c κs = (
+  c .before .before .before .order-in .ensures,
+  read-passed (c .before .before .before .before .before .before .before .args .table .now) (sym (c .before .before .before .before .before .read-refusal .ensures) ∙ c .before .before .before .before .if1 .left),
+  omega (arith, c .before .before .image-length .ensures, c .before .if2 .left),
+)
+
+cast-length : tie.Need-cast-t11
+unfolding imageLength sizesEnd headerBytes headerFields total pairBytes sizeBytes tagBytes recordBytes tagFields recordFields
+cast-length c =
+    let t = c .before .before .before .before .before .before .before .before .before .before .args .table .now in
+    let p = read-passed t (sym (c .before .before .before .before .before .before .before .before .read-refusal .ensures) ∙ c .before .before .before .before .before .before .before .if1 .left) in
+    omega (arith, c .before .before .before .before .before .image-length .ensures, length-image t, slots-most p, p .framed .order)
+
+returns-3 : tie.Need-returns-3
+returns-3 c =
+    let a = c .before .before .before .before .before .before .before .before .before .before .args in
+    let long = c .before .before .before .before .before .image-length .ensures in
+    written (a .table .now) (a .image .now) (sym (c .before .before .before .before .before .before .before .before .read-refusal .ensures) ∙ c .before .before .before .before .before .before .before .if1 .left) (omega (arith, long, c .before .before .before .before .if2 .left)) _ long _
+    (c .before .before .put-image .ensures)
+
+pub write-spec : {M : Type 1} → statement M
+write-spec =
+    tie.close
+    (tie.spec
+    (λ c κs. search needs)
+    returns
+    order-in-requires
+    image-length-requires
+    returns-2
+    put-image-requires
+    cast-length
+    (λ c. search needs)
+    returns-3)

@@ -1,0 +1,152 @@
+// The image of a table put into an area of bytes: head, sizes, all tags, all records. The bytes after it are kept.
+ghost use mathlib.Core.Path.{_≡_};
+ghost use mathlib.Core.List.{_++_};
+ghost use Prim.Native.Nat.{_+_, _≤_};
+ghost use lib.ListN.{length};
+ghost use lib.Seq.{sets};
+ghost use Rattle.metric_rules.specs.Row.{word};
+ghost use Rattle.metric_rules.specs.Distance.{spaceOf};
+ghost use Rattle.bucket_rules.specs.Table.{orderOf, builtOf, liveOf};
+ghost use Rattle.bucket_rules.specs.Passed.{Passed};
+ghost use Rattle.image_rules.specs.Bytes.{bytesOf, headerBytes, sizeBytes, sizesEnd};
+ghost use Rattle.image_rules.specs.Write.{headerBytesOf, sizesOf, tagsOf, recordsOf, allSlots, imageOf, writeReply, imageAfterWrite};
+use bucket_rules::RESULT_SHORT;
+use image_put::put_records;
+use image_put::put_tags;
+use image_put::put16;
+use image_read::sizes_end;
+use image_rules::Written;
+use metric_rules::METRIC_AT;
+use metric_rules::Row;
+use order::Order;
+use table::HEADER_ROW;
+use table::ORDER_AT;
+use table::built_of;
+use table::live_of;
+use table::order_in;
+use table::slots_of;
+use table_checks::read_refusal;
+
+// Order, metric and two zero bytes.
+fn put_header(image: &mut [u8], header: Row)
+    requires { ⌜ headerBytes ≤ length (now image) ⌝ }
+    ensures { λ _. ⌜ now (image .exit) ≡ sets (now (image .entry)) 0 (headerBytesOf (word header 0) (spaceOf header)) ⌝ }
+{
+    image[0] = (header[ORDER_AT] % 256) as u8;
+    image[1] = (header[METRIC_AT] % 256) as u8;
+    put16(image, 2, 0);
+}
+
+// The sizes of a bucket.
+fn put_pair(image: &mut [u8], at: usize, built: u32, live: u32)
+    requires { ⌜ at + 4 ≤ length (now image) ⌝ }
+    ensures { λ _. ⌜ now (image .exit) ≡ sets (now (image .entry)) at (bytesOf sizeBytes built ++ bytesOf sizeBytes live) ⌝ }
+{
+    put16(image, at, built);
+    put16(image, at + 2, live);
+}
+
+// Those of every bucket, behind the head.
+fn put_sizes(image: &mut [u8], table: &[Row], order: Order)
+    requires { ⌜ (order .t ≡ orderOf (now table)) × Passed (now table) × (sizesEnd (order .t) ≤ length (now image)) ⌝ }
+    ensures { λ _. ⌜ now (image .exit) ≡ sets (now (image .entry)) headerBytes (sizesOf (order .t) (builtOf (now (table .entry))) (liveOf (now (table .entry)))) ⌝ }
+{
+    let t = order.t;
+    let mut k = 0;
+    while k <= t {
+        let built = built_of(table, k);
+        put_pair(image, 4 + 4 * k as usize, built, live_of(table, k));
+        k += 1;
+    }
+}
+
+// The tags of all buckets from a place on, and likewise their records. The reply is the place behind them.
+fn put_all_tags(image: &mut [u8], from: usize, table: &[Row], order: Order) -> usize
+    requires { ⌜ (order .t ≡ orderOf (now table)) × Passed (now table) × (from + length (tagsOf (allSlots (now table))) ≤ length (now image)) ⌝ }
+    ensures place { λ r. ⌜ r ≡ from + length (tagsOf (allSlots (now (table .entry)))) ⌝ }
+    ensures area { λ _. ⌜ now (image .exit) ≡ sets (now (image .entry)) from (tagsOf (allSlots (now (table .entry)))) ⌝ }
+{
+    let t = order.t;
+    let mut at = from;
+    let mut k = 0;
+    while k <= t {
+        let slots = slots_of(table, order, k);
+        put_tags(image, at, slots);
+        at += 8 * slots.len();
+        k += 1;
+    }
+    at
+}
+
+fn put_all_records(image: &mut [u8], from: usize, table: &[Row], order: Order) -> usize
+    requires { ⌜ (order .t ≡ orderOf (now table)) × Passed (now table) × (from + length (recordsOf (allSlots (now table))) ≤ length (now image)) ⌝ }
+    ensures place { λ r. ⌜ r ≡ from + length (recordsOf (allSlots (now (table .entry)))) ⌝ }
+    ensures area { λ _. ⌜ now (image .exit) ≡ sets (now (image .entry)) from (recordsOf (allSlots (now (table .entry)))) ⌝ }
+{
+    let t = order.t;
+    let mut at = from;
+    let mut k = 0;
+    while k <= t {
+        let slots = slots_of(table, order, k);
+        put_records(image, at, slots);
+        at += 40 * slots.len();
+        k += 1;
+    }
+    at
+}
+
+// The built slots of all buckets.
+fn slots_in_all(table: &[Row], order: Order) -> usize
+    requires { ⌜ (order .t ≡ orderOf (now table)) × Passed (now table) ⌝ }
+    ensures { λ r. ⌜ r ≡ length (allSlots (now (table .entry))) ⌝ }
+{
+    let t = order.t;
+    let mut slots: usize = 0;
+    let mut k = 0;
+    while k <= t {
+        slots += built_of(table, k) as usize;
+        k += 1;
+    }
+    slots
+}
+
+fn image_length(table: &[Row], order: Order) -> usize
+    requires { ⌜ (order .t ≡ orderOf (now table)) × Passed (now table) ⌝ }
+    ensures { λ r. ⌜ r ≡ length (imageOf (now (table .entry))) ⌝ }
+{
+    sizes_end(order.t) + 48 * slots_in_all(table, order)
+}
+
+fn put_image(image: &mut [u8], table: &[Row], order: Order)
+    requires { ⌜ (order .t ≡ orderOf (now table)) × Passed (now table) × (length (imageOf (now table)) ≤ length (now image)) ⌝ }
+    ensures { λ _. ⌜ now (image .exit) ≡ sets (now (image .entry)) 0 (imageOf (now (table .entry))) ⌝ }
+{
+    put_header(image, table[HEADER_ROW]);
+    put_sizes(image, table, order);
+    let records = put_all_tags(image, sizes_end(order.t), table, order);
+    put_all_records(image, records, table, order);
+}
+
+// The whole call: 23 and 24, then 6, then the image.
+pub fn write(table: &[Row], image: &mut [u8]) -> Written
+    ensures reply { λ r. ⌜ r ≡ writeReply (now (table .entry)) (now (image .entry)) ⌝ }
+    ensures area { λ _. ⌜ now (image .exit) ≡ imageAfterWrite (now (table .entry)) (now (image .entry)) ⌝ }
+{
+    let refusal = read_refusal(table);
+    if refusal != 0 {
+        return Written { refusal, length: 0 };
+    }
+    let order = order_in(table);
+    let length = image_length(table, order);
+    if image.len() < length {
+        return Written {
+            refusal: RESULT_SHORT,
+            length: 0,
+        };
+    }
+    put_image(image, table, order);
+    Written {
+        refusal: 0,
+        length: length as u32,
+    }
+}
