@@ -1,0 +1,103 @@
+//! What is measured: an index, by the archive's calls or in plain Rust.
+
+use vpindex::ffi;
+
+use crate::herd::Profile;
+
+/// A distance and a tag.
+pub type Hit = (u32, u64);
+
+/// The calls, each of which must be accepted. Changes and searches give the number of distances.
+pub trait Index {
+    fn new(order: u32, metric: u32) -> Self;
+    fn add(&mut self, tag: u64, profile: &Profile) -> u32;
+    fn remove(&mut self, tag: u64) -> u32;
+    fn look_up(&mut self, tag: u64) -> Profile;
+    /// `room` is the length of the result area, where there is one.
+    fn range(&mut self, query: &Profile, radius: u32, room: usize) -> u32;
+    fn nearest(&mut self, query: &Profile, k: usize) -> u32;
+    /// Of the last search.
+    fn hits(&self) -> Vec<Hit>;
+    fn write(&mut self);
+    /// What was written last.
+    fn image(&self) -> &[u8];
+    fn load(&mut self, image: &[u8]);
+}
+
+/// The archive's calls on areas of the lengths that the order needs.
+pub struct Archive {
+    table: Vec<ffi::Row>,
+    work: Vec<ffi::Row>,
+    result: Vec<ffi::Entry>,
+    found: usize,
+    image: Vec<u8>,
+    length: usize,
+}
+
+fn raw(profile: &Profile) -> ffi::Profile {
+    ffi::Profile { measures: profile.measures, code: profile.code }
+}
+
+impl Archive {
+    fn searched(&mut self, reply: ffi::Searched) -> u32 {
+        assert_eq!(reply.refusal, 0);
+        self.found = reply.found as usize;
+        reply.distances
+    }
+}
+
+impl Index for Archive {
+    fn new(order: u32, metric: u32) -> Archive {
+        let n = 1 << order;
+        let mut table = vec![[0; 12]; order as usize + 1 + 2 * n];
+        assert_eq!(ffi::fresh(&mut table, order, metric), 0);
+        let image = vec![0; 4 + 4 * (order as usize + 1) + 48 * (2 * n - 1)];
+        Archive { table, work: vec![[0; 12]; n], result: vec![[0; 2]; n], found: 0, image, length: 0 }
+    }
+
+    fn add(&mut self, tag: u64, profile: &Profile) -> u32 {
+        let reply = ffi::add(&mut self.table, &mut self.work, tag, raw(profile));
+        assert_eq!(reply.refusal, 0);
+        reply.distances
+    }
+
+    fn remove(&mut self, tag: u64) -> u32 {
+        let reply = ffi::remove(&mut self.table, &mut self.work, tag);
+        assert_eq!(reply.refusal, 0);
+        reply.distances
+    }
+
+    fn look_up(&mut self, tag: u64) -> Profile {
+        let reply = ffi::look_up(&self.table, tag);
+        assert_eq!(reply.refusal, 0);
+        Profile { measures: reply.profile.measures, code: reply.profile.code }
+    }
+
+    fn range(&mut self, query: &Profile, radius: u32, room: usize) -> u32 {
+        let reply = ffi::range(&self.table, &mut self.result[..room], raw(query), radius);
+        self.searched(reply)
+    }
+
+    fn nearest(&mut self, query: &Profile, k: usize) -> u32 {
+        let reply = ffi::nearest(&self.table, &mut self.result[..k], raw(query), k as u32);
+        self.searched(reply)
+    }
+
+    fn hits(&self) -> Vec<Hit> {
+        self.result[..self.found].iter().map(|entry| (entry[1] as u32, entry[0])).collect()
+    }
+
+    fn write(&mut self) {
+        let reply = ffi::write(&self.table, &mut self.image);
+        assert_eq!(reply.refusal, 0);
+        self.length = reply.length as usize;
+    }
+
+    fn image(&self) -> &[u8] {
+        &self.image[..self.length]
+    }
+
+    fn load(&mut self, image: &[u8]) {
+        assert_eq!(ffi::load(&mut self.table, image), 0);
+    }
+}

@@ -1,0 +1,141 @@
+//! Measures the calls beside plain Rust programs on the same herds in the same run, and compares what they give on the way.
+//! `bench FOLDER [SEED]` writes calls.md and growth.svg into the folder; bench/run.sh runs it.
+
+mod changes;
+mod herd;
+mod index;
+mod measure;
+mod plain;
+mod plot;
+mod searches;
+
+use std::fmt::Write;
+use std::{env, fs};
+
+use changes::Work;
+use herd::{SPREADS, Spread};
+use plot::Series;
+use searches::Full;
+
+const ORDERS: [u32; 5] = [4, 6, 8, 10, 12];
+
+fn main() {
+    let mut words = env::args().skip(1);
+    let folder = words.next().expect("usage: bench FOLDER [SEED]");
+    let seed = words
+        .next()
+        .map_or(0x9E37_79B9_7F4A_7C15, |word| u64::from_str_radix(&word, 16).expect("a seed in hexadecimal"));
+    let (growth, panels) = growth(seed);
+    let tables = format!("{}\n{}\n{growth}", all_searches(seed), all_changes(seed));
+    print!("{tables}");
+    fs::write(format!("{folder}/calls.md"), tables).expect("calls.md written");
+    fs::write(format!("{folder}/growth.svg"), plot::svg(&panels)).expect("growth.svg written");
+}
+
+fn search_row(line: &searches::Line) -> String {
+    let searches::Line { search, found, visited, calls, plain, scan } = line;
+    let (to_plain, to_scan) = (calls / plain, calls / scan);
+    format!(
+        "{search} | {found:.1} | {visited:.1} | {calls:.0} | {plain:.0} | {scan:.0} | {to_plain:.2} | {to_scan:.2} |"
+    )
+}
+
+fn all_searches(seed: u64) -> String {
+    let mut table =
+        "| herd | metric | search | found | visited | calls ns | plain ns | scan ns | /plain | /scan |\n".to_string();
+    table += "|---|---|---|---|---|---|---|---|---|---|\n";
+    for spread in SPREADS {
+        for metric in 0..=1 {
+            eprintln!("searches: {}, metric {metric}", spread.name);
+            let mut full = Full::new(seed, spread, 12, metric);
+            let lines = [full.nearest(), full.range(10, None), full.range(10, Some(4096)), full.range(1000, None)];
+            for line in &lines {
+                _ = writeln!(table, "| {} | {metric} | {}", spread.name, search_row(line));
+            }
+        }
+    }
+    table
+}
+
+fn change_row(line: &changes::Line) -> String {
+    let changes::Line { call, calls, plain } = line;
+    format!("{call} | {:.2} | {:.2} | {:.2} |", calls / 1000.0, plain / 1000.0, calls / plain)
+}
+
+fn all_changes(seed: u64) -> String {
+    let mut table = "| herd | metric | call | calls µs | plain µs | /plain |\n|---|---|---|---|---|---|\n".to_string();
+    for spread in [SPREADS[0], SPREADS[3]] {
+        for metric in 0..=1 {
+            eprintln!("changes: {}, metric {metric}", spread.name);
+            for line in Work::new(seed, spread, 12, metric).measure(5) {
+                _ = writeln!(table, "| {} | {metric} | {}", spread.name, change_row(&line));
+            }
+        }
+    }
+    table
+}
+
+// At each order a full table of the first spread: a table of all lines, and for each metric a panel of the plot.
+fn growth(seed: u64) -> (String, Vec<(String, Vec<Series>)>) {
+    let mut table =
+        "| T | metric | call | calls µs | plain µs | /plain | scan µs |\n|---|---|---|---|---|---|---|\n".to_string();
+    let mut panels = vec![];
+    for metric in 0..=1 {
+        let mut lines: Vec<Series> = vec![];
+        for order in ORDERS {
+            eprintln!("growth: order {order}, metric {metric}");
+            let rows = at_order(seed, SPREADS[0], order, metric);
+            for row in &rows {
+                let [calls, plain, scan] = row.times.map(|time| time / 1000.0);
+                let scan = if scan > 0.0 { format!("{scan:.2}") } else { String::new() };
+                let name = row.name;
+                _ = writeln!(
+                    table,
+                    "| {order} | {metric} | {name} | {calls:.2} | {plain:.2} | {:.2} | {scan} |",
+                    calls / plain
+                );
+            }
+            plotted(&mut lines, order, &rows);
+        }
+        panels.push((format!("metric {metric}, clustered: time of a call against items"), lines));
+    }
+    (table, panels)
+}
+
+// Nanoseconds by the calls, in plain Rust, and by the scan where there is one, else 0.
+struct Row {
+    name: &'static str,
+    times: [f64; 3],
+}
+
+fn at_order(seed: u64, spread: Spread, order: u32, metric: u32) -> Vec<Row> {
+    let mut full = Full::new(seed, spread, order, metric);
+    let (nearest, range) = (full.nearest(), full.range(10, None));
+    let search = |name, line: searches::Line| Row { name, times: [line.calls, line.plain, line.scan] };
+    let mut rows = vec![search("nearest 10", nearest), search("range ~10", range)];
+    let rounds = if order < 10 { 51 } else { 5 };
+    let changes = Work::new(seed, spread, order, metric).measure(rounds);
+    rows.extend(changes.into_iter().map(|line| Row { name: line.call, times: [line.calls, line.plain, 0.0] }));
+    rows
+}
+
+fn plotted(lines: &mut Vec<Series>, order: u32, rows: &[Row]) {
+    let of = |name: &str, at: usize| {
+        let row = rows.iter().find(|row| row.name == name).expect("measured");
+        row.times[at]
+    };
+    let values = [
+        ("nearest 10", of("nearest 10", 0)),
+        ("nearest 10, plain Rust", of("nearest 10", 1)),
+        ("scan that keeps the ten best", of("nearest 10", 2)),
+        ("add, a day at half full", of("add, a day at half full", 0)),
+        ("remove, a day at half full", of("remove, a day at half full", 0)),
+        ("load", of("load", 0)),
+    ];
+    if lines.is_empty() {
+        lines.extend(values.iter().map(|(name, _)| Series { name: name.to_string(), points: vec![] }));
+    }
+    for (line, (_, time)) in lines.iter_mut().zip(values) {
+        line.points.push(((1u64 << order) as f64, time));
+    }
+}

@@ -1,0 +1,118 @@
+//! The searches of a full table beside the same method in plain Rust and the scans.
+
+use std::hint::black_box;
+
+use crate::herd::{Profile, Spread, profiles, tag};
+use crate::index::{Archive, Hit, Index};
+use crate::measure::turns;
+use crate::plain::{Plain, Slot, scan_nearest, scan_range};
+
+const QUERIES: usize = 256;
+const ROUNDS: usize = 41;
+const K: usize = 10;
+
+/// Nanoseconds of a search, means of what it found and of the slots it met.
+pub struct Line {
+    pub search: String,
+    pub found: f64,
+    pub visited: f64,
+    pub calls: f64,
+    pub plain: f64,
+    pub scan: f64,
+}
+
+/// A full table of each kind, and the queries.
+pub struct Full {
+    archive: Archive,
+    plain: Plain,
+    items: Vec<Slot>,
+    queries: Vec<Profile>,
+    metric: u32,
+}
+
+impl Full {
+    pub fn new(seed: u64, spread: Spread, order: u32, metric: u32) -> Full {
+        let n = 1 << order;
+        let mut herd = profiles(seed, spread, n + QUERIES);
+        let queries = herd.split_off(n);
+        let (mut archive, mut plain) = (Archive::new(order, metric), Plain::new(order, metric));
+        for (i, profile) in herd.iter().enumerate() {
+            assert_eq!(archive.add(tag(i), profile), plain.add(tag(i), profile));
+        }
+        let items = plain.items();
+        Full { archive, plain, items, queries, metric }
+    }
+
+    // Archive and plain program found the same by the same number of distances, and the scan found it too.
+    fn check(&self, counts: [u32; 2], scanned: &[Hit]) -> [f64; 2] {
+        assert_eq!(counts[0], counts[1]);
+        assert_eq!(self.archive.hits(), scanned);
+        assert_eq!(self.plain.hits(), scanned);
+        [scanned.len() as f64, counts[0] as f64]
+    }
+
+    pub fn nearest(&mut self) -> Line {
+        let queries = self.queries.clone();
+        let mut best = vec![];
+        let mut sums = [0.0; 2];
+        for query in &queries {
+            let counts = [self.archive.nearest(query, K), self.plain.nearest(query, K)];
+            scan_nearest(self.metric, &self.items, query, K, &mut best);
+            add(&mut sums, self.check(counts, &best));
+        }
+        let (archive, plain, items, metric) = (&mut self.archive, &mut self.plain, &self.items, self.metric);
+        let times = turns(
+            ROUNDS,
+            QUERIES,
+            [
+                &mut |q| _ = black_box(archive.nearest(&queries[q], K)),
+                &mut |q| _ = black_box(plain.nearest(&queries[q], K)),
+                &mut |q| scan_nearest(metric, items, &queries[q], K, black_box(&mut best)),
+            ],
+        );
+        line(format!("nearest {K}"), sums, times)
+    }
+
+    // The radius within which a query has so many hits, or a few more at the same distance.
+    fn radius(&self, query: &Profile, hits: usize) -> u32 {
+        let mut best = vec![];
+        scan_nearest(self.metric, &self.items, query, hits, &mut best);
+        best.last().map_or(0, |hit| hit.0)
+    }
+
+    /// The result area has `room` entries, or where it is `None` the next power of two that holds the largest reply.
+    pub fn range(&mut self, hits: usize, room: Option<usize>) -> Line {
+        let queries = self.queries.clone();
+        let radii: Vec<u32> = queries.iter().map(|query| self.radius(query, hits)).collect();
+        let mut found = vec![];
+        let (mut sums, mut most) = ([0.0; 2], 0);
+        for (query, &radius) in queries.iter().zip(&radii) {
+            let counts = [self.archive.range(query, radius, self.items.len()), self.plain.range(query, radius, 0)];
+            scan_range(self.metric, &self.items, query, radius, &mut found);
+            most = most.max(found.len());
+            add(&mut sums, self.check(counts, &found));
+        }
+        let room = room.unwrap_or(most.next_power_of_two());
+        let (archive, plain, items, metric) = (&mut self.archive, &mut self.plain, &self.items, self.metric);
+        let times = turns(
+            ROUNDS,
+            QUERIES,
+            [
+                &mut |q| _ = black_box(archive.range(&queries[q], radii[q], room)),
+                &mut |q| _ = black_box(plain.range(&queries[q], radii[q], 0)),
+                &mut |q| scan_range(metric, items, &queries[q], radii[q], black_box(&mut found)),
+            ],
+        );
+        line(format!("range ~{hits}, room {room}"), sums, times)
+    }
+}
+
+fn add(sums: &mut [f64; 2], more: [f64; 2]) {
+    for (sum, n) in sums.iter_mut().zip(more) {
+        *sum += n / QUERIES as f64;
+    }
+}
+
+fn line(search: String, [found, visited]: [f64; 2], [calls, plain, scan]: [f64; 3]) -> Line {
+    Line { search, found, visited, calls, plain, scan }
+}

@@ -1,0 +1,79 @@
+/* Adds a small herd, asks both questions, removes one, and saves and loads an image.
+ * It writes what the Rust example rust/vpindex/examples/herd.rs writes; herd.expected has it. */
+#include <inttypes.h>
+#include <stdio.h>
+
+#include "vpindex.h"
+
+#define ORDER 3
+#define HERD 6
+
+/* national number; weight, hip height, girth and daily gain, in hundredths */
+static const struct {
+    uint64_t national;
+    int32_t measures[4];
+} herd[HERD] = {
+    {101, {41250, 12900, 18500, 95}},  {102, {39800, 12700, 18100, 90}},  {103, {55600, 13800, 20700, 120}},
+    {104, {40900, 12850, 18450, 102}}, {105, {56100, 13750, 20900, 118}}, {106, {28300, 11400, 15600, 88}},
+};
+
+static uint32_t table[VPINDEX_TABLE_ROWS(ORDER)][VPINDEX_ROW_WORDS];
+static uint32_t loaded[VPINDEX_TABLE_ROWS(ORDER)][VPINDEX_ROW_WORDS];
+static uint32_t work[VPINDEX_WORK_ROWS(ORDER)][VPINDEX_ROW_WORDS];
+static uint64_t result[VPINDEX_RESULT_ENTRIES(ORDER)][VPINDEX_ENTRY_WORDS];
+static uint8_t image[VPINDEX_IMAGE_BYTES(ORDER)];
+
+static uint32_t add_herd(void) {
+    for (size_t i = 0; i < HERD; i++) {
+        vpindex_profile profile = {{0}, {0, 0}};
+        for (size_t j = 0; j < 4; j++) {
+            profile.measures[j] = herd[i].measures[j];
+        }
+        uint64_t tag = VPINDEX_TAG(36, herd[i].national);
+        vpindex_added added = vpindex_add(table, VPINDEX_TABLE_ROWS(ORDER), work, VPINDEX_WORK_ROWS(ORDER), tag, profile);
+        if (added.refusal != VPINDEX_ACCEPTED) {
+            return added.refusal;
+        }
+        printf("add %" PRIu64 ": bucket %" PRIu32 ", %" PRIu32 " distances\n", herd[i].national, added.bucket,
+               added.distances);
+    }
+    return VPINDEX_ACCEPTED;
+}
+
+static void print(const char *question, vpindex_searched searched) {
+    printf("%s: %" PRIu32 " found, %" PRIu32 " distances\n", question, searched.found, searched.distances);
+    for (uint32_t i = 0; i < searched.found; i++) {
+        printf("  %015" PRIu64 " %" PRIu64 "\n", result[i][0], result[i][1]);
+    }
+}
+
+static void remove_twice(uint64_t national) {
+    uint64_t tag = VPINDEX_TAG(36, national);
+    vpindex_removed first = vpindex_remove(table, VPINDEX_TABLE_ROWS(ORDER), work, VPINDEX_WORK_ROWS(ORDER), tag);
+    printf("remove %" PRIu64 ": %" PRIu32 " distances\n", national, first.distances);
+    vpindex_removed again = vpindex_remove(table, VPINDEX_TABLE_ROWS(ORDER), work, VPINDEX_WORK_ROWS(ORDER), tag);
+    if (again.refusal == VPINDEX_NOT_LIVE) {
+        printf("remove %" PRIu64 " again: refusal %" PRIu32 "\n", national, again.refusal);
+    }
+}
+
+int main(void) {
+    const size_t rows = VPINDEX_TABLE_ROWS(ORDER);
+    const size_t room = VPINDEX_RESULT_ENTRIES(ORDER);
+    const vpindex_profile query = {{41000, 12900, 18400, 100}, {0, 0}};
+
+    if (vpindex_fresh(table, rows, ORDER, VPINDEX_SUM_OF_DIFFERENCES) != VPINDEX_ACCEPTED || add_herd() != VPINDEX_ACCEPTED) {
+        return 1;
+    }
+    print("range 500", vpindex_range(table, rows, result, room, query, 500));
+    print("nearest 3", vpindex_nearest(table, rows, result, room, query, 3));
+    remove_twice(104);
+
+    vpindex_written written = vpindex_write(table, rows, image, sizeof image);
+    if (written.refusal != VPINDEX_ACCEPTED || vpindex_load(loaded, rows, image, written.length) != VPINDEX_ACCEPTED) {
+        return 1;
+    }
+    printf("image: %" PRIu32 " bytes\n", written.length);
+    print("nearest 3, loaded", vpindex_nearest(loaded, rows, result, room, query, 3));
+    return 0;
+}

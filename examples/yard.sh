@@ -1,0 +1,10 @@
+#!/bin/sh
+# Proves and builds the program yard, and runs it on 01's whole example, or on the lines of standard input with `-`.
+set -eu
+cd "$(dirname "$0")/.."
+mkdir -p target
+rt check yard > target/yard.log 2>&1 || { cat target/yard.log; exit 1; }
+if [ "${1:-}" = - ]; then
+    exec target/bin/yard
+fi
+exec target/bin/yard < crates/yard/stdin

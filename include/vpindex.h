@@ -1,0 +1,176 @@
+/*
+ * vpindex: an index of up to 4,096 items by likeness. An item is a tag with a profile: four measures and a code of 128
+ * bits. The index gives all items within a distance of a query, and the nearest ones, while items come and go. It keeps
+ * vantage-point trees in buckets whose sizes are powers of two.
+ *
+ * Link with libvpindex.a. The calls allocate nothing, keep nothing between calls and call nothing but the C library's
+ * memory functions: all state is in the areas that the caller lends. Whatever these areas hold, each call ends, and its
+ * reply and the content of every area afterwards are settled by the rules.
+ *
+ * What the caller has to see to, in every call:
+ *   - a pointer is not null, also where its length is 0, and points to as many elements as the length says, all of them
+ *     readable, and writable in an area that the call may change;
+ *   - it is aligned as its type wants;
+ *   - areas lent to the same call do not overlap;
+ *   - no other thread uses an area while a call has it, except that several may read the same table.
+ */
+#ifndef VPINDEX_H
+#define VPINDEX_H
+
+#include <stddef.h>
+#include <stdint.h>
+
+/* Stands before a table that a call only reads. C before C23 would want a cast for a const there. */
+#if defined(__cplusplus) || (defined(__STDC_VERSION__) && __STDC_VERSION__ >= 202311L)
+#define VPINDEX_READ const
+#else
+#define VPINDEX_READ
+#endif
+
+#ifdef __cplusplus
+extern "C" {
+#endif
+
+/* ---- Limits ---------------------------------------------------------------------------------------------------- */
+
+#define VPINDEX_MAX_ORDER 12             /* a table of order T holds at most 2^T items, T being 0 to 12 */
+#define VPINDEX_SUM_OF_DIFFERENCES 0     /* metric 0: the sum of the absolute differences of the four measures */
+#define VPINDEX_DIFFERING_BITS 1         /* metric 1: the number of bits in which the two codes differ */
+#define VPINDEX_MAX_MEASURE 1000000      /* a measure is -1,000,000 to 1,000,000 */
+#define VPINDEX_MIN_TAG UINT64_C(1000000000000)    /* country 1, national 0 */
+#define VPINDEX_MAX_TAG UINT64_C(999999999999999)  /* country 999, national 999,999,999,999 */
+
+/* A tag from its country, 1 to 999, and its national number, 0 to 999,999,999,999. */
+#define VPINDEX_TAG(country, national) ((uint64_t)(country) * UINT64_C(1000000000000) + (uint64_t)(national))
+
+/* ---- Areas ----------------------------------------------------------------------------------------------------- */
+
+#define VPINDEX_ROW_WORDS 12             /* 32-bit words in a row of the table or of the work area */
+#define VPINDEX_ENTRY_WORDS 2            /* 64-bit words in an entry of the result area */
+
+/* The table: row 0 has the order and the metric, then comes a row for each bucket with its two sizes, then the slots. */
+#define VPINDEX_TABLE_ROWS(order) ((size_t)(order) + 1 + ((size_t)2 << (order)))
+
+/* The work area, lent to vpindex_add and vpindex_remove. */
+#define VPINDEX_WORK_ROWS(order) ((size_t)1 << (order))
+
+/* As many entries as any search of a table that these calls left can find. */
+#define VPINDEX_RESULT_ENTRIES(order) ((size_t)1 << (order))
+
+/* As many bytes as any image of this order can have: every slot of every bucket built. */
+#define VPINDEX_IMAGE_BYTES(order) (4 + 4 * ((size_t)(order) + 1) + 48 * (((size_t)2 << (order)) - 1))
+
+/* ---- Refusals ----------------------------------------------------------------------------------------------------
+ * A refused call returns the number of its refusal, with zeros in every other field of the reply, and changes no area.
+ * There is one exception: VPINDEX_NO_ROOM from vpindex_range or vpindex_nearest leaves the result area all zero. Where
+ * several conditions hold, the first in the order given at the call is returned. */
+
+#define VPINDEX_ACCEPTED 0
+
+/* by the input */
+#define VPINDEX_BAD_TAG 1                /* tag outside VPINDEX_MIN_TAG to VPINDEX_MAX_TAG */
+#define VPINDEX_BAD_MEASURE 2            /* a measure outside its range */
+#define VPINDEX_BAD_ORDER 3              /* order above 12 */
+#define VPINDEX_BAD_METRIC 4             /* metric neither 0 nor 1 */
+#define VPINDEX_NO_COUNT 5               /* nearest with k = 0 */
+#define VPINDEX_NO_ROOM 6                /* result area with fewer entries than the reply, or fewer bytes than the image */
+#define VPINDEX_BAD_LENGTH 7             /* the image's length is wrong */
+#define VPINDEX_BAD_IMAGE 8              /* an image sound in its sizes, but its fields or trees break a rule */
+
+/* by the state */
+#define VPINDEX_ALREADY_LIVE 20          /* the tag is in the table */
+#define VPINDEX_NOT_LIVE 21              /* the tag is not in the table */
+#define VPINDEX_FULL 22                  /* the table has 2^T items */
+#define VPINDEX_SHORT_AREA 23            /* table or work area shorter than the order needs, or a table of no rows */
+#define VPINDEX_BAD_TABLE 24             /* sizes, order, metric or marks of a table, or sizes of an image, break the rules */
+
+/* ---- Values ---------------------------------------------------------------------------------------------------- */
+
+typedef struct {
+    int32_t measures[4];                 /* in hundredths, each -1,000,000 to 1,000,000 */
+    uint64_t code[2];                    /* any value */
+} vpindex_profile;
+
+typedef struct {
+    uint32_t refusal;
+    uint32_t bucket;                     /* the bucket that was built, with the new item in it */
+    uint32_t distances;                  /* distances worked out by the build */
+} vpindex_added;
+
+typedef struct {
+    uint32_t refusal;
+    uint32_t distances;                  /* distances worked out by the build, 0 where there was none */
+} vpindex_removed;
+
+typedef struct {
+    uint32_t refusal;
+    uint32_t bucket;                     /* the bucket that the item is in */
+    vpindex_profile profile;
+} vpindex_looked_up;
+
+typedef struct {
+    uint32_t refusal;
+    uint32_t found;                      /* entries at the front of the result area */
+    uint32_t distances;                  /* distances worked out, one for each slot met */
+} vpindex_searched;
+
+typedef struct {
+    uint32_t refusal;
+    uint32_t length;                     /* bytes of the image */
+} vpindex_written;
+
+/* ---- Calls -------------------------------------------------------------------------------------------------------
+ * Lengths are in elements: rows, entries, bytes. Rows and bytes past what a call needs keep their content. */
+
+/* Makes the table empty, of this order and metric; it may have held anything.
+ * Returns 0 or a refusal: BAD_ORDER, BAD_METRIC, SHORT_AREA (fewer than VPINDEX_TABLE_ROWS(order) rows). */
+uint32_t vpindex_fresh(uint32_t (*table)[VPINDEX_ROW_WORDS], size_t table_rows, uint32_t order, uint32_t metric);
+
+/* Makes the table the one that the image was written from; it may have held anything. The image is checked whole before
+ * the first row is written, so a refused load changes nothing.
+ * Returns 0 or a refusal: BAD_LENGTH (under 4 bytes), BAD_ORDER, BAD_METRIC, BAD_IMAGE (bytes 2 and 3 not zero),
+ * BAD_LENGTH (sizes cut short), BAD_TABLE (sizes), BAD_LENGTH (not the length that the sizes give), SHORT_AREA,
+ * BAD_IMAGE (tags, measures, marks or trees). */
+uint32_t vpindex_load(uint32_t (*table)[VPINDEX_ROW_WORDS], size_t table_rows, const uint8_t *image, size_t image_bytes);
+
+/* Adds an item. The work area's first VPINDEX_WORK_ROWS(order) rows are zero after an accepted call.
+ * Refusals: SHORT_AREA (no rows), BAD_TABLE (order, metric), SHORT_AREA (table, work), BAD_TABLE (sizes, marks), BAD_TAG,
+ * BAD_MEASURE, ALREADY_LIVE, FULL. */
+vpindex_added vpindex_add(uint32_t (*table)[VPINDEX_ROW_WORDS], size_t table_rows, uint32_t (*work)[VPINDEX_ROW_WORDS],
+                          size_t work_rows, uint64_t tag, vpindex_profile profile);
+
+/* Removes the item with this tag. The work area's first VPINDEX_WORK_ROWS(order) rows are zero after an accepted call.
+ * Refusals: SHORT_AREA (no rows), BAD_TABLE (order, metric), SHORT_AREA (table, work), BAD_TABLE (sizes, marks), BAD_TAG,
+ * NOT_LIVE. */
+vpindex_removed vpindex_remove(uint32_t (*table)[VPINDEX_ROW_WORDS], size_t table_rows,
+                               uint32_t (*work)[VPINDEX_ROW_WORDS], size_t work_rows, uint64_t tag);
+
+/* Gives the profile of the item with this tag. No area is changed.
+ * Refusals: SHORT_AREA (no rows), BAD_TABLE (order, metric), SHORT_AREA, BAD_TABLE (sizes), BAD_TAG, NOT_LIVE. */
+vpindex_looked_up vpindex_look_up(VPINDEX_READ uint32_t (*table)[VPINDEX_ROW_WORDS], size_t table_rows, uint64_t tag);
+
+/* Finds all items whose distance from the query is at most the radius. The result area gets an entry for each, tag then
+ * distance, by distance and then tag, and zeros after them to its end.
+ * Refusals: SHORT_AREA (no rows), BAD_TABLE (order, metric), SHORT_AREA, BAD_TABLE (sizes), BAD_MEASURE, NO_ROOM. */
+vpindex_searched vpindex_range(VPINDEX_READ uint32_t (*table)[VPINDEX_ROW_WORDS], size_t table_rows,
+                               uint64_t (*result)[VPINDEX_ENTRY_WORDS], size_t result_entries, vpindex_profile query,
+                               uint32_t radius);
+
+/* Finds the k items nearest to the query, or all where there are fewer; of items at the same distance the lower tag goes
+ * first. The result area as in vpindex_range.
+ * Refusals: SHORT_AREA (no rows), BAD_TABLE (order, metric), SHORT_AREA, BAD_TABLE (sizes), BAD_MEASURE, NO_COUNT,
+ * NO_ROOM. */
+vpindex_searched vpindex_nearest(VPINDEX_READ uint32_t (*table)[VPINDEX_ROW_WORDS], size_t table_rows,
+                                 uint64_t (*result)[VPINDEX_ENTRY_WORDS], size_t result_entries, vpindex_profile query,
+                                 uint32_t k);
+
+/* Writes the table's image, which vpindex_load reads.
+ * Refusals: SHORT_AREA (no rows), BAD_TABLE (order, metric), SHORT_AREA, BAD_TABLE (sizes), NO_ROOM. */
+vpindex_written vpindex_write(VPINDEX_READ uint32_t (*table)[VPINDEX_ROW_WORDS], size_t table_rows, uint8_t *image,
+                              size_t image_bytes);
+
+#ifdef __cplusplus
+}
+#endif
+
+#endif

@@ -1,0 +1,183 @@
+//! One call, by the reference and by the archive.
+
+use reference::calls as plain;
+use reference::item::{Entry, Profile, Row};
+use vpindex::ffi;
+
+use crate::random::Random;
+
+/// The areas that a call is lent.
+#[derive(Clone, Debug, Default, PartialEq, Eq)]
+pub struct Areas {
+    /// Rows of the table.
+    pub table: Vec<Row>,
+    /// Rows of the work area.
+    pub work: Vec<Row>,
+    /// Entries of the result area.
+    pub result: Vec<Entry>,
+    /// Bytes, written by write and read by load.
+    pub image: Vec<u8>,
+}
+
+/// A call with its arguments, the areas aside.
+#[allow(missing_docs)]
+#[derive(Clone, Copy, Debug, PartialEq, Eq)]
+pub enum Call {
+    Fresh { order: u32, metric: u32 },
+    Load,
+    Add { tag: u64, profile: Profile },
+    Remove { tag: u64 },
+    LookUp { tag: u64 },
+    Range { query: Profile, radius: u32 },
+    Nearest { query: Profile, k: u32 },
+    Write,
+}
+
+/// What a call returned; fields that it has not are zero.
+#[allow(missing_docs)]
+#[derive(Clone, Copy, Debug, Default, PartialEq, Eq)]
+pub struct Reply {
+    pub refusal: u32,
+    pub bucket: u32,
+    pub found: u32,
+    pub length: u32,
+    pub distances: u32,
+    pub profile: Profile,
+}
+
+fn accepted<T>(result: Result<T, u32>, reply: impl Fn(T) -> Reply) -> Reply {
+    match result {
+        Ok(value) => reply(value),
+        Err(refusal) => Reply { refusal, ..Reply::default() },
+    }
+}
+
+fn searched((found, distances): plain::Searched) -> Reply {
+    Reply { found, distances, ..Reply::default() }
+}
+
+/// The call by the reference.
+pub fn by_reference(call: &Call, areas: &mut Areas) -> Reply {
+    let Areas { table, work, result, image } = areas;
+    let nothing = |()| Reply::default();
+    match *call {
+        Call::Fresh { order, metric } => accepted(plain::fresh(table, order, metric), nothing),
+        Call::Load => accepted(plain::load(table, image), nothing),
+        Call::Add { tag, profile } => accepted(plain::add(table, work, tag, profile), |(bucket, distances)| Reply {
+            bucket,
+            distances,
+            ..Reply::default()
+        }),
+        Call::Remove { tag } => {
+            accepted(plain::remove(table, work, tag), |distances| Reply { distances, ..Reply::default() })
+        }
+        Call::LookUp { tag } => {
+            accepted(plain::look_up(table, tag), |(bucket, profile)| Reply { bucket, profile, ..Reply::default() })
+        }
+        Call::Range { query, radius } => accepted(plain::range(table, result, query, radius), searched),
+        Call::Nearest { query, k } => accepted(plain::nearest(table, result, query, k), searched),
+        Call::Write => accepted(plain::write(table, image), |length| Reply { length, ..Reply::default() }),
+    }
+}
+
+fn raw(profile: Profile) -> ffi::Profile {
+    ffi::Profile { measures: profile.measures, code: profile.code }
+}
+
+fn looked_up(reply: ffi::LookedUp) -> Reply {
+    let profile = Profile { measures: reply.profile.measures, code: reply.profile.code };
+    Reply { refusal: reply.refusal, bucket: reply.bucket, profile, ..Reply::default() }
+}
+
+fn hits(reply: ffi::Searched) -> Reply {
+    Reply { refusal: reply.refusal, found: reply.found, distances: reply.distances, ..Reply::default() }
+}
+
+/// The call by the archive, on areas as they are.
+pub fn by_archive(call: &Call, table: &mut [Row], work: &mut [Row], result: &mut [Entry], image: &mut [u8]) -> Reply {
+    match *call {
+        Call::Fresh { order, metric } => Reply { refusal: ffi::fresh(table, order, metric), ..Reply::default() },
+        Call::Load => Reply { refusal: ffi::load(table, image), ..Reply::default() },
+        Call::Add { tag, profile } => {
+            let ffi::Added { refusal, bucket, distances } = ffi::add(table, work, tag, raw(profile));
+            Reply { refusal, bucket, distances, ..Reply::default() }
+        }
+        Call::Remove { tag } => {
+            let ffi::Removed { refusal, distances } = ffi::remove(table, work, tag);
+            Reply { refusal, distances, ..Reply::default() }
+        }
+        Call::LookUp { tag } => looked_up(ffi::look_up(table, tag)),
+        Call::Range { query, radius } => hits(ffi::range(table, result, raw(query), radius)),
+        Call::Nearest { query, k } => hits(ffi::nearest(table, result, raw(query), k)),
+        Call::Write => {
+            let ffi::Written { refusal, length } = ffi::write(table, image);
+            Reply { refusal, length, ..Reply::default() }
+        }
+    }
+}
+
+// An area with words of random content before and after it, so that it is aligned as a word is and no more.
+struct Guarded<W> {
+    before: Vec<W>,
+    words: Vec<W>,
+    after: Vec<W>,
+}
+
+impl<W: Copy + PartialEq + std::fmt::Debug> Guarded<W> {
+    fn new(content: &[W], random: &mut Random, any: impl Fn(u64) -> W) -> Guarded<W> {
+        let (n, m) = (1 + random.below(16), 1 + random.below(32));
+        let before = random.fill(n, |random| any(random.word()));
+        let after = random.fill(m, |random| any(random.word()));
+        Guarded { words: [&before, content, &after].concat(), before, after }
+    }
+
+    fn lent(&mut self) -> &mut [W] {
+        let end = self.words.len() - self.after.len();
+        &mut self.words[self.before.len()..end]
+    }
+
+    // the content again, once the guards were seen to be as they were
+    fn back(mut self) -> Vec<W> {
+        assert!(self.words.starts_with(&self.before), "words before the area were changed");
+        assert!(self.words.ends_with(&self.after), "words after the area were changed");
+        self.lent().to_vec()
+    }
+}
+
+/// The call by the archive, every area with guards around it.
+pub fn by_archive_guarded(call: &Call, areas: &mut Areas, random: &mut Random) -> Reply {
+    let mut table = Guarded::new(areas.table.as_flattened(), random, |word| word as u32);
+    let mut work = Guarded::new(areas.work.as_flattened(), random, |word| word as u32);
+    let mut result = Guarded::new(areas.result.as_flattened(), random, |word| word);
+    let mut image = Guarded::new(&areas.image, random, |word| word as u8);
+    let (rows, working) = (table.lent().as_chunks_mut().0, work.lent().as_chunks_mut().0);
+    let reply = by_archive(call, rows, working, result.lent().as_chunks_mut().0, image.lent());
+    *areas = Areas {
+        table: table.back().as_chunks().0.to_vec(),
+        work: work.back().as_chunks().0.to_vec(),
+        result: result.back().as_chunks().0.to_vec(),
+        image: image.back(),
+    };
+    reply
+}
+
+/// The call by both. Replies and areas must be the same, and the areas' lengths those lent.
+pub fn compare(call: &Call, areas: &mut Areas, random: &mut Random) -> Reply {
+    let mut expected = areas.clone();
+    let reply = by_reference(call, &mut expected);
+    let header = areas.table.first().copied();
+    let got = by_archive_guarded(call, areas, random);
+    assert_eq!(got, reply, "archive, then reference: {call:?} on a table with header {header:?}");
+    same("table", call, &areas.table, &expected.table);
+    same("work area", call, &areas.work, &expected.work);
+    same("result area", call, &areas.result, &expected.result);
+    same("image", call, &areas.image, &expected.image);
+    reply
+}
+
+fn same<T: PartialEq + std::fmt::Debug>(area: &str, call: &Call, got: &[T], expected: &[T]) {
+    assert_eq!(got.len(), expected.len());
+    if let Some(i) = (0..got.len()).find(|&i| got[i] != expected[i]) {
+        panic!("{area} at {i}: archive {:?}, reference {:?} after {call:?}", got[i], expected[i]);
+    }
+}

@@ -1,0 +1,152 @@
+//! Random lists of calls on one table that an accepted fresh or load began, held to the plain book and to the bound on all
+//! rebuilds. Each call is compared with the reference too.
+
+use reference::book::Book;
+use reference::image::is_sound;
+use reference::item::{Profile, Row};
+use reference::table::{Bucket, Table};
+use reference::tree::Hit;
+
+use crate::calls::{Areas, Call, Reply, compare};
+use crate::foreign::any_row;
+use crate::lists::{Tally, change, keep, lent, next};
+use crate::random::Random;
+
+/// Adds, removals and the distances that they reported, since the last fresh or load. A load's live items count as added,
+/// its dead ones as removed.
+#[derive(Clone, Copy, Debug, Default)]
+pub struct Sums {
+    /// A.
+    pub adds: u64,
+    /// R.
+    pub removals: u64,
+    /// Of all rebuilds together.
+    pub distances: u64,
+}
+
+impl Sums {
+    // what the distances may come to at this order
+    fn bound(&self, order: u32) -> u64 {
+        let t = order as u64;
+        4 * t * (t + 1) * self.adds + 11 * t * self.removals
+    }
+
+    fn note(&mut self, call: &Call, reply: &Reply, table: &[Row]) {
+        if reply.refusal != 0 {
+            return;
+        }
+        self.distances += match call {
+            Call::Add { .. } | Call::Remove { .. } => reply.distances as u64,
+            _ => 0,
+        };
+        match call {
+            Call::Fresh { .. } => *self = Sums::default(),
+            Call::Load => *self = Sums::of(&Table::open(table, |_| true).expect("a loaded table passes")),
+            Call::Add { .. } => self.adds += 1,
+            Call::Remove { .. } => self.removals += 1,
+            _ => (),
+        }
+    }
+
+    fn of(table: &Table) -> Sums {
+        let built: usize = table.buckets.iter().map(|bucket| bucket.slots.len()).sum();
+        Sums { adds: table.live() as u64, removals: (built - table.live()) as u64, distances: 0 }
+    }
+}
+
+/// A list on its way.
+pub struct History {
+    random: Random,
+    left: Vec<Row>,
+    book: Book,
+    sums: Sums,
+    /// What was met.
+    pub tally: Tally,
+    /// The largest share of the bound that the distances came to, in hundredths.
+    pub share: u64,
+}
+
+impl History {
+    /// Begun by an accepted fresh.
+    pub fn new(seed: u64, order: u32, metric: u32) -> History {
+        let mut random = Random::new(seed);
+        let left = random.fill(reference::table::table_rows(order), any_row);
+        let (book, sums, tally) = (Book::default(), Sums::default(), Tally::default());
+        let mut history = History { random, left, book, sums, tally, share: 0 };
+        let areas = Areas { table: history.left.clone(), ..Areas::default() };
+        assert_eq!(history.call(&Call::Fresh { order, metric }, areas).refusal, 0);
+        history
+    }
+
+    /// One call more, any of the eight.
+    pub fn step(&mut self) {
+        let mut areas = lent(&mut self.random, &self.left, self.book.order);
+        let call = next(&mut self.random, &mut areas, self.book.order, self.book.metric);
+        self.call(&call, areas);
+    }
+
+    /// One add or removal more.
+    pub fn change(&mut self) {
+        let areas = lent(&mut self.random, &self.left, self.book.order);
+        let call = change(&mut self.random, &areas, self.book.order);
+        self.call(&call, areas);
+    }
+
+    fn call(&mut self, call: &Call, mut areas: Areas) -> Reply {
+        let lengths = [areas.table.len(), areas.work.len(), areas.result.len()];
+        let reply = compare(call, &mut areas, &mut self.random);
+        let hits = areas.result.iter().take(reply.found as usize).map(|entry| (entry[1] as u32, entry[0])).collect();
+        self.check_shown(call, &areas.image, lengths, &reply, hits);
+        self.sums.note(call, &reply, &areas.table);
+        self.tally.note(call, &reply);
+        keep(&mut self.left, areas.table);
+        self.check_state();
+        reply
+    }
+
+    // Table and book are alike in the refusal (writing excepted), look up's profile, the number found and the entries.
+    fn check_shown(
+        &mut self,
+        call: &Call,
+        image: &[u8],
+        [rows, work, room]: [usize; 3],
+        reply: &Reply,
+        hits: Vec<Hit>,
+    ) {
+        let book = &mut self.book;
+        let nothing = |()| (Profile::default(), vec![]);
+        let expected = match *call {
+            Call::Fresh { order, metric } => book.fresh(rows, order, metric).map(nothing),
+            Call::Load => book.load(rows, image).map(nothing),
+            Call::Add { tag, profile } => book.add(rows, work, tag, profile).map(nothing),
+            Call::Remove { tag } => book.remove(rows, work, tag).map(nothing),
+            Call::LookUp { tag } => book.look_up(rows, tag).map(|profile| (profile, vec![])),
+            Call::Range { query, radius } => {
+                book.range(rows, room, &query, radius).map(|hits| (Profile::default(), hits))
+            }
+            Call::Nearest { query, k } => book.nearest(rows, room, &query, k).map(|hits| (Profile::default(), hits)),
+            Call::Write => return,
+        };
+        let got = if reply.refusal == 0 { Ok((reply.profile, hits)) } else { Err(reply.refusal) };
+        assert_eq!(got, expected, "table, then book: {call:?}");
+    }
+
+    // The book's items, each once, are those in the built slots of mark 0; the distances keep within the bound.
+    fn check_state(&mut self) {
+        let table = Table::open(&self.left, |_| true).expect("order, metric and sizes pass");
+        assert_eq!((table.order, table.metric), (self.book.order, self.book.metric));
+        let items = table.buckets.iter().flat_map(Bucket::live_items).map(|slot| (slot.tag, slot.profile));
+        assert_eq!(by_tag(items.collect()), by_tag(self.book.items.clone()));
+        if table.order < 7 || self.random.one_in(16) {
+            assert!(is_sound(&table), "fields, marks and trees keep the rules");
+        }
+        let bound = self.sums.bound(table.order);
+        assert!(self.sums.distances <= bound, "{:?} at order {}", self.sums, table.order);
+        self.share = self.share.max(100 * self.sums.distances / bound.max(1));
+    }
+}
+
+fn by_tag(mut items: Vec<(u64, Profile)>) -> Vec<(u64, Profile)> {
+    items.sort_by_key(|item| item.0);
+    items
+}

@@ -1,0 +1,10 @@
+//! Calls of the archive compared with the reference, one by one and over long random lists.
+
+pub mod calls;
+pub mod foreign;
+pub mod history;
+pub mod images;
+pub mod lists;
+pub mod random;
+pub mod sound;
+pub mod stack;

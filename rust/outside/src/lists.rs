@@ -1,0 +1,225 @@
+//! Random lists of calls on areas of any content, each call compared with the reference.
+
+use std::collections::BTreeMap;
+
+use reference::image::bytes;
+use reference::item::{Profile, Row, Slot};
+use reference::refusal::SHORT;
+use reference::table::{Table, capacity, first_row, table_rows};
+
+use crate::calls::{Areas, Call, Reply, compare};
+use crate::foreign::{any_row, rows_of};
+use crate::random::Random;
+use crate::{foreign, images, sound};
+
+/// How often each call was refused by each number, 0 being accepted, and how many removals built a tree.
+#[derive(Clone, Debug, Default)]
+pub struct Tally {
+    /// By call and number.
+    pub met: BTreeMap<(&'static str, u32), usize>,
+    /// Removals that worked out distances.
+    pub shrunk: usize,
+}
+
+/// The numbers that each call can be refused by, and 0.
+pub const NUMBERS: [(&str, &[u32]); 8] = [
+    ("fresh", &[0, 3, 4, 23]),
+    ("load", &[0, 3, 4, 7, 8, 23, 24]),
+    ("add", &[0, 1, 2, 20, 22, 23, 24]),
+    ("remove", &[0, 1, 21, 23, 24]),
+    ("look up", &[0, 1, 21, 23, 24]),
+    ("range", &[0, 2, 6, 23, 24]),
+    ("nearest", &[0, 2, 5, 6, 23, 24]),
+    ("write", &[0, 6, 23, 24]),
+];
+
+impl Tally {
+    /// Counts a call.
+    pub fn note(&mut self, call: &Call, reply: &Reply) {
+        *self.met.entry((name(call), reply.refusal)).or_default() += 1;
+        self.shrunk += (matches!(call, Call::Remove { .. }) && reply.distances > 0) as usize;
+    }
+
+    /// How many calls there were.
+    pub fn calls(&self) -> usize {
+        self.met.values().sum()
+    }
+
+    /// Adds another tally to this one.
+    pub fn join(&mut self, other: Tally) {
+        for (key, n) in other.met {
+            *self.met.entry(key).or_default() += n;
+        }
+        self.shrunk += other.shrunk;
+    }
+}
+
+fn name(call: &Call) -> &'static str {
+    match call {
+        Call::Fresh { .. } => "fresh",
+        Call::Load => "load",
+        Call::Add { .. } => "add",
+        Call::Remove { .. } => "remove",
+        Call::LookUp { .. } => "look up",
+        Call::Range { .. } => "range",
+        Call::Nearest { .. } => "nearest",
+        Call::Write => "write",
+    }
+}
+
+/// A list of so many calls on a table of this order and metric.
+pub fn list(random: &mut Random, order: u32, metric: u32, calls: usize) -> Tally {
+    let mut left = start(random, order, metric);
+    let mut tally = Tally::default();
+    for _ in 0..calls {
+        let mut areas = lent(random, &left, order);
+        if !areas.table.is_empty() && random.one_in(30) {
+            let at = random.below(areas.table.len());
+            areas.table[at][random.below(12)] = random.reach();
+        }
+        let call = next(random, &mut areas, order, metric);
+        let reply = compare(&call, &mut areas, random);
+        tally.note(&call, &reply);
+        keep(&mut left, areas.table);
+        if reply.refusal >= SHORT && random.one_in(3) {
+            left = start(random, order, metric);
+        }
+    }
+    tally
+}
+
+/// What is left of a table after a call: the area's rows, and those that it did not reach.
+pub fn keep(left: &mut Vec<Row>, area: Vec<Row>) {
+    left.splice(..area.len().min(left.len()), area);
+}
+
+fn start(random: &mut Random, order: u32, metric: u32) -> Vec<Row> {
+    match random.below(12) {
+        0 => random.fill(table_rows(order), any_row),
+        1..6 => {
+            let sound = sound::table(random, order, metric);
+            rows_of(random, &sound, 0)
+        }
+        _ => foreign::table(random, order, metric),
+    }
+}
+
+// A length about that needed: mostly enough, now and then too short or none.
+fn length(random: &mut Random, needed: usize) -> usize {
+    match random.below(40) {
+        0 => random.below(needed + 1),
+        1 => needed.saturating_sub(1),
+        2 => 0,
+        _ => needed + random.below(4),
+    }
+}
+
+/// The areas for the next call: the table's rows as far as the area reaches, and other rows after them.
+pub fn lent(random: &mut Random, left: &[Row], order: u32) -> Areas {
+    let (rows, working) = (length(random, table_rows(order)), length(random, capacity(order)));
+    let mut table = left[..rows.min(left.len())].to_vec();
+    table.extend(random.fill(rows - table.len(), any_row));
+    let room = if random.one_in(3) { random.below(4) } else { length(random, capacity(order)) };
+    Areas {
+        table,
+        work: random.fill(working, any_row),
+        result: random.fill(room, |random| [random.word(), random.word()]),
+        image: vec![],
+    }
+}
+
+/// The next call, with the image that it reads or the bytes that it writes to.
+pub fn next(random: &mut Random, areas: &mut Areas, order: u32, metric: u32) -> Call {
+    match random.below(32) {
+        0 => fresh(random, order, metric),
+        1..4 => load(random, areas, order, metric),
+        4 | 5 => write(random, areas, order),
+        6..14 => add(random, order),
+        14..20 => Call::Remove { tag: tag(random, areas, order) },
+        20..23 => Call::LookUp { tag: tag(random, areas, order) },
+        23..27 => Call::Range { query: query(random, areas, order), radius: random.reach() },
+        _ => Call::Nearest { query: query(random, areas, order), k: count(random, order) },
+    }
+}
+
+/// An add or a removal.
+pub fn change(random: &mut Random, areas: &Areas, order: u32) -> Call {
+    if random.one_in(2) { add(random, order) } else { Call::Remove { tag: tag(random, areas, order) } }
+}
+
+fn fresh(random: &mut Random, order: u32, metric: u32) -> Call {
+    match random.below(4) {
+        0 => Call::Fresh { order: random.pick(&[13, 12, 31, 32, 64, u32::MAX]), metric },
+        1 => Call::Fresh { order, metric: random.pick(&[2, 3, 256, u32::MAX]) },
+        _ => Call::Fresh { order, metric },
+    }
+}
+
+// Sometimes the table is a sound or a foreign one afterwards, whatever it was: a load of an image gives the first.
+fn load(random: &mut Random, areas: &mut Areas, order: u32, metric: u32) -> Call {
+    areas.image = match (random.below(4), Table::open(&areas.table, |_| true)) {
+        (0, Ok(table)) => bytes(&table),
+        (1, Ok(table)) => images::cut(random, bytes(&table)),
+        (2, _) => few_bytes(random),
+        _ => images::image(random, order, metric),
+    };
+    Call::Load
+}
+
+fn few_bytes(random: &mut Random) -> Vec<u8> {
+    let length = random.below(60);
+    let mut bytes = random.fill(length, |random| random.below(3) as u8);
+    if let Some(first) = bytes.first_mut() {
+        *first = random.pick(&[0, 0, 1, 2, 3, 13, 255]);
+    }
+    bytes
+}
+
+fn write(random: &mut Random, areas: &mut Areas, order: u32) -> Call {
+    let needed = Table::open(&areas.table, |_| true).map_or(8, |table| bytes(&table).len());
+    let room = if random.one_in(4) { length(random, 8 * capacity(order)) } else { length(random, needed) };
+    areas.image = random.fill(room, |random| random.word() as u8);
+    Call::Write
+}
+
+fn add(random: &mut Random, order: u32) -> Call {
+    let tag = if random.one_in(30) { random.edge_tag() } else { random.tag(sound::pool(order)) };
+    let profile = if random.one_in(30) { random.bad_profile() } else { random.profile() };
+    Call::Add { tag, profile }
+}
+
+// mostly one that some slot has
+fn tag(random: &mut Random, areas: &Areas, order: u32) -> u64 {
+    match random.below(20) {
+        0 => random.edge_tag(),
+        1 | 2 => random.tag(sound::pool(order)),
+        _ => a_slot(random, areas, order).map_or(0, |row| row[0] as u64 | (row[1] as u64) << 32),
+    }
+}
+
+// A slot of a bucket that is in use, if the table is long enough.
+fn a_slot(random: &mut Random, areas: &Areas, order: u32) -> Option<Row> {
+    let used = |k: &usize| areas.table.get(1 + k).is_some_and(|row| row[0] > 0);
+    let used: Vec<usize> = (0..=order as usize).filter(used).collect();
+    let k = *used.get(random.below(used.len()))?;
+    let built = areas.table[1 + k][0] as usize;
+    areas.table.get(first_row(order, k) + random.below(built)).copied()
+}
+
+// any valid one, one like a slot's, or one that is refused
+fn query(random: &mut Random, areas: &Areas, order: u32) -> Profile {
+    match random.below(20) {
+        0 => random.bad_profile(),
+        1..10 => a_slot(random, areas, order).map_or_else(Default::default, |row| Slot::of(&row).profile),
+        _ => random.profile(),
+    }
+}
+
+fn count(random: &mut Random, order: u32) -> u32 {
+    match random.below(8) {
+        0 => 0,
+        1 => u32::MAX,
+        2 => 1 + random.below(2 * capacity(order)) as u32,
+        _ => 1 + random.below(12) as u32,
+    }
+}

@@ -1,0 +1,119 @@
+//! Random values: the same for the same seed. Few different ones where that makes equal tags and equal distances likely.
+
+use reference::item::Profile;
+
+/// The least valid tag.
+pub const MIN_TAG: u64 = 1_000_000_000_000;
+/// One past the largest valid tag.
+pub const TAG_END: u64 = 1_000_000_000_000_000;
+/// The largest valid measure.
+pub const MAX_MEASURE: i32 = 1_000_000;
+
+/// A generator (xorshift64*).
+#[derive(Clone, Debug)]
+pub struct Random(u64);
+
+impl Random {
+    /// From any seed.
+    pub fn new(seed: u64) -> Random {
+        Random(seed.wrapping_mul(0x9E37_79B9_7F4A_7C15) | 1)
+    }
+
+    /// Any 64 bits.
+    pub fn word(&mut self) -> u64 {
+        self.0 ^= self.0 >> 12;
+        self.0 ^= self.0 << 25;
+        self.0 ^= self.0 >> 27;
+        self.0.wrapping_mul(0x2545_F491_4F6C_DD1D)
+    }
+
+    /// 0 to n - 1, and 0 where n is 0.
+    pub fn below(&mut self, n: usize) -> usize {
+        if n == 0 { 0 } else { ((self.word() >> 11) % n as u64) as usize }
+    }
+
+    /// From the first to the last, both included.
+    pub fn within(&mut self, first: i64, last: i64) -> i64 {
+        first + ((self.word() >> 11) % (last - first + 1) as u64) as i64
+    }
+
+    /// True once in n times.
+    pub fn one_in(&mut self, n: usize) -> bool {
+        self.below(n) == 0
+    }
+
+    /// One of these.
+    pub fn pick<T: Copy>(&mut self, of: &[T]) -> T {
+        of[self.below(of.len())]
+    }
+
+    /// A valid tag, one of so many.
+    pub fn tag(&mut self, pool: usize) -> u64 {
+        MIN_TAG * 36 + self.below(pool) as u64 * 7
+    }
+
+    /// A tag at an end of the valid ones, valid or not.
+    pub fn edge_tag(&mut self) -> u64 {
+        self.pick(&[0, MIN_TAG - 1, MIN_TAG, TAG_END - 1, TAG_END, u64::MAX, 1 << 32])
+    }
+
+    /// A valid profile.
+    pub fn profile(&mut self) -> Profile {
+        match self.below(4) {
+            0 | 1 => self.few_profile(),
+            2 => self.even_profile(),
+            _ => self.edge_profile(),
+        }
+    }
+
+    // one of few, so that many distances are equal
+    fn few_profile(&mut self) -> Profile {
+        let measures = [0; 4].map(|_| self.within(-1, 2) as i32);
+        let code = [0; 2].map(|_| self.word() & 7);
+        Profile { measures, code }
+    }
+
+    fn even_profile(&mut self) -> Profile {
+        let last = MAX_MEASURE as i64;
+        let measures = [0; 4].map(|_| self.within(-last, last) as i32);
+        Profile { measures, code: [self.word(), self.word()] }
+    }
+
+    fn edge_profile(&mut self) -> Profile {
+        let measures = [0; 4].map(|_| self.pick(&[-MAX_MEASURE, 0, MAX_MEASURE]));
+        let code = [0; 2].map(|_| self.pick(&[0, u64::MAX, 1, 1 << 63]));
+        Profile { measures, code }
+    }
+
+    /// A profile with a measure just or far outside its range.
+    pub fn bad_profile(&mut self) -> Profile {
+        let mut profile = self.profile();
+        let at = self.below(4);
+        profile.measures[at] = self.pick(&[MAX_MEASURE + 1, -MAX_MEASURE - 1, i32::MIN, i32::MAX]);
+        profile
+    }
+
+    /// A profile of any 32-bit measures.
+    pub fn any_profile(&mut self) -> Profile {
+        match self.below(3) {
+            0 => self.profile(),
+            1 => self.bad_profile(),
+            _ => Profile { measures: [0; 4].map(|_| self.word() as i32), code: [self.word(), self.word()] },
+        }
+    }
+
+    /// A radius or a threshold: small, middling, at the end or any.
+    pub fn reach(&mut self) -> u32 {
+        match self.below(5) {
+            0 | 1 => self.below(12) as u32,
+            2 => self.below(3_000_000) as u32,
+            3 => self.pick(&[0, 128, 8_000_000, u32::MAX, u32::MAX - 1]),
+            _ => self.word() as u32,
+        }
+    }
+
+    /// Elements of any content.
+    pub fn fill<T>(&mut self, n: usize, mut one: impl FnMut(&mut Random) -> T) -> Vec<T> {
+        (0..n).map(|_| one(self)).collect()
+    }
+}

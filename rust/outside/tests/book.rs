@@ -1,0 +1,34 @@
+//! Lists of calls held to the plain book and to the bound on all rebuilds.
+
+use outside::history::History;
+
+// Calls of every kind, refused ones too, at every order and by both metrics.
+#[test]
+fn table_and_book_are_alike() {
+    let mut calls = 0;
+    for order in 0..=12 {
+        for (metric, seed) in [(0, 1), (1, 2), (0, 3), (1, 4)] {
+            let mut history = History::new(seed * 100 + order as u64, order, metric);
+            for _ in 0..250 {
+                history.step();
+            }
+            calls += history.tally.calls();
+        }
+    }
+    println!("{calls} calls");
+    assert!(calls >= 10_000);
+}
+
+// Adds and removals alone, so that the sums are never begun again.
+#[test]
+fn rebuilds_keep_within_the_bound() {
+    for order in 1..=8 {
+        for metric in 0..=1 {
+            let mut history = History::new(7 + order as u64, order, metric);
+            for _ in 0..1000 {
+                history.change();
+            }
+            println!("order {order}, metric {metric}: the rebuilds came to at most {} % of their bound", history.share);
+        }
+    }
+}

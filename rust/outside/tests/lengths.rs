@@ -1,0 +1,118 @@
+//! Areas of every small length, with guards around them.
+
+use outside::calls::{Areas, Call, compare};
+use outside::foreign::{self, any_row, rows_of};
+use outside::random::Random;
+use outside::sound;
+use reference::image::bytes;
+use reference::item::Row;
+use reference::table::{Table, capacity, table_rows};
+
+// A table of some kind, every row of which is one that the order needs.
+fn tables(random: &mut Random, order: u32, metric: u32) -> Vec<Vec<Row>> {
+    let sound = [0; 2].map(|_| sound::table(random, order, metric));
+    let mut tables: Vec<_> = sound.iter().map(|table| rows_of(random, table, 0)).collect();
+    tables.extend([0; 2].map(|_| foreign::table(random, order, metric)));
+    tables
+}
+
+struct Lengths {
+    table: usize,
+    work: usize,
+    result: usize,
+    image: usize,
+}
+
+fn lent(random: &mut Random, rows: &[Row], lengths: Lengths) -> Areas {
+    let mut table = rows.to_vec();
+    table.resize_with(lengths.table, || any_row(random));
+    Areas {
+        table,
+        work: random.fill(lengths.work, any_row),
+        result: random.fill(lengths.result, |random| [random.word(), random.word()]),
+        image: random.fill(lengths.image, |random| random.word() as u8),
+    }
+}
+
+fn calls(random: &mut Random, rows: &[Row], order: u32, metric: u32) -> Vec<Call> {
+    let live = Table::open(rows, |_| true).ok().and_then(|table| {
+        let slots: Vec<_> = table.buckets.iter().flat_map(|bucket| bucket.live_items().copied()).collect();
+        slots.first().map(|slot| slot.tag)
+    });
+    let tag = live.unwrap_or_else(|| random.tag(1));
+    let query = random.profile();
+    vec![
+        Call::Fresh { order, metric },
+        Call::Load,
+        Call::Add { tag: random.tag(100), profile: query },
+        Call::Remove { tag },
+        Call::LookUp { tag },
+        Call::Range { query, radius: u32::MAX },
+        Call::Nearest { query, k: u32::MAX },
+        Call::Write,
+    ]
+}
+
+// One area at a time has every length from none to a few elements more than is needed; the others are long enough.
+fn every_length(random: &mut Random, rows: &[Row], order: u32, metric: u32) -> usize {
+    let (table, work, result) = (table_rows(order), capacity(order), 2 * capacity(order));
+    let image = 4 + 4 * (order as usize + 1) + 48 * result;
+    let of = |at: usize, n: usize| {
+        let one = |i: usize, needed: usize| if i == at { n } else { needed };
+        Lengths { table: one(0, table), work: one(1, work), result: one(2, result), image: one(3, image) }
+    };
+    let mut count = 0;
+    for (at, needed) in [table, work, result, image].into_iter().enumerate() {
+        for n in 0..=needed + 3 {
+            for call in calls(random, rows, order, metric).into_iter().filter(|call| is_lent(call, at)) {
+                let mut areas = lent(random, rows, of(at, n));
+                compare(&call, &mut areas, random);
+                count += 1;
+            }
+        }
+    }
+    count
+}
+
+// Whether the call is lent this area: table, work, result, image.
+fn is_lent(call: &Call, at: usize) -> bool {
+    match call {
+        Call::Add { .. } | Call::Remove { .. } => at <= 1,
+        Call::Range { .. } | Call::Nearest { .. } => at == 0 || at == 2,
+        Call::Load | Call::Write => at == 0 || at == 3,
+        _ => at == 0,
+    }
+}
+
+#[test]
+fn areas_of_every_small_length() {
+    let mut random = Random::new(4);
+    let mut count = 0;
+    for (order, metric) in (0..=3).flat_map(|order| [(order, 0), (order, 1)]) {
+        for rows in tables(&mut random, order, metric) {
+            count += every_length(&mut random, &rows, order, metric);
+        }
+    }
+    println!("{count} calls");
+}
+
+// A sound image, cut at every length and with bytes after it, into tables of every length.
+#[test]
+fn images_of_every_length() {
+    let mut random = Random::new(5);
+    for (order, metric) in (0..=4).flat_map(|order| [(order, 0), (order, 1)]) {
+        let sound = sound::table(&mut random, order, metric);
+        let image = bytes(&sound);
+        let mut load = |bytes: &[u8], rows: usize| {
+            let mut areas = Areas { table: random.fill(rows, any_row), image: bytes.to_vec(), ..Areas::default() };
+            compare(&Call::Load, &mut areas, &mut random).refusal
+        };
+        for n in 0..image.len() {
+            assert_ne!(load(&image[..n], table_rows(order)), 0);
+        }
+        assert_eq!(load(&[&image[..], &[0]].concat(), table_rows(order)), 7);
+        for rows in 0..table_rows(order) + 3 {
+            assert_eq!(load(&image, rows), if rows < table_rows(order) { 23 } else { 0 });
+        }
+    }
+}

@@ -1,0 +1,98 @@
+//! Long random lists through the safe interface, with every search held to a plain scan.
+
+use outside::random::Random;
+use reference::item::distance;
+use vpindex::{Metric, Order, Profile, Refusal, Table, Tag};
+
+struct Both {
+    table: Table,
+    items: Vec<(Tag, Profile)>,
+    random: Random,
+}
+
+fn plain(profile: &Profile) -> reference::item::Profile {
+    reference::item::Profile { measures: profile.measures(), code: profile.code() }
+}
+
+impl Both {
+    fn profile(&mut self) -> Profile {
+        let profile = self.random.profile();
+        Profile::new(profile.measures, profile.code).expect("in range")
+    }
+
+    fn add(&mut self, national: u64) {
+        let (tag, profile) = (Tag::new(36, national).expect("valid"), self.profile());
+        match self.table.add(tag, &profile) {
+            Ok(_) => self.items.push((tag, profile)),
+            Err(refusal) => {
+                assert_eq!((refusal, self.items.len()), (Refusal::Full, self.table.order().capacity()));
+            }
+        }
+    }
+
+    fn remove(&mut self) {
+        if self.items.is_empty() {
+            return;
+        }
+        let at = self.random.below(self.items.len());
+        let (tag, profile) = self.items.swap_remove(at);
+        assert_eq!(self.table.look_up(tag).expect("live").profile, profile);
+        self.table.remove(tag).expect("live");
+    }
+
+    // every item by distance, then tag
+    fn scan(&self, query: &Profile) -> Vec<(u32, Tag)> {
+        let away = |profile| distance(self.table.metric().get(), &plain(profile), &plain(query));
+        let mut all: Vec<_> = self.items.iter().map(|(tag, profile)| (away(profile), *tag)).collect();
+        all.sort_unstable();
+        all
+    }
+
+    fn search(&mut self) {
+        let (query, radius) = (self.profile(), self.random.reach());
+        let count = 1 + self.random.below(40);
+        let all = self.scan(&query);
+        let within: Vec<_> = all.iter().copied().filter(|hit| hit.0 <= radius).collect();
+        let hits = self.table.range(&query, radius).expect("room for all");
+        assert!(hits.into_iter().map(|hit| (hit.distance(), hit.tag())).eq(within));
+        let hits = self.table.nearest(&query, count as u32).expect("room for all");
+        assert!(hits.into_iter().map(|hit| (hit.distance(), hit.tag())).eq(all.into_iter().take(count)));
+    }
+
+    fn reload(&mut self) {
+        let image = self.table.image();
+        self.table = Table::load(&image).expect("an image that was written");
+        assert_eq!(self.table.image(), image);
+    }
+}
+
+// Grows to so many, then as many adds as removals, then shrinks; searched on the way.
+fn grow_and_shrink(order: u32, metric: Metric, most: usize) {
+    let order = Order::new(order).expect("valid");
+    let mut both =
+        Both { table: Table::new(order, metric), items: vec![], random: Random::new(order.get() as u64 + 1) };
+    for (step, national) in (0..3 * most as u64).enumerate() {
+        if step < most || step < 2 * most && step % 2 == 0 {
+            both.add(national);
+        } else {
+            both.remove();
+        }
+        if step % 16 == 0 {
+            both.search();
+        }
+        if step % 1000 == 999 {
+            both.reload();
+        }
+        assert_eq!(both.table.len(), both.items.len());
+    }
+}
+
+#[test]
+fn searches_find_what_a_scan_finds() {
+    for metric in [Metric::SumOfDifferences, Metric::DifferingBits] {
+        for order in [0, 1, 2, 5, 8] {
+            grow_and_shrink(order, metric, 1 << order);
+        }
+        grow_and_shrink(12, metric, 4096);
+    }
+}

@@ -1,0 +1,78 @@
+//! Each call at order 12 in a thread with a 256 KiB stack, and how much of it the call used.
+
+use outside::calls::{Areas, Call, by_archive};
+use outside::random::Random;
+use outside::stack::{STACK, used_by};
+use reference::item::{Row, Slot};
+use reference::table::{Bucket, Table, capacity, put_table, table_rows};
+use reference::tree::layout;
+
+const ORDER: u32 = 12;
+
+// Buckets of these built and live sizes; the dead slots are the last ones.
+fn table(random: &mut Random, metric: u32, sizes: &[(usize, u32, u32)]) -> Table {
+    let mut buckets = vec![Bucket::default(); ORDER as usize + 1];
+    let mut nationals = 1u64..;
+    for &(k, built, live) in sizes {
+        let item = |national| Slot { tag: 36_000_000_000_000 + national, profile: random.profile(), ..Slot::default() };
+        let items: Vec<Slot> = nationals.by_ref().take(built as usize).map(item).collect();
+        let mut slots = layout(metric, &items);
+        slots[live as usize..].iter_mut().for_each(|slot| slot.mark = 1);
+        buckets[k] = Bucket { built, live, slots };
+    }
+    Table { order: ORDER, metric, buckets }
+}
+
+fn rows(table: &Table) -> Vec<Row> {
+    let mut rows = vec![[0; 12]; table_rows(ORDER)];
+    put_table(&mut rows, table);
+    rows
+}
+
+fn areas(table: &Table) -> Areas {
+    Areas {
+        table: rows(table),
+        work: vec![[0; 12]; capacity(ORDER)],
+        result: vec![[0; 2]; capacity(ORDER)],
+        image: reference::image::bytes(table),
+    }
+}
+
+// The call must be accepted.
+fn measure(name: &str, call: Call, mut areas: Areas) -> usize {
+    let mut refusal = u32::MAX;
+    let used = used_by(|| {
+        let Areas { table, work, result, image } = &mut areas;
+        refusal = by_archive(&call, table, work, result, image).refusal;
+    });
+    assert_eq!(refusal, 0, "{name}");
+    println!("{name}: {used} bytes of stack");
+    used
+}
+
+#[test]
+fn every_call_in_a_small_stack() {
+    for metric in 0..=1 {
+        let mut random = Random::new(9);
+        let full = table(&mut random, metric, &[(12, 4096, 4096)]);
+        let each: Vec<_> = (0..12).map(|k| (k, 1 << k, 1 << k)).collect();
+        let one_short = table(&mut random, metric, &each);
+        let thin = table(&mut random, metric, &[(12, 4096, 1025), (11, 2048, 2048)]);
+        let first = thin.buckets[12].slots[0];
+        let query = random.profile();
+        let tag = 40_000_000_000_000;
+        let calls = [
+            ("fresh", Call::Fresh { order: ORDER, metric }, &full),
+            ("load", Call::Load, &full),
+            ("add", Call::Add { tag, profile: query }, &one_short),
+            ("remove", Call::Remove { tag: first.tag }, &thin),
+            ("look up", Call::LookUp { tag: first.tag }, &thin),
+            ("range", Call::Range { query, radius: u32::MAX }, &full),
+            ("nearest", Call::Nearest { query, k: u32::MAX }, &full),
+            ("write", Call::Write, &full),
+        ];
+        for (name, call, table) in calls {
+            assert!(measure(&format!("{name}, metric {metric}"), call, areas(table)) < STACK);
+        }
+    }
+}

@@ -1,0 +1,107 @@
+//! The plain book: an order, a metric and a list of items, with neither buckets nor trees. It is fed a call's arguments and
+//! the lengths of the lent areas, never an answer or what the table holds.
+
+use crate::image;
+use crate::item::{MAX_METRIC, MAX_ORDER, Profile, check_measures, check_tag, distance};
+use crate::refusal::{ABSENT, COUNT, FULL, LIVE, METRIC, ORDER, ROOM, Refused, SHORT, ensure};
+use crate::table::{Bucket, capacity, table_rows};
+use crate::tree::Hit;
+
+/// The book.
+#[derive(Clone, Debug, Default)]
+pub struct Book {
+    /// T.
+    pub order: u32,
+    /// By which distances are worked out.
+    pub metric: u32,
+    /// As handed over, in any order.
+    pub items: Vec<(u64, Profile)>,
+}
+
+impl Book {
+    /// Order and metric as given, no items.
+    pub fn fresh(&mut self, rows: usize, order: u32, metric: u32) -> Result<(), Refused> {
+        ensure(order <= MAX_ORDER, ORDER)?;
+        ensure(metric <= MAX_METRIC, METRIC)?;
+        ensure(rows >= table_rows(order), SHORT)?;
+        *self = Book { order, metric, items: vec![] };
+        Ok(())
+    }
+
+    /// Those of the image, with its items of mark 0.
+    pub fn load(&mut self, rows: usize, bytes: &[u8]) -> Result<(), Refused> {
+        let read = image::read(bytes, rows)?;
+        let live = read.buckets.iter().flat_map(Bucket::live_items);
+        *self =
+            Book { order: read.order, metric: read.metric, items: live.map(|slot| (slot.tag, slot.profile)).collect() };
+        Ok(())
+    }
+
+    fn check_areas(&self, rows: usize, work: usize) -> Result<(), Refused> {
+        ensure(rows >= table_rows(self.order) && work >= capacity(self.order), SHORT)
+    }
+
+    fn check_table(&self, rows: usize) -> Result<(), Refused> {
+        self.check_areas(rows, usize::MAX)
+    }
+
+    fn find(&self, tag: u64) -> Option<usize> {
+        self.items.iter().position(|item| item.0 == tag)
+    }
+
+    /// Puts the item in.
+    pub fn add(&mut self, rows: usize, work: usize, tag: u64, profile: Profile) -> Result<(), Refused> {
+        self.check_areas(rows, work)?;
+        check_tag(tag)?;
+        check_measures(&profile)?;
+        ensure(self.find(tag).is_none(), LIVE)?;
+        ensure(self.items.len() < capacity(self.order), FULL)?;
+        self.items.push((tag, profile));
+        Ok(())
+    }
+
+    /// Strikes the item out.
+    pub fn remove(&mut self, rows: usize, work: usize, tag: u64) -> Result<(), Refused> {
+        self.check_areas(rows, work)?;
+        check_tag(tag)?;
+        let at = self.find(tag).ok_or(ABSENT)?;
+        self.items.swap_remove(at);
+        Ok(())
+    }
+
+    /// Gives the item's profile.
+    pub fn look_up(&self, rows: usize, tag: u64) -> Result<Profile, Refused> {
+        self.check_table(rows)?;
+        check_tag(tag)?;
+        self.find(tag).map(|at| self.items[at].1).ok_or(ABSENT)
+    }
+
+    // Every item by distance, then tag.
+    fn by_distance(&self, query: &Profile) -> Vec<Hit> {
+        let mut hits: Vec<Hit> =
+            self.items.iter().map(|(tag, profile)| (distance(self.metric, profile, query), *tag)).collect();
+        hits.sort_unstable();
+        hits
+    }
+
+    /// All within the radius.
+    pub fn range(&self, rows: usize, room: usize, query: &Profile, radius: u32) -> Result<Vec<Hit>, Refused> {
+        self.check_table(rows)?;
+        check_measures(query)?;
+        let mut hits = self.by_distance(query);
+        hits.retain(|hit| hit.0 <= radius);
+        ensure(hits.len() <= room, ROOM)?;
+        Ok(hits)
+    }
+
+    /// The first k of all.
+    pub fn nearest(&self, rows: usize, room: usize, query: &Profile, k: u32) -> Result<Vec<Hit>, Refused> {
+        self.check_table(rows)?;
+        check_measures(query)?;
+        ensure(k != 0, COUNT)?;
+        let mut hits = self.by_distance(query);
+        hits.truncate(k as usize);
+        ensure(hits.len() <= room, ROOM)?;
+        Ok(hits)
+    }
+}

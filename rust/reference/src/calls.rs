@@ -1,0 +1,142 @@
+//! The eight calls, on lent areas.
+
+use crate::image;
+use crate::item::{Entry, MAX_METRIC, MAX_ORDER, Profile, Row, Slot, check_measures, check_tag};
+use crate::refusal::{ABSENT, COUNT, FULL, LIVE, METRIC, ORDER, ROOM, Refused, SHORT, ensure};
+use crate::table::{Bucket, Table, capacity, first_row, put_bucket, put_sizes, put_table, table_rows};
+use crate::tree::{Search, Wanted, cost, layout};
+
+/// Bucket that was built, and distances of the build.
+pub type Added = (u32, u32);
+/// Number found, and distances.
+pub type Searched = (u32, u32);
+
+/// An empty table of this order and metric.
+pub fn fresh(table: &mut [Row], order: u32, metric: u32) -> Result<(), Refused> {
+    ensure(order <= MAX_ORDER, ORDER)?;
+    ensure(metric <= MAX_METRIC, METRIC)?;
+    ensure(table.len() >= table_rows(order), SHORT)?;
+    let buckets = vec![Bucket::default(); order as usize + 1];
+    put_table(table, &Table { order, metric, buckets });
+    Ok(())
+}
+
+/// The table of an image.
+pub fn load(table: &mut [Row], bytes: &[u8]) -> Result<(), Refused> {
+    let read = image::read(bytes, table.len())?;
+    put_table(table, &read);
+    Ok(())
+}
+
+/// Adds an item.
+pub fn add(rows: &mut [Row], work: &mut [Row], tag: u64, profile: Profile) -> Result<Added, Refused> {
+    let table = Table::open_to_change(rows, work)?;
+    check_tag(tag)?;
+    check_measures(&profile)?;
+    ensure(table.find(tag).is_none(), LIVE)?;
+    ensure(table.live() < capacity(table.order), FULL)?;
+    let empty = table.buckets.iter().position(|bucket| !bucket.in_use());
+    let k = empty.unwrap_or(table.order as usize + 1);
+    let mut items = vec![Slot { tag, profile, ..Slot::default() }];
+    items.extend(table.buckets[..k].iter().flat_map(Bucket::live_items));
+    let target = if 2 * items.len() > 1 << k { k } else { k - 1 };
+    let distances = rebuild(rows, &table, &items, target, 0..k);
+    work[..capacity(table.order)].fill([0; 12]);
+    Ok((target as u32, distances))
+}
+
+/// Removes an item, and gives the distances of the build.
+pub fn remove(rows: &mut [Row], work: &mut [Row], tag: u64) -> Result<u32, Refused> {
+    let mut table = Table::open_to_change(rows, work)?;
+    check_tag(tag)?;
+    let (k, slot) = table.find(tag).ok_or(ABSENT)?;
+    let bucket = &mut table.buckets[k];
+    bucket.slots[slot].mark = 1;
+    bucket.live -= 1;
+    rows[first_row(table.order, k) + slot][11] = 1;
+    put_sizes(rows, k, bucket.built, bucket.live);
+    let distances = shrink(rows, &table, k);
+    work[..capacity(table.order)].fill([0; 12]);
+    Ok(distances)
+}
+
+// After a removal from bucket k: nothing, an emptying, or a build with a lower bucket.
+fn shrink(rows: &mut [Row], table: &Table, k: usize) -> u32 {
+    let live = table.buckets[k].live;
+    if live == 0 {
+        put_bucket(rows, table.order, k, 0, &[]);
+        return 0;
+    }
+    if 4 * live > 1 << k {
+        return 0;
+    }
+    let below = |down: usize| &table.buckets[k - down];
+    let (other, target) = match (below(1).in_use(), below(2).in_use()) {
+        (true, _) if below(1).live > 1 << (k - 2) => (Some(k - 1), k),
+        (true, _) => (Some(k - 1), k - 1),
+        (false, true) => (Some(k - 2), k - 1),
+        (false, false) => (None, k - 2),
+    };
+    let gathered: Vec<usize> = [k].into_iter().chain(other).collect();
+    let items: Vec<Slot> = gathered.iter().flat_map(|&j| table.buckets[j].live_items()).copied().collect();
+    rebuild(rows, table, &items, target, gathered)
+}
+
+// Builds the items in the target bucket and empties the other gathered ones.
+fn rebuild(
+    rows: &mut [Row],
+    table: &Table,
+    items: &[Slot],
+    target: usize,
+    gathered: impl IntoIterator<Item = usize>,
+) -> u32 {
+    for k in gathered {
+        put_bucket(rows, table.order, k, 0, &[]);
+    }
+    put_bucket(rows, table.order, target, items.len() as u32, &layout(table.metric, items));
+    cost(items.len())
+}
+
+/// The bucket and the profile of an item.
+pub fn look_up(rows: &[Row], tag: u64) -> Result<(u32, Profile), Refused> {
+    let table = Table::open(rows, |_| true)?;
+    check_tag(tag)?;
+    let (k, slot) = table.find(tag).ok_or(ABSENT)?;
+    Ok((k as u32, table.buckets[k].slots[slot].profile))
+}
+
+/// All within the radius.
+pub fn range(rows: &[Row], result: &mut [Entry], query: Profile, radius: u32) -> Result<Searched, Refused> {
+    let table = Table::open(rows, |_| true)?;
+    check_measures(&query)?;
+    search(&table, result, query, Wanted::Within(radius))
+}
+
+/// The k nearest.
+pub fn nearest(rows: &[Row], result: &mut [Entry], query: Profile, k: u32) -> Result<Searched, Refused> {
+    let table = Table::open(rows, |_| true)?;
+    check_measures(&query)?;
+    ensure(k != 0, COUNT)?;
+    search(&table, result, query, Wanted::Nearest(k))
+}
+
+fn search(table: &Table, result: &mut [Entry], query: Profile, wanted: Wanted) -> Result<Searched, Refused> {
+    let mut search = Search::new(table.metric, query, wanted);
+    for bucket in table.buckets.iter().rev() {
+        search.visit(&bucket.slots);
+    }
+    result.fill([0; 2]);
+    ensure(search.hits.len() <= result.len(), ROOM)?;
+    for (entry, (distance, tag)) in result.iter_mut().zip(&search.hits) {
+        *entry = [*tag, *distance as u64];
+    }
+    Ok((search.hits.len() as u32, search.count))
+}
+
+/// Writes the image and gives its length.
+pub fn write(rows: &[Row], area: &mut [u8]) -> Result<u32, Refused> {
+    let bytes = image::bytes(&Table::open(rows, |_| true)?);
+    ensure(area.len() >= bytes.len(), ROOM)?;
+    area[..bytes.len()].copy_from_slice(&bytes);
+    Ok(bytes.len() as u32)
+}

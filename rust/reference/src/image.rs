@@ -1,0 +1,117 @@
+//! A table's bytes.
+
+use std::collections::HashSet;
+
+use crate::item::{MAX_METRIC, MAX_ORDER, Profile, Slot, check_measures, check_tag};
+use crate::refusal::{IMAGE, LENGTH, METRIC, ORDER, Refused, SHORT, TABLE, ensure};
+use crate::table::{Bucket, Table, sizes_pass, table_rows};
+use crate::tree::is_layout;
+
+/// The image of a table.
+pub fn bytes(table: &Table) -> Vec<u8> {
+    let mut bytes = vec![table.order as u8, table.metric as u8, 0, 0];
+    for bucket in &table.buckets {
+        bytes.extend((bucket.built as u16).to_le_bytes());
+        bytes.extend((bucket.live as u16).to_le_bytes());
+    }
+    let slots = || table.buckets.iter().flat_map(|bucket| &bucket.slots);
+    for slot in slots() {
+        bytes.extend(slot.tag.to_le_bytes());
+    }
+    for slot in slots() {
+        bytes.extend(record(slot));
+    }
+    bytes
+}
+
+fn record(slot: &Slot) -> Vec<u8> {
+    let mut bytes = vec![];
+    for measure in slot.profile.measures {
+        bytes.extend(measure.to_le_bytes());
+    }
+    for word in slot.profile.code {
+        bytes.extend(word.to_le_bytes());
+    }
+    bytes.extend(slot.threshold.to_le_bytes());
+    bytes.extend(slot.mark.to_le_bytes());
+    bytes
+}
+
+// The bytes not read yet.
+struct Reader<'a>(&'a [u8]);
+
+impl Reader<'_> {
+    fn take<const N: usize>(&mut self) -> [u8; N] {
+        let (first, rest) = self.0.split_first_chunk().expect("as long as the sizes say");
+        self.0 = rest;
+        *first
+    }
+
+    fn word(&mut self) -> u32 {
+        u32::from_le_bytes(self.take())
+    }
+
+    fn long(&mut self) -> u64 {
+        u64::from_le_bytes(self.take())
+    }
+
+    fn size(&mut self) -> (u32, u32) {
+        let mut one = || u16::from_le_bytes(self.take()) as u32;
+        (one(), one())
+    }
+
+    fn record(&mut self, tag: u64) -> Slot {
+        let measures = [0; 4].map(|_| self.word() as i32);
+        let code = [0; 2].map(|_| self.long());
+        Slot { tag, profile: Profile { measures, code }, threshold: self.word(), mark: self.word() }
+    }
+}
+
+/// The table of an image, to be put into so many rows; every check in its order.
+pub fn read(bytes: &[u8], rows: usize) -> Result<Table, Refused> {
+    ensure(bytes.len() >= 4, LENGTH)?;
+    let mut reader = Reader(bytes);
+    let [order, metric, zeros @ ..] = reader.take::<4>();
+    let (order, metric) = (order as u32, metric as u32);
+    ensure(order <= MAX_ORDER, ORDER)?;
+    ensure(metric <= MAX_METRIC, METRIC)?;
+    ensure(zeros == [0; 2], IMAGE)?;
+    ensure(reader.0.len() >= 4 * (order as usize + 1), LENGTH)?;
+    let sizes: Vec<_> = (0..=order).map(|_| reader.size()).collect();
+    ensure(sizes_pass(order, &sizes), TABLE)?;
+    let total: usize = sizes.iter().map(|size| size.0 as usize).sum();
+    ensure(reader.0.len() == 48 * total, LENGTH)?;
+    ensure(rows >= table_rows(order), SHORT)?;
+    let table = Table { order, metric, buckets: buckets(&mut reader, &sizes, total) };
+    ensure(is_sound(&table), IMAGE)?;
+    Ok(table)
+}
+
+fn buckets(reader: &mut Reader, sizes: &[(u32, u32)], total: usize) -> Vec<Bucket> {
+    let tags: Vec<u64> = (0..total).map(|_| reader.long()).collect();
+    let mut tags = tags.into_iter();
+    let mut one = |&(built, live)| {
+        let slots = tags.by_ref().take(built as usize).map(|tag| reader.record(tag)).collect();
+        Bucket { built, live, slots }
+    };
+    sizes.iter().map(&mut one).collect()
+}
+
+/// Whether fields and trees keep the rules; the sizes are taken to.
+pub fn is_sound(table: &Table) -> bool {
+    let live = table.buckets.iter().flat_map(Bucket::live_items);
+    table.buckets.iter().all(|bucket| bucket_is_sound(table.metric, bucket)) && distinct(live)
+}
+
+fn bucket_is_sound(metric: u32, bucket: &Bucket) -> bool {
+    let fields = |slot: &Slot| check_tag(slot.tag).is_ok() && check_measures(&slot.profile).is_ok();
+    bucket.slots.iter().all(fields)
+        && bucket.marks_pass()
+        && distinct(bucket.slots.iter())
+        && is_layout(metric, &bucket.slots)
+}
+
+fn distinct<'a>(slots: impl Iterator<Item = &'a Slot>) -> bool {
+    let mut tags = HashSet::new();
+    slots.into_iter().all(|slot| tags.insert(slot.tag))
+}

@@ -1,0 +1,102 @@
+//! One tree: its layout, what a build costs, and the searches over its slots.
+
+use crate::item::{Profile, Slot, distance};
+
+/// The slots of the tree of these items, which rank as they stand.
+pub fn layout(metric: u32, items: &[Slot]) -> Vec<Slot> {
+    let mut slots = Vec::with_capacity(items.len());
+    place(metric, items.iter().enumerate().collect(), &mut slots);
+    slots
+}
+
+// The smallest tag, then the left half of the others and the right one, each laid out likewise.
+fn place(metric: u32, ranked: Vec<(usize, &Slot)>, slots: &mut Vec<Slot>) {
+    let Some(&(least, first)) = ranked.iter().min_by_key(|(rank, item)| (item.tag, *rank)) else { return };
+    let away = |item: &Slot| distance(metric, &first.profile, &item.profile);
+    let mut left: Vec<_> = ranked.iter().filter(|(rank, _)| *rank != least).copied().collect();
+    left.sort_by_key(|(rank, item)| (away(item), item.tag, *rank));
+    let right = left.split_off(ranked.len() / 2);
+    slots.push(Slot { threshold: left.last().map_or(0, |(_, item)| away(item)), mark: 0, ..*first });
+    place(metric, left, slots);
+    place(metric, right, slots);
+}
+
+/// c(n), the distances that a build of n items works out.
+pub fn cost(n: usize) -> u32 {
+    if n < 2 { 0 } else { (n - 1) as u32 + cost(n / 2) + cost(n - 1 - n / 2) }
+}
+
+/// Whether the slots, marks aside, are the layout of their own items.
+pub fn is_layout(metric: u32, slots: &[Slot]) -> bool {
+    let unmarked = slots.iter().map(|slot| Slot { mark: 0, ..*slot });
+    unmarked.eq(layout(metric, slots))
+}
+
+/// A distance and a tag: so they stand in order.
+pub type Hit = (u32, u64);
+
+/// What is looked for: how many at most, or how far at most.
+#[derive(Clone, Copy)]
+pub enum Wanted {
+    /// All within the radius.
+    Within(u32),
+    /// The nearest, so many.
+    Nearest(u32),
+}
+
+/// A search on its way through the trees.
+pub struct Search {
+    metric: u32,
+    query: Profile,
+    wanted: Wanted,
+    /// What was found, in order.
+    pub hits: Vec<Hit>,
+    /// How many slots were met.
+    pub count: u32,
+}
+
+impl Search {
+    /// Before its first slot.
+    pub fn new(metric: u32, query: Profile, wanted: Wanted) -> Search {
+        Search { metric, query, wanted, hits: vec![], count: 0 }
+    }
+
+    /// Goes through one tree.
+    pub fn visit(&mut self, slots: &[Slot]) {
+        let Some((first, rest)) = slots.split_first() else { return };
+        let d = distance(self.metric, &first.profile, &self.query);
+        self.count += 1;
+        if first.is_live() {
+            self.take((d, first.tag));
+        }
+        let (left, right) = rest.split_at(slots.len() / 2);
+        let (d, m) = (d as u64, first.threshold as u64);
+        // The half on the query's side goes first. For range the order makes no difference.
+        for is_left in if d <= m { [true, false] } else { [false, true] } {
+            let enters = self.radius().is_none_or(|r| if is_left { d <= m + r } else { d + r >= m });
+            if enters {
+                self.visit(if is_left { left } else { right });
+            }
+        }
+    }
+
+    // How far from the query a half may lie, where there is a bound yet.
+    fn radius(&self) -> Option<u64> {
+        match self.wanted {
+            Wanted::Within(radius) => Some(radius as u64),
+            Wanted::Nearest(k) if self.hits.len() < k as usize => None,
+            Wanted::Nearest(_) => self.hits.last().map(|hit| hit.0 as u64),
+        }
+    }
+
+    fn take(&mut self, hit: Hit) {
+        if matches!(self.wanted, Wanted::Within(radius) if hit.0 > radius) {
+            return;
+        }
+        let at = self.hits.partition_point(|other| *other < hit);
+        self.hits.insert(at, hit);
+        if let Wanted::Nearest(k) = self.wanted {
+            self.hits.truncate(k as usize);
+        }
+    }
+}

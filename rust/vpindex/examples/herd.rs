@@ -1,0 +1,46 @@
+//! Adds a small herd, asks both questions, removes one, and saves and loads an image.
+//!
+//! It writes what `c/herd.c` writes; `c/herd.expected` has it.
+
+use vpindex::{Hits, Metric, Order, Profile, Refusal, Table, Tag};
+
+// national number; weight, hip height, girth and daily gain, in hundredths
+const HERD: [(u64, [i32; 4]); 6] = [
+    (101, [41_250, 12_900, 18_500, 95]),
+    (102, [39_800, 12_700, 18_100, 90]),
+    (103, [55_600, 13_800, 20_700, 120]),
+    (104, [40_900, 12_850, 18_450, 102]),
+    (105, [56_100, 13_750, 20_900, 118]),
+    (106, [28_300, 11_400, 15_600, 88]),
+];
+
+fn main() -> Result<(), Refusal> {
+    let mut table = Table::new(Order::holding(HERD.len())?, Metric::SumOfDifferences);
+    for (national, measures) in HERD {
+        let added = table.add(Tag::new(36, national)?, &Profile::new(measures, [0, 0])?)?;
+        println!("add {national}: bucket {}, {} distances", added.bucket, added.distances);
+    }
+
+    let query = Profile::new([41_000, 12_900, 18_400, 100], [0, 0])?;
+    print("range 500", table.range(&query, 500)?);
+    print("nearest 3", table.nearest(&query, 3)?);
+
+    let sold = Tag::new(36, 104)?;
+    println!("remove {}: {} distances", sold.national(), table.remove(sold)?);
+    if let Err(refusal) = table.remove(sold) {
+        println!("remove {} again: refusal {}", sold.national(), refusal.number());
+    }
+
+    let image = table.image();
+    let mut loaded = Table::load(&image)?;
+    println!("image: {} bytes", image.len());
+    print("nearest 3, loaded", loaded.nearest(&query, 3)?);
+    Ok(())
+}
+
+fn print(question: &str, hits: Hits) {
+    println!("{question}: {} found, {} distances", hits.len(), hits.distances());
+    for hit in hits {
+        println!("  {} {}", hit.tag(), hit.distance());
+    }
+}

@@ -1,0 +1,127 @@
+//! The calls as the archive exports them; `include/vpindex.h` says what each does and what its caller has to see to.
+#![allow(missing_docs)]
+
+pub type Row = [u32; 12];
+pub type Entry = [u64; 2];
+
+#[repr(C)]
+#[derive(Clone, Copy, Debug, Default, PartialEq, Eq)]
+pub struct Profile {
+    pub measures: [i32; 4],
+    pub code: [u64; 2],
+}
+
+#[repr(C)]
+#[derive(Clone, Copy, Debug, PartialEq, Eq)]
+pub struct Added {
+    pub refusal: u32,
+    pub bucket: u32,
+    pub distances: u32,
+}
+
+#[repr(C)]
+#[derive(Clone, Copy, Debug, PartialEq, Eq)]
+pub struct Removed {
+    pub refusal: u32,
+    pub distances: u32,
+}
+
+#[repr(C)]
+#[derive(Clone, Copy, Debug, PartialEq, Eq)]
+pub struct LookedUp {
+    pub refusal: u32,
+    pub bucket: u32,
+    pub profile: Profile,
+}
+
+#[repr(C)]
+#[derive(Clone, Copy, Debug, PartialEq, Eq)]
+pub struct Searched {
+    pub refusal: u32,
+    pub found: u32,
+    pub distances: u32,
+}
+
+#[repr(C)]
+#[derive(Clone, Copy, Debug, PartialEq, Eq)]
+pub struct Written {
+    pub refusal: u32,
+    pub length: u32,
+}
+
+mod raw {
+    use super::*;
+
+    unsafe extern "C" {
+        pub fn vpindex_fresh(table: *mut Row, table_rows: usize, order: u32, metric: u32) -> u32;
+        pub fn vpindex_load(table: *mut Row, table_rows: usize, image: *const u8, image_bytes: usize) -> u32;
+        pub fn vpindex_add(
+            table: *mut Row,
+            table_rows: usize,
+            work: *mut Row,
+            work_rows: usize,
+            tag: u64,
+            profile: Profile,
+        ) -> Added;
+        pub fn vpindex_remove(
+            table: *mut Row,
+            table_rows: usize,
+            work: *mut Row,
+            work_rows: usize,
+            tag: u64,
+        ) -> Removed;
+        pub fn vpindex_look_up(table: *const Row, table_rows: usize, tag: u64) -> LookedUp;
+        pub fn vpindex_range(
+            table: *const Row,
+            table_rows: usize,
+            result: *mut Entry,
+            result_entries: usize,
+            query: Profile,
+            radius: u32,
+        ) -> Searched;
+        pub fn vpindex_nearest(
+            table: *const Row,
+            table_rows: usize,
+            result: *mut Entry,
+            result_entries: usize,
+            query: Profile,
+            k: u32,
+        ) -> Searched;
+        pub fn vpindex_write(table: *const Row, table_rows: usize, image: *mut u8, image_bytes: usize) -> Written;
+    }
+}
+
+// Each call on slices. A slice's pointer is not null, is aligned and valid for its length, and two of them that are lent
+// together do not overlap where one is lent to be written: that is all the calls ask of their caller.
+
+pub fn fresh(table: &mut [Row], order: u32, metric: u32) -> u32 {
+    unsafe { raw::vpindex_fresh(table.as_mut_ptr(), table.len(), order, metric) }
+}
+
+pub fn load(table: &mut [Row], image: &[u8]) -> u32 {
+    unsafe { raw::vpindex_load(table.as_mut_ptr(), table.len(), image.as_ptr(), image.len()) }
+}
+
+pub fn add(table: &mut [Row], work: &mut [Row], tag: u64, profile: Profile) -> Added {
+    unsafe { raw::vpindex_add(table.as_mut_ptr(), table.len(), work.as_mut_ptr(), work.len(), tag, profile) }
+}
+
+pub fn remove(table: &mut [Row], work: &mut [Row], tag: u64) -> Removed {
+    unsafe { raw::vpindex_remove(table.as_mut_ptr(), table.len(), work.as_mut_ptr(), work.len(), tag) }
+}
+
+pub fn look_up(table: &[Row], tag: u64) -> LookedUp {
+    unsafe { raw::vpindex_look_up(table.as_ptr(), table.len(), tag) }
+}
+
+pub fn range(table: &[Row], result: &mut [Entry], query: Profile, radius: u32) -> Searched {
+    unsafe { raw::vpindex_range(table.as_ptr(), table.len(), result.as_mut_ptr(), result.len(), query, radius) }
+}
+
+pub fn nearest(table: &[Row], result: &mut [Entry], query: Profile, k: u32) -> Searched {
+    unsafe { raw::vpindex_nearest(table.as_ptr(), table.len(), result.as_mut_ptr(), result.len(), query, k) }
+}
+
+pub fn write(table: &[Row], image: &mut [u8]) -> Written {
+    unsafe { raw::vpindex_write(table.as_ptr(), table.len(), image.as_mut_ptr(), image.len()) }
+}

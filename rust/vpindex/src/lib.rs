@@ -1,0 +1,32 @@
+//! An index of up to 4,096 items by likeness. An item is a [`Tag`] with a [`Profile`]: four measures and a code of 128 bits.
+//! A [`Table`] gives all items within a distance of a query, and the nearest ones, while items are added and removed. It
+//! keeps vantage-point trees in buckets whose sizes are powers of two.
+//!
+//! The calls below are thin over `libvpindex.a`, whose code is proved: each call ends, its reply is the one that the rules
+//! give for every input, a search finds what a scan of all items would, and all rebuilds of a list of calls together keep
+//! within a bound.
+//!
+//! ```
+//! use vpindex::{Metric, Order, Profile, Table, Tag};
+//!
+//! let mut table = Table::new(Order::new(4)?, Metric::SumOfDifferences);
+//! table.add(Tag::new(36, 1)?, &Profile::new([41_250, 12_900, 18_500, 95], [0, 0])?)?;
+//! table.add(Tag::new(36, 2)?, &Profile::new([39_800, 12_700, 18_100, 90], [0, 0])?)?;
+//!
+//! let query = Profile::new([41_000, 12_900, 18_400, 95], [0, 0])?;
+//! let hits = table.nearest(&query, 1)?;
+//! assert_eq!((hits[0].tag(), hits[0].distance()), (Tag::new(36, 1)?, 350));
+//! # Ok::<(), vpindex::Refusal>(())
+//! ```
+
+#[doc(hidden)]
+pub mod ffi;
+mod hits;
+mod refusal;
+mod table;
+mod values;
+
+pub use hits::{Hit, Hits};
+pub use refusal::Refusal;
+pub use table::{Added, LookedUp, Table};
+pub use values::{Metric, Order, Profile, Tag};

@@ -1,0 +1,140 @@
+//! The table, with the areas that its calls are lent.
+
+use crate::{Hits, Metric, Order, Profile, Refusal, Tag, ffi};
+
+/// What an add did.
+#[derive(Clone, Copy, Debug, PartialEq, Eq)]
+pub struct Added {
+    /// The bucket that was built, with the new item in it.
+    pub bucket: u32,
+    /// Distances worked out by the build.
+    pub distances: u32,
+}
+
+/// Where an item is, and what was handed over with it.
+#[derive(Clone, Copy, Debug, PartialEq, Eq)]
+pub struct LookedUp {
+    /// The bucket that it is in.
+    pub bucket: u32,
+    /// Its profile.
+    pub profile: Profile,
+}
+
+/// Items that can be asked for by likeness.
+///
+/// The table allocates when it is made and never again: a table of order T takes 48·(3·2^T + T + 1) + 16·2^T bytes, some
+/// 641 KiB at order 12.
+#[derive(Clone, Debug)]
+pub struct Table {
+    rows: Vec<ffi::Row>,
+    work: Vec<ffi::Row>,
+    result: Vec<ffi::Entry>,
+}
+
+impl Table {
+    /// An empty table.
+    pub fn new(order: Order, metric: Metric) -> Table {
+        let mut table = Table::blank(order);
+        let refusal = ffi::fresh(&mut table.rows, order.get(), metric.get());
+        assert_eq!(refusal, 0, "order and metric are valid, and the area is as long as the order needs");
+        table
+    }
+
+    /// The table that the image was written from, with [`Table::image`] or with the C call.
+    ///
+    /// The image is checked whole. [`Refusal::BadLength`], [`Refusal::BadOrder`], [`Refusal::BadMetric`],
+    /// [`Refusal::BadTable`] and [`Refusal::BadImage`] say what is wrong with it.
+    pub fn load(image: &[u8]) -> Result<Table, Refusal> {
+        // an order that is not valid is refused before the area's length is looked at
+        let order = image.first().and_then(|&byte| Order::new(byte as u32).ok()).unwrap_or(Order::MIN);
+        let mut table = Table::blank(order);
+        Refusal::check(ffi::load(&mut table.rows, image))?;
+        Ok(table)
+    }
+
+    // Areas of the lengths that the order needs, not a table yet.
+    fn blank(order: Order) -> Table {
+        Table {
+            rows: vec![[0; 12]; order.table_rows()],
+            work: vec![[0; 12]; order.capacity()],
+            result: vec![[0; 2]; order.capacity()],
+        }
+    }
+
+    /// Adds an item. [`Refusal::AlreadyLive`] if its tag is in the table, [`Refusal::Full`] if there is no room.
+    pub fn add(&mut self, tag: Tag, profile: &Profile) -> Result<Added, Refusal> {
+        let reply = ffi::add(&mut self.rows, &mut self.work, tag.into(), profile.raw());
+        Refusal::check(reply.refusal)?;
+        Ok(Added { bucket: reply.bucket, distances: reply.distances })
+    }
+
+    /// Removes an item, and gives the number of distances that were worked out. [`Refusal::NotLive`] if it is not there.
+    pub fn remove(&mut self, tag: Tag) -> Result<u32, Refusal> {
+        let reply = ffi::remove(&mut self.rows, &mut self.work, tag.into());
+        Refusal::check(reply.refusal)?;
+        Ok(reply.distances)
+    }
+
+    /// Gives an item's profile. [`Refusal::NotLive`] if it is not there.
+    pub fn look_up(&self, tag: Tag) -> Result<LookedUp, Refusal> {
+        let reply = ffi::look_up(&self.rows, tag.into());
+        Refusal::check(reply.refusal)?;
+        Ok(LookedUp { bucket: reply.bucket, profile: Profile::as_stored(reply.profile) })
+    }
+
+    /// All items whose distance from the query is at most the radius. It is not refused.
+    pub fn range(&mut self, query: &Profile, radius: u32) -> Result<Hits<'_>, Refusal> {
+        let reply = ffi::range(&self.rows, &mut self.result, query.raw(), radius);
+        self.hits(reply)
+    }
+
+    /// The `count` items nearest to the query, or all where there are fewer; of items at the same distance the lower tag
+    /// goes first. [`Refusal::NoCount`] where `count` is 0.
+    pub fn nearest(&mut self, query: &Profile, count: u32) -> Result<Hits<'_>, Refusal> {
+        let reply = ffi::nearest(&self.rows, &mut self.result, query.raw(), count);
+        self.hits(reply)
+    }
+
+    fn hits(&self, reply: ffi::Searched) -> Result<Hits<'_>, Refusal> {
+        Refusal::check(reply.refusal)?;
+        Ok(Hits::new(&self.result[..reply.found as usize], reply.distances))
+    }
+
+    /// The table as bytes, which [`Table::load`] reads.
+    pub fn image(&self) -> Vec<u8> {
+        let mut image = vec![0; self.image_bytes()];
+        let reply = ffi::write(&self.rows, &mut image);
+        assert_eq!(reply.refusal, 0, "the area is as long as the image");
+        image
+    }
+
+    fn image_bytes(&self) -> usize {
+        let built: usize = self.sizes().map(|size| size[0] as usize).sum();
+        4 + 4 * self.sizes().len() + 48 * built
+    }
+
+    // the size rows of the buckets: built, live
+    fn sizes(&self) -> std::slice::Iter<'_, ffi::Row> {
+        self.rows[1..=self.order().get() as usize + 1].iter()
+    }
+
+    /// The order that it was made with.
+    pub fn order(&self) -> Order {
+        Order::new(self.rows[0][0]).expect("a table's order is valid")
+    }
+
+    /// The metric that it was made with.
+    pub fn metric(&self) -> Metric {
+        Metric::try_from(self.rows[0][1]).expect("a table's metric is valid")
+    }
+
+    /// How many items there are.
+    pub fn len(&self) -> usize {
+        self.sizes().map(|size| size[1] as usize).sum()
+    }
+
+    /// Whether there are none.
+    pub fn is_empty(&self) -> bool {
+        self.len() == 0
+    }
+}

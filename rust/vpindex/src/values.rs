@@ -1,0 +1,157 @@
+//! Arguments that are checked once, when they are made.
+
+use std::fmt;
+
+use crate::{Refusal, ffi};
+
+const COUNTRY: u64 = 1_000_000_000_000;
+
+/// What an item is known by: a country, 1 to 999, and a national number of at most 12 digits.
+#[derive(Clone, Copy, Debug, PartialEq, Eq, PartialOrd, Ord, Hash)]
+#[repr(transparent)]
+pub struct Tag(u64);
+
+impl Tag {
+    /// From its two parts; else [`Refusal::BadTag`].
+    pub fn new(country: u32, national: u64) -> Result<Tag, Refusal> {
+        if national >= COUNTRY {
+            return Err(Refusal::BadTag);
+        }
+        Tag::try_from(country as u64 * COUNTRY + national)
+    }
+
+    /// 1 to 999.
+    pub fn country(self) -> u32 {
+        (self.0 / COUNTRY) as u32
+    }
+
+    /// At most 999,999,999,999.
+    pub fn national(self) -> u64 {
+        self.0 % COUNTRY
+    }
+
+    pub(crate) fn as_stored(tag: u64) -> Tag {
+        Tag(tag)
+    }
+}
+
+/// From country × 10^12 + national; else [`Refusal::BadTag`].
+impl TryFrom<u64> for Tag {
+    type Error = Refusal;
+
+    fn try_from(tag: u64) -> Result<Tag, Refusal> {
+        if (COUNTRY..1000 * COUNTRY).contains(&tag) { Ok(Tag(tag)) } else { Err(Refusal::BadTag) }
+    }
+}
+
+impl From<Tag> for u64 {
+    fn from(tag: Tag) -> u64 {
+        tag.0
+    }
+}
+
+/// All 15 digits.
+impl fmt::Display for Tag {
+    fn fmt(&self, f: &mut fmt::Formatter<'_>) -> fmt::Result {
+        write!(f, "{:015}", self.0)
+    }
+}
+
+/// What distances are worked out from: four measures in hundredths, and a code of two words.
+#[derive(Clone, Copy, Debug, Default, PartialEq, Eq)]
+pub struct Profile(ffi::Profile);
+
+impl Profile {
+    /// The largest measure; the least is its negative.
+    pub const MAX_MEASURE: i32 = 1_000_000;
+
+    /// With any code, and measures in their range; else [`Refusal::BadMeasure`].
+    pub fn new(measures: [i32; 4], code: [u64; 2]) -> Result<Profile, Refusal> {
+        let fits = |m: &i32| (-Profile::MAX_MEASURE..=Profile::MAX_MEASURE).contains(m);
+        if measures.iter().all(fits) { Ok(Profile(ffi::Profile { measures, code })) } else { Err(Refusal::BadMeasure) }
+    }
+
+    /// The measures.
+    pub fn measures(&self) -> [i32; 4] {
+        self.0.measures
+    }
+
+    /// The code.
+    pub fn code(&self) -> [u64; 2] {
+        self.0.code
+    }
+
+    pub(crate) fn raw(&self) -> ffi::Profile {
+        self.0
+    }
+
+    pub(crate) fn as_stored(profile: ffi::Profile) -> Profile {
+        Profile(profile)
+    }
+}
+
+/// How large a table is: one of order T has buckets 0 to T and holds at most 2^T items.
+#[derive(Clone, Copy, Debug, PartialEq, Eq, PartialOrd, Ord, Hash)]
+pub struct Order(u32);
+
+impl Order {
+    /// One item.
+    pub const MIN: Order = Order(0);
+    /// 4,096 items.
+    pub const MAX: Order = Order(12);
+
+    /// 0 to 12; else [`Refusal::BadOrder`].
+    pub fn new(order: u32) -> Result<Order, Refusal> {
+        if order <= Order::MAX.0 { Ok(Order(order)) } else { Err(Refusal::BadOrder) }
+    }
+
+    /// The least order whose tables hold so many items; [`Refusal::BadOrder`] where none does.
+    pub fn holding(items: usize) -> Result<Order, Refusal> {
+        (0..=Order::MAX.0).map(Order).find(|order| order.capacity() >= items).ok_or(Refusal::BadOrder)
+    }
+
+    /// Its number.
+    pub fn get(self) -> u32 {
+        self.0
+    }
+
+    /// How many items a table of this order holds.
+    pub fn capacity(self) -> usize {
+        1 << self.0
+    }
+
+    pub(crate) fn table_rows(self) -> usize {
+        self.0 as usize + 1 + (2 << self.0)
+    }
+}
+
+/// By which rule two profiles have a distance.
+#[derive(Clone, Copy, Debug, PartialEq, Eq, Hash)]
+#[non_exhaustive]
+#[repr(u32)]
+pub enum Metric {
+    /// The sum of the absolute differences of the four measures.
+    SumOfDifferences = 0,
+    /// The number of bits in which the codes differ.
+    DifferingBits = 1,
+}
+
+impl Metric {
+    /// Its number.
+    pub fn get(self) -> u32 {
+        self as u32
+    }
+}
+
+/// By its number; else [`Refusal::BadMetric`].
+impl TryFrom<u32> for Metric {
+    type Error = Refusal;
+
+    fn try_from(number: u32) -> Result<Metric, Refusal> {
+        match number {
+            0 => Ok(Metric::SumOfDifferences),
+            1 => Ok(Metric::DifferingBits),
+            _ => Err(Refusal::BadMetric),
+        }
+    }
+}

@@ -1,0 +1,171 @@
+#!/usr/bin/env python3
+"""What load replies to a damaged image, worked out apart from the code by document 01's rules.
+
+Writes crates/image_runs/src/bytes.rt (a sound image, with one byte behind it) and crates/image_runs/stdout (what the program must print).
+With --check it writes nothing and fails where a file differs from what it would write.
+
+Every bucket of the image is in use, two of them with dead slots. Nationals, measures and codes are such that one bit makes tags alike within a bucket
+and across buckets, that items lie equally far from the first of bucket 2, that measures stand at both limits, and that the trees are the same by
+either metric: the bits are flipped in the image of each.
+"""
+import struct
+import sys
+from pathlib import Path
+
+CRATE = Path(__file__).resolve().parent.parent / "crates" / "image_runs"
+COUNTRY = 36 * 10**12
+ORDER, ROWS = 2, 11
+LIVE, DEAD = 0, 1
+
+# Of each bucket its slots: national, measures, code, threshold, mark.
+BUCKETS = [
+    [(8, (10**6, -(10**6), 0, 0), (0, 0), 0, LIVE)],
+    [(9, (-5, 0, 0, 7), (0, 0), 2, LIVE), (26, (-4, 1, 0, 7), (1, 1 << 63), 0, DEAD)],
+    [
+        (10, (10, 0, -9, 0), (0, 0), 3, DEAD),
+        (11, (13, 0, -9, 0), (7, 0), 6, LIVE),
+        (24, (7, 0, -9, 0), (1 << 63, 3), 0, LIVE),
+        (40, (10, 0, -9, -3), (0, 28), 0, DEAD),
+    ],
+]
+
+
+def image_of(order, metric, buckets):
+    """The bytes as the writer gives them: head, sizes, tags, records."""
+    slots = [s for b in buckets for s in b]
+    sizes = [struct.pack("<HH", len(b), sum(s[4] == LIVE for s in b)) for b in buckets]
+    tags = [struct.pack("<Q", COUNTRY + s[0]) for s in slots]
+    records = [struct.pack("<4i2Q2I", *s[1], *s[2], s[3], s[4]) for s in slots]
+    return b"".join([bytes([order, metric, 0, 0]), *sizes, *tags, *records])
+
+
+class Slot:
+    def __init__(self, place, tag, record):
+        *self.measures, word, other, self.threshold, self.mark = struct.unpack("<4i2Q2I", record)
+        self.place, self.tag, self.code = place, tag, (word, other)
+
+    def is_valid(self):
+        return 1 <= self.tag // 10**12 <= 999 and all(abs(m) <= 10**6 for m in self.measures) and self.mark in (LIVE, DEAD)
+
+
+def distance(metric, a, b):
+    if metric == 0:
+        return min(sum(abs(x - y) for x, y in zip(a.measures, b.measures)), 2**32 - 1)
+    return sum(bin(x ^ y).count("1") for x, y in zip(a.code, b.code))
+
+
+def layout(metric, slots):
+    """The slots in the tree's order, each with its threshold."""
+    if not slots:
+        return []
+    first = min(slots, key=lambda s: (s.tag, s.place))
+    rest = sorted((s for s in slots if s is not first), key=lambda s: (distance(metric, first, s), s.tag, s.place))
+    left, right = rest[: len(slots) // 2], rest[len(slots) // 2 :]
+    threshold = distance(metric, first, left[-1]) if left else 0
+    return [(first, threshold)] + layout(metric, left) + layout(metric, right)
+
+
+def distinct(tags):
+    return len(set(tags)) == len(tags)
+
+
+def bucket_stands(metric, live, slots):
+    return (
+        all(s.is_valid() for s in slots)
+        and sum(s.mark == LIVE for s in slots) == live
+        and distinct([s.tag for s in slots])
+        and layout(metric, slots) == [(s, s.threshold) for s in slots]
+    )
+
+
+def size_stands(k, built, live):
+    return built == live == 0 or (live <= built <= 2**k and 2 * built > 2**k and 4 * live > 2**k)
+
+
+def sizes_stand(order, sizes):
+    return all(size_stands(k, *pair) for k, pair in enumerate(sizes)) and sum(live for _, live in sizes) <= 2**order
+
+
+def buckets_of(sizes, body):
+    """Tags first, then records; slots by bucket from 0 up."""
+    count = sum(built for built, _ in sizes)
+    tags, records, at = body[: 8 * count], body[8 * count :], 0
+    for built, _ in sizes:
+        yield [
+            Slot(i, int.from_bytes(tags[8 * i : 8 * i + 8], "little"), records[40 * i : 40 * i + 40]) for i in range(at, at + built)
+        ]
+        at += built
+
+
+def load(rows, image):
+    """The refusal of an image that is loaded into a table of so many rows, 0 where it is accepted."""
+    if len(image) < 4:
+        return 7
+    order, metric = image[0], image[1]
+    if order > 12:
+        return 3
+    if metric > 1:
+        return 4
+    if image[2] or image[3]:
+        return 8
+    end = 4 + 4 * (order + 1)
+    if len(image) < end:
+        return 7
+    sizes = [struct.unpack("<HH", image[4 + 4 * k : 8 + 4 * k]) for k in range(order + 1)]
+    if not sizes_stand(order, sizes):
+        return 24
+    if len(image) != end + 48 * sum(built for built, _ in sizes):
+        return 7
+    if rows < order + 1 + 2 ** (order + 1):
+        return 23
+    buckets = list(buckets_of(sizes, image[end:]))
+    stand = all(bucket_stands(metric, live, slots) for (_, live), slots in zip(sizes, buckets))
+    return 0 if stand and distinct([s.tag for b in buckets for s in b if s.mark == LIVE]) else 8
+
+
+def reply(rows, image):
+    """The refusal; and of an accepted image that its bytes come back, since a table has one image only."""
+    refusal = load(rows, image)
+    return f" {refusal}" if refusal else " 0="
+
+
+def flipped(image, at, bit):
+    return image[:at] + bytes([image[at] ^ 1 << bit]) + image[at + 1 :]
+
+
+def output(image):
+    longer = image + bytes(1)
+    lines = [f"{n}" + reply(ROWS - 1, longer[:n]) + reply(ROWS, longer[:n]) for n in range(len(longer) + 1)]
+    for metric in (0, 1):
+        whole = image_of(ORDER, metric, BUCKETS)
+        lines += [f"{at}" + "".join(reply(ROWS, flipped(whole, at, bit)) for bit in range(8)) for at in range(len(whole))]
+    return "\n".join(lines) + "\n"
+
+
+def source(image):
+    lines = [
+        "// A sound image, and behind it one byte that is no part of it, as tools/image_runs.py writes them.",
+        f"pub const LENGTH: usize = {len(image)};",
+        "",
+        "// The lengths from 0 to one more than the image's.",
+        f"pub const CUTS: usize = {len(image) + 2};",
+        "",
+        f"pub const IMAGE: [u8; {len(image) + 1}] = [",
+        *(f"    {b}," for b in image + bytes(1)),
+        "];",
+    ]
+    return "\n".join(lines) + "\n"
+
+
+def main():
+    image = image_of(ORDER, 0, BUCKETS)
+    files = {CRATE / "src" / "bytes.rt": source(image), CRATE / "stdout": output(image)}
+    for path, text in files.items():
+        if "--check" not in sys.argv[1:]:
+            path.parent.mkdir(parents=True, exist_ok=True)
+            path.write_text(text)
+        elif path.read_text() != text:
+            sys.exit(f"{path.name} is not what the script writes")
+
+
+main()

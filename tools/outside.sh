@@ -1,0 +1,39 @@
+#!/bin/sh
+# The calls as they ship, from outside: the archive, the Rust crate with its tests and its example, the C example.
+# VPINDEX_LIB_DIR, a full path, names the folder of another libvpindex.a, which is then not written.
+set -eu
+cd "$(dirname "$0")/.."
+out=target/outside
+mkdir -p "$out"
+
+# Runs a step with its output in a file, shown where it fails.
+step() {
+    name=$1
+    shift
+    if "$@" > "$out/$name.log" 2>&1; then
+        echo "outside: $name passed"
+    else
+        cat "$out/$name.log"
+        echo "outside: $name failed"
+        exit 1
+    fi
+}
+
+# Runs a program and holds what it writes to the expected text. (A step's function goes on after a failure: hence the &&.)
+example() {
+    "$@" > "$out/written" && diff c/herd.expected "$out/written"
+}
+
+tests() { (cd rust && cargo test --offline); }
+rust_herd() { (cd rust && cargo run --offline --quiet --example herd); }
+c_herd() {
+    cc -std=c11 -O2 -pedantic -Wall -Wextra -Werror -Iinclude -o "$out/herd" c/herd.c "$folder/libvpindex.a" && "$out/herd"
+}
+
+if [ -z "${VPINDEX_LIB_DIR:-}" ]; then
+    step archive rt staticlib vpindex
+fi
+folder=${VPINDEX_LIB_DIR:-target/staticlib}
+step tests tests
+step rust-example example rust_herd
+step c-example example c_herd
