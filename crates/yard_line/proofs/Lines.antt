@@ -1,0 +1,105 @@
+-- A line's definitions by the outcomes of their tests, in the order of the code: a test that was not made may have any outcome.
+use Prim.Native.Nat.{ℕ, _≤_}
+use mathlib.Core.Path.{_≡_, refl, ap, sym, _∙_}
+use mathlib.Core.Bool.{Bool, true, false, _&&_}
+use mathlib.Core.List.{List}
+use lib.Dec.{eqb}
+use lib.ListN.{length}
+use borrow.Author.Tests.{eq-eqb, ne-eqb, eqb-true}
+use Rattle.tree_rules.proofs.Tests.{and-first, and-second}
+use Rattle.yard_rules.specs.declared.Header.{Header}
+use Rattle.yard_rules.specs.declared.Header.the-variants as header
+use Rattle.yard_rules.specs.declared.Command.{Command}
+use Rattle.yard_rules.specs.declared.Command.the-variants as command
+use Rattle.yard_rules.specs.Text.{space, point, partAt, partsIn, numeral}
+use Rattle.yard_rules.specs.Line.{field, onlyByte, isTag, isNumber, isMeasure, isCode, hasProfile, headerIn, opens, commandIn, letterA, letterN, letterR, letterW}
+use Rattle.yard_rules.proofs.Parts.{part-shorter}
+
+pub field-shorter : (line : List ℕ) (n : ℕ) → length (field line n) ≤ length line
+unfolding partAt
+field-shorter line n = part-shorter space line n
+
+module _ (line : List ℕ) where
+  -- a letter and a field of a form
+  module _ (letter : ℕ) (form : List ℕ → Bool) where
+    pub opens-not : (onlyByte (field line 0) ≡ letter → ⊥) → false ≡ opens letter form line
+    unfolding opens
+    opens-not h = ap (λ t. t && form (field line 1)) (sym (ne-eqb (onlyByte (field line 0)) letter h))
+
+    pub opens-is : onlyByte (field line 0) ≡ letter → form (field line 1) ≡ opens letter form line
+    unfolding opens
+    opens-is h = ap (λ t. t && form (field line 1)) (sym (eq-eqb (onlyByte (field line 0)) letter h))
+
+    pub opens-form : opens letter form line ≡ true → form (field line 1) ≡ true
+    unfolding opens
+    opens-form e = and-second (eqb (onlyByte (field line 0)) letter) (form (field line 1)) e
+
+  pub header-by : {s t u : Bool} → eqb (partsIn space line) 2 ≡ s → isNumber (field line 0) ≡ t → isNumber (field line 1) ≡ u
+      → elim ((s && t) && u) [ true ↦ header.Of (numeral 10 (field line 0)) (numeral 10 (field line 1)) | false ↦ header.Other ] ≡ headerIn line
+  unfolding headerIn
+  header-by e f g = λ i. elim ((sym e i && sym f i) && sym g i) [
+    | true ↦ header.Of (numeral 10 (field line 0)) (numeral 10 (field line 1))
+    | false ↦ header.Other
+  ]
+
+  pub profile-by : {s a b c d : Bool} → eqb (partsIn space line) 7 ≡ s → isMeasure point (field line 2) ≡ a → isMeasure point (field line 3) ≡ b
+      → isMeasure point (field line 4) ≡ c → isMeasure point (field line 5) ≡ d → (((((s && a) && b) && c) && d) && isCode (field line 6)) ≡ hasProfile line
+  unfolding hasProfile
+  profile-by e f g h k = λ i. ((((sym e i && sym f i) && sym g i) && sym h i) && sym k i) && isCode (field line 6)
+
+  -- what a profile's form says of each field
+  module _ (e : hasProfile line ≡ true) where
+    abbrev sevens : Bool
+    sevens = eqb (partsIn space line) 7
+
+    abbrev m : ℕ → Bool
+    m n = isMeasure point (field line n)
+
+    to5 : ((((sevens && m 2) && m 3) && m 4) && m 5) ≡ true
+    unfolding hasProfile
+    to5 = and-first ((((sevens && m 2) && m 3) && m 4) && m 5) (isCode (field line 6)) e
+
+    to4 : (((sevens && m 2) && m 3) && m 4) ≡ true
+    to4 = and-first (((sevens && m 2) && m 3) && m 4) (m 5) to5
+
+    to3 : ((sevens && m 2) && m 3) ≡ true
+    to3 = and-first ((sevens && m 2) && m 3) (m 4) to4
+
+    pub profile-seven : partsIn space line ≡ 7
+    profile-seven = eqb-true (partsIn space line) 7 (and-first sevens (m 2) (and-first (sevens && m 2) (m 3) to3))
+
+    pub measure-2 : isMeasure point (field line 2) ≡ true
+    measure-2 = and-second sevens (m 2) (and-first (sevens && m 2) (m 3) to3)
+
+    pub measure-3 : isMeasure point (field line 3) ≡ true
+    measure-3 = and-second (sevens && m 2) (m 3) to3
+
+    pub measure-4 : isMeasure point (field line 4) ≡ true
+    measure-4 = and-second ((sevens && m 2) && m 3) (m 4) to4
+
+    pub measure-5 : isMeasure point (field line 5) ≡ true
+    measure-5 = and-second (((sevens && m 2) && m 3) && m 4) (m 5) to5
+
+    pub code-6 : isCode (field line 6) ≡ true
+    unfolding hasProfile
+    code-6 = and-second ((((sevens && m 2) && m 3) && m 4) && m 5) (isCode (field line 6)) e
+
+  abbrev pub chosen : Bool → Bool → Bool → Bool → Bool → Bool → Command
+  chosen p a w n two r =
+      elim p [
+        | true ↦
+            elim a [
+              | true ↦ command.Add (numeral 10 (field line 1))
+              | false ↦
+                  elim w [
+                    | true ↦ command.Within (numeral 10 (field line 1))
+                    | false ↦ elim n [ true ↦ command.Nearest (numeral 10 (field line 1)) | false ↦ command.Other ]
+                  ]
+            ]
+        | false ↦ elim (two && r) [ true ↦ command.Remove (numeral 10 (field line 1)) | false ↦ command.Other ]
+      ]
+
+  pub command-by : {p a w n two r : Bool} → hasProfile line ≡ p → opens letterA isTag line ≡ a → opens letterW isNumber line ≡ w
+      → opens letterN isNumber line ≡ n → eqb (partsIn space line) 2 ≡ two → opens letterR isTag line ≡ r → chosen p a w n two r ≡ commandIn line
+  unfolding commandIn
+  command-by e f g h k l = λ i. chosen (sym e i) (sym f i) (sym g i) (sym h i) (sym k i) (sym l i)

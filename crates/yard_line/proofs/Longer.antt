@@ -1,0 +1,208 @@
+-- A line of more than 90 bytes is neither a header nor a command: its fields' forms bound their lengths, and the fields with the spaces between
+-- them are the line.
+use Prim.Native.Nat.{ℕ, zero, suc, _+_, _^_, _≤_, _<_}
+use mathlib.Core.Path.{_≡_, refl, ap, sym, _∙_}
+use mathlib.Core.Bool.{Bool, true, false, _&&_, false≢true}
+use mathlib.Core.List.{List, [], _∷_, map}
+use native.Mathlib.Omega.{arith}
+use lib.Dec.{ltb, eqb}
+use lib.ListN.{length, getD, length-drop}
+use borrow.Author.Tests.{eqb-true, eqb-false, eq-eqb, ne-eqb}
+use Rattle.metric_rules.specs.Lists.{total}
+use Rattle.tree_rules.proofs.Tests.{and-first, and-second}
+use Rattle.yard_rules.specs.declared.Header.the-variants as header
+use Rattle.yard_rules.specs.declared.Command.the-variants as command
+use Rattle.yard_rules.specs.Text.{space, point, minus, onto, parted, partAt, partsIn, isNumeral, numeral}
+use Rattle.yard_rules.specs.Line.{field, onlyByte, isTag, isNumber, isMeasure, isCode, unsigned, isNegative, hasProfile, headerIn, opens, commandIn, letterA, letterN, letterR, letterW}
+use Rattle.yard_rules.proofs.Parts.{parted-separator, parted-byte}
+use Rattle.yard_numerals.proofs.Digits.{numeral-longest}
+use Rattle.yard_parse.proofs.Forms.{only-other, digits-code, measure-whole, measure-rest, unsigned-minus, unsigned-plain}
+use Rattle.yard_line.proofs.Lines.{opens-form, header-by, profile-seven, measure-2, measure-3, measure-4, measure-5, code-6, command-by}
+
+-- the bytes of some parts, each with a separator
+spread : List (List ℕ) → ℕ
+spread ps = total (map (λ p. suc (length p)) ps)
+
+more-parts : (p : List ℕ) (ps : List (List ℕ)) → spread (p ∷ ps) ≡ suc (length p) + spread ps
+unfolding spread total
+more-parts p ps = refl
+
+no-parts : spread [] ≡ 0
+unfolding spread total
+no-parts = refl
+
+-- there is a first part
+record Parted (separator : ℕ) (text : List ℕ) : Type 0 where
+  first : List ℕ
+  others : List (List ℕ)
+  are : parted separator text ≡ first ∷ others
+
+parted-some : (separator : ℕ) (text : List ℕ) → Parted separator text
+unfolding parted onto
+parted-some separator [] = record { first = []; others = []; are = refl }
+parted-some separator (b ∷ bs) = by (eqb b separator) refl (parted-some separator bs)
+  where
+    by : (t : Bool) → eqb b separator ≡ t → Parted separator bs → Parted separator (b ∷ bs)
+    by true e p = record { first = []; others = parted separator bs; are = parted-separator separator b bs e }
+    by false e p = record { first = b ∷ p .first; others = p .others; are = parted-byte separator b bs e ∙ ap (onto b) (p .are) }
+
+spread-parted : (separator : ℕ) (text : List ℕ) → spread (parted separator text) ≡ suc (length text)
+unfolding parted onto spread total
+spread-parted separator [] = refl
+spread-parted separator (b ∷ bs) = by (eqb b separator) refl (spread-parted separator bs) (parted-some separator bs)
+  where
+    by : (t : Bool) → eqb b separator ≡ t → spread (parted separator bs) ≡ suc (length bs) → Parted separator bs → spread (parted separator (b ∷ bs)) ≡ suc (suc (length bs))
+    by true e h p = ap spread (parted-separator separator b bs e) ∙ more-parts [] (parted separator bs) ∙ omega (arith, h)
+    by false e h p =
+        ap spread (parted-byte separator b bs e ∙ ap (onto b) (p .are))
+        ∙ more-parts (b ∷ p .first) (p .others)
+        ∙ omega (arith, sym (ap spread (p .are)) ∙ h, more-parts (p .first) (p .others))
+
+two-parts : (ps : List (List ℕ)) → length ps ≡ 2 → spread ps ≡ 2 + length (getD ps 0 []) + length (getD ps 1 [])
+two-parts [] h = absurd (omega arith)
+two-parts (a ∷ []) h = absurd (omega arith)
+two-parts (a ∷ b ∷ []) h = omega (arith, more-parts a (b ∷ []), more-parts b [], no-parts)
+two-parts (a ∷ b ∷ c ∷ ps) h = absurd (omega arith)
+
+seven-parts : (ps : List (List ℕ)) → length ps ≡ 7
+    → spread ps
+    ≡ 4 + length (getD ps 0 []) + length (getD ps 1 []) + length (getD ps 2 []) + length (getD ps 3 []) + length (getD ps 4 []) + (3 + length (getD ps 5 []) + length (getD ps 6 []))
+seven-parts [] h = absurd (omega arith)
+seven-parts (a ∷ []) h = absurd (omega arith)
+seven-parts (a ∷ b ∷ []) h = absurd (omega arith)
+seven-parts (a ∷ b ∷ c ∷ []) h = absurd (omega arith)
+seven-parts (a ∷ b ∷ c ∷ d ∷ []) h = absurd (omega arith)
+seven-parts (a ∷ b ∷ c ∷ d ∷ e ∷ ps) h =
+    omega
+    (arith, more-parts a (b ∷ c ∷ d ∷ e ∷ ps), more-parts b (c ∷ d ∷ e ∷ ps), more-parts c (d ∷ e ∷ ps), more-parts d (e ∷ ps), more-parts e ps, two-parts ps (omega arith))
+
+module _ (line : List ℕ) where
+  line-of-two : partsIn space line ≡ 2 → suc (length line) ≡ 2 + length (field line 0) + length (field line 1)
+  unfolding partsIn partAt
+  line-of-two h = sym (spread-parted space line) ∙ two-parts (parted space line) h
+
+  line-of-seven : partsIn space line ≡ 7
+      → suc (length line)
+      ≡ 4 + length (field line 0) + length (field line 1) + length (field line 2) + length (field line 3) + length (field line 4) + (3 + length (field line 5) + length (field line 6))
+  unfolding partsIn partAt
+  line-of-seven h = sym (spread-parted space line) ∙ seven-parts (parted space line) h
+
+-- the longest of each field
+only-short : (text : List ℕ) (b : ℕ) → 0 < b → onlyByte text ≡ b → length text ≤ 1
+only-short text b h e = by (eqb (length text) 1) refl
+  where
+    by : (t : Bool) → eqb (length text) 1 ≡ t → length text ≤ 1
+    by true f = omega (arith, eqb-true (length text) 1 f)
+    by false f = omega (arith, only-other text (eqb-false (length text) 1 f))
+
+code-short : (text : List ℕ) → isCode text ≡ true → length text ≤ 32
+code-short text e = by (eqb (onlyByte text) minus) refl
+  where
+    by : (t : Bool) → eqb (onlyByte text) minus ≡ t → length text ≤ 32
+    by true f = omega (arith, only-short text minus (omega arith) (eqb-true (onlyByte text) minus f))
+    by false f = numeral-longest 16 32 32 text (digits-code text (eqb-false (onlyByte text) minus f) ∙ e)
+
+sign-short : (text : List ℕ) → length text ≤ suc (length (unsigned text))
+sign-short text = by (isNegative text) refl
+  where
+    by : (t : Bool) → isNegative text ≡ t → length text ≤ suc (length (unsigned text))
+    by true e = omega (arith, ap length (unsigned-minus text e), length-drop 1 text)
+    by false e = omega (arith, ap length (unsigned-plain text e))
+
+measure-short : (text : List ℕ) → isMeasure point text ≡ true → length text ≤ 9
+unfolding isMeasure partsIn partAt
+measure-short text e =
+    let size = unsigned text in
+    let parts = eqb-true (partsIn point size) 2 (and-first (eqb (partsIn point size) 2) (isNumeral 10 1 5 (partAt point size 0)) (and-first (eqb (partsIn point size) 2 && isNumeral 10 1 5 (partAt point size 0)) (isNumeral 10 2 2 (partAt point size 1)) e)) in
+    omega (
+      arith,
+      sign-short text,
+      spread-parted point size,
+      two-parts (parted point size) parts,
+      numeral-longest 10 1 5 (partAt point size 0) (measure-whole point text e),
+      numeral-longest 10 2 2 (partAt point size 1) (measure-rest point text e),
+    )
+
+number-short : (text : List ℕ) → isNumber text ≡ true → length text ≤ 15
+unfolding isNumber
+number-short text e = omega (arith, numeral-longest 10 1 10 text (and-first (isNumeral 10 1 10 text) (ltb (numeral 10 text) (2 ^ 32)) e))
+
+tag-short : (text : List ℕ) → isTag text ≡ true → length text ≤ 15
+tag-short text e = numeral-longest 10 15 15 text e
+
+-- a test that would make a long line short fails
+fails : (t : Bool) → (t ≡ true → ⊥) → t ≡ false
+fails true h = absurd (h refl)
+fails false h = refl
+
+module _ (line : List ℕ) (long : 90 < length line) where
+  letter-short : (letter : ℕ) (form : List ℕ → Bool) → 0 < letter → opens letter form line ≡ true → length (field line 0) ≤ 1
+  unfolding opens
+  letter-short letter form h e =
+      only-short (field line 0) letter h
+      (eqb-true (onlyByte (field line 0)) letter (and-first (eqb (onlyByte (field line 0)) letter) (form (field line 1)) e))
+
+  seven-long : hasProfile line ≡ true → length (field line 0) ≤ 1 → length (field line 1) ≤ 15 → ⊥
+  seven-long p h k =
+      omega (
+        arith,
+        line-of-seven line (profile-seven line p),
+        measure-short (field line 2) (measure-2 line p),
+        measure-short (field line 3) (measure-3 line p),
+        measure-short (field line 4) (measure-4 line p),
+        measure-short (field line 5) (measure-5 line p),
+        code-short (field line 6) (code-6 line p),
+      )
+
+  not-opened : (letter : ℕ) (form : List ℕ → Bool) → 0 < letter → ((text : List ℕ) → form text ≡ true → length text ≤ 15)
+      → hasProfile line ≡ true → opens letter form line ≡ false
+  not-opened letter form h short p =
+      fails (opens letter form line)
+      (λ e. seven-long p (letter-short letter form h e) (short (field line 1) (opens-form line letter form e)))
+
+  -- "a line may be of any length": one of more than 90 bytes is no command, and no header
+  pub long-command : commandIn line ≡ command.Other
+  long-command = by (hasProfile line) refl
+    where
+      unprofiled : (t : Bool) → eqb (partsIn space line) 2 ≡ t → hasProfile line ≡ false → commandIn line ≡ command.Other
+      unprofiled false e p = sym (command-by line p refl refl refl e refl)
+      unprofiled true e p =
+          sym
+          (command-by line p refl refl refl e
+          (fails (opens letterR isTag line)
+          (λ o.
+          omega (
+            arith,
+            line-of-two line (eqb-true (partsIn space line) 2 e),
+            letter-short letterR isTag (omega arith) o,
+            tag-short (field line 1) (opens-form line letterR isTag o),
+          ))))
+
+      by : (t : Bool) → hasProfile line ≡ t → commandIn line ≡ command.Other
+      by true p =
+          sym
+          (command-by line p
+          (not-opened letterA isTag (omega arith) tag-short p)
+          (not-opened letterW isNumber (omega arith) number-short p)
+          (not-opened letterN isNumber (omega arith) number-short p)
+          refl
+          refl)
+      by false p = unprofiled (eqb (partsIn space line) 2) refl p
+
+  pub long-header : headerIn line ≡ header.Other
+  long-header = by (eqb (partsIn space line) 2) refl (isNumber (field line 0)) refl
+    where
+      by : (t : Bool) → eqb (partsIn space line) 2 ≡ t → (u : Bool) → isNumber (field line 0) ≡ u → headerIn line ≡ header.Other
+      by false e u f = sym (header-by line e refl refl)
+      by true e false f = sym (header-by line e f refl)
+      by true e true f =
+          sym
+          (header-by line e f
+          (fails (isNumber (field line 1))
+          (λ g.
+          omega (
+            arith,
+            line-of-two line (eqb-true (partsIn space line) 2 e),
+            number-short (field line 0) f,
+            number-short (field line 1) g,
+          ))))

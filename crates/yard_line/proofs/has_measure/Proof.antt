@@ -1,0 +1,22 @@
+-- `yard_line::has_measure` meets its contract.
+use mathlib.Core.Path.{refl, sym, ap, ap₂, _∙_}
+use native.Mathlib.Omega.{arith}
+use Rattle.yard_rules.specs.Text.{space, point, numeral, partsIn}
+use Rattle.yard_rules.specs.Line.{isTag, isNumber, isMeasure, onlyByte}
+use Rattle.yard_line.proofs.Lines.{field-shorter}
+use lib.ListN.{length}
+use borrow.Author.Needs.{needs}
+use Rattle.yard_line.proofs.has_measure.Statement.{statement}
+use Rattle.yard_line.proofs.has_measure.Tie as tie
+
+part-requires : tie.Need-part-requires
+part-requires c κs = search needs
+
+is-measure-requires : tie.Need-is-measure-requires
+is-measure-requires c κs = omega (arith, field-shorter (c .before .before .args .line .now) (c .before .before .args .n), ap length (c .part .ensures))
+
+returns : tie.Need-returns
+returns c = c .is-measure .ensures ∙ ap (isMeasure point) (c .before .part .ensures)
+
+pub has-measure-spec : {M : Type 1} → statement M
+has-measure-spec = tie.close (tie.spec part-requires is-measure-requires returns)

@@ -1,0 +1,19 @@
+-- `yard_line::number` meets its contract.
+use mathlib.Core.Path.{refl, sym, ap, ap₂, _∙_}
+use Rattle.yard_rules.specs.Text.{space, point, numeral, partsIn}
+use Rattle.yard_rules.specs.Line.{isTag, isNumber, isMeasure, onlyByte}
+use borrow.Author.Needs.{needs}
+use Rattle.yard_line.proofs.number.Statement.{statement}
+use Rattle.yard_line.proofs.number.Tie as tie
+
+part-requires : tie.Need-part-requires
+part-requires c κs = search needs
+
+number-requires : tie.Need-number-requires
+number-requires c κs = ap isNumber (c .part .ensures) ∙ c .before .before .pre .1
+
+returns : tie.Need-returns
+returns c = c .number .ensures ∙ ap (numeral 10) (c .before .part .ensures)
+
+pub number-spec : {M : Type 1} → statement M
+number-spec = tie.close (tie.spec part-requires number-requires returns)

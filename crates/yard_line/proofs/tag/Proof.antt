@@ -1,0 +1,19 @@
+-- `yard_line::tag` meets its contract.
+use mathlib.Core.Path.{refl, sym, ap, ap₂, _∙_}
+use Rattle.yard_rules.specs.Text.{space, point, numeral, partsIn}
+use Rattle.yard_rules.specs.Line.{isTag, isNumber, isMeasure, onlyByte}
+use borrow.Author.Needs.{needs}
+use Rattle.yard_line.proofs.tag.Statement.{statement}
+use Rattle.yard_line.proofs.tag.Tie as tie
+
+part-requires : tie.Need-part-requires
+part-requires c κs = search needs
+
+tag-requires : tie.Need-tag-requires
+tag-requires c κs = ap isTag (c .part .ensures) ∙ c .before .before .pre .1
+
+returns : tie.Need-returns
+returns c = c .tag .ensures ∙ ap (numeral 10) (c .before .part .ensures)
+
+pub tag-spec : {M : Type 1} → statement M
+tag-spec = tie.close (tie.spec part-requires tag-requires returns)

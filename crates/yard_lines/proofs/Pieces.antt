@@ -1,0 +1,72 @@
+-- Lines of pieces put end to end: what is pending and a piece make a line where the piece has a line feed, and more pending where not.
+use Prim.Native.Nat.{ℕ, zero, suc, _+_, _≤_, _<_}
+use mathlib.Core.Path.{_≡_, refl, ap, sym, _∙_}
+use mathlib.Core.Bool.{Bool, true, false}
+use mathlib.Core.List.{List, [], _∷_, _++_, append-assoc}
+use native.Mathlib.Omega.{arith}
+use lib.Dec.{eqb}
+use lib.ListN.{length, drop}
+use borrow.Author.Tests.{eqb-true, eqb-false, eq-eqb, ne-eqb}
+use Rattle.tree_rules.proofs.Lists.{all-append}
+use Rattle.yard_rules.specs.Text.{lineFeed, parted}
+use Rattle.yard_rules.proofs.Parts.{Free, parted-first}
+use Rattle.yard_lines.specs.Held.{untilFeed}
+
+pub until-feed : (b : ℕ) (bs : List ℕ) → b ≡ lineFeed → untilFeed (b ∷ bs) ≡ []
+unfolding untilFeed
+until-feed b bs e = ap (λ t. elim t [ true ↦ [] | false ↦ b ∷ untilFeed bs ]) (eq-eqb b lineFeed e)
+
+pub until-byte : (b : ℕ) (bs : List ℕ) → (b ≡ lineFeed → ⊥) → untilFeed (b ∷ bs) ≡ b ∷ untilFeed bs
+unfolding untilFeed
+until-byte b bs e = ap (λ t. elim t [ true ↦ [] | false ↦ b ∷ untilFeed bs ]) (ne-eqb b lineFeed e)
+
+-- the bytes before a line feed have none
+pub until-free : (bs : List ℕ) → Free lineFeed (untilFeed bs)
+unfolding untilFeed
+until-free [] = tt
+until-free (b ∷ bs) = by (eqb b lineFeed) refl (until-free bs)
+  where
+    by : (t : Bool) → eqb b lineFeed ≡ t → Free lineFeed (untilFeed bs) → Free lineFeed (elim t [ true ↦ [] | false ↦ b ∷ untilFeed bs ])
+    by true e h = tt
+    by false e h = (eqb-false b lineFeed e, h)
+
+-- a piece is what stands before its line feed, the line feed, and the rest; or it has none
+pub feed-after : (bs : List ℕ) → length (untilFeed bs) < length bs → bs ≡ untilFeed bs ++ lineFeed ∷ drop (suc (length (untilFeed bs))) bs
+feed-after [] h = absurd (omega arith)
+feed-after (b ∷ bs) h = by (eqb b lineFeed) refl (feed-after bs)
+  where
+    by : (t : Bool) → eqb b lineFeed ≡ t → (length (untilFeed bs) < length bs → bs ≡ untilFeed bs ++ lineFeed ∷ drop (suc (length (untilFeed bs))) bs)
+        → b ∷ bs ≡ untilFeed (b ∷ bs) ++ lineFeed ∷ drop (suc (length (untilFeed (b ∷ bs)))) (b ∷ bs)
+    by true e k = rw (until-feed b bs (eqb-true b lineFeed e)) (ap (λ x. x ∷ bs) (eqb-true b lineFeed e))
+    by false e k =
+        let next : untilFeed (b ∷ bs) ≡ b ∷ untilFeed bs = until-byte b bs (eqb-false b lineFeed e) in
+        rw next (ap (λ xs. b ∷ xs) (k (omega (arith, ap length next))))
+
+pub no-feed : (bs : List ℕ) → length (untilFeed bs) ≡ length bs → untilFeed bs ≡ bs
+unfolding untilFeed
+no-feed [] h = refl
+no-feed (b ∷ bs) h = by (eqb b lineFeed) refl (no-feed bs)
+  where
+    by : (t : Bool) → eqb b lineFeed ≡ t → (length (untilFeed bs) ≡ length bs → untilFeed bs ≡ bs) → untilFeed (b ∷ bs) ≡ b ∷ bs
+    by true e k = absurd (omega (arith, ap length (until-feed b bs (eqb-true b lineFeed e))))
+    by false e k =
+        let next : untilFeed (b ∷ bs) ≡ b ∷ untilFeed bs = until-byte b bs (eqb-false b lineFeed e) in
+        next ∙ ap (λ xs. b ∷ xs) (k (omega (arith, ap length next)))
+
+-- "the lines of the pieces put end to end": a pending line, a piece with a line feed, and the pieces after it
+pub line-ends : (pending piece later : List ℕ) → Free lineFeed pending → length (untilFeed piece) < length piece
+    → parted lineFeed (pending ++ (piece ++ later))
+    ≡ (pending ++ untilFeed piece) ∷ parted lineFeed (drop (suc (length (untilFeed piece))) piece ++ later)
+line-ends pending piece later f h =
+    ap (λ xs. parted lineFeed (pending ++ (xs ++ later))) (feed-after piece h)
+    ∙ ap (parted lineFeed) (simp append-assoc)
+    ∙ parted-first lineFeed (pending ++ untilFeed piece) (drop (suc (length (untilFeed piece))) piece ++ later)
+    (all-append (λ b. b ≡ lineFeed → ⊥) pending (untilFeed piece) f (until-free piece))
+
+-- and one without: the piece goes to what is pending
+pub line-goes-on : (pending piece later : List ℕ) → Free lineFeed pending → length (untilFeed piece) ≡ length piece
+    → (pending ++ (piece ++ later) ≡ (pending ++ untilFeed piece) ++ later) × Free lineFeed (pending ++ untilFeed piece)
+line-goes-on pending piece later f h = (
+  ap (λ xs. pending ++ (xs ++ later)) (sym (no-feed piece h)) ∙ sym (append-assoc pending (untilFeed piece) later),
+  all-append (λ b. b ≡ lineFeed → ⊥) pending (untilFeed piece) f (until-free piece),
+)

@@ -1,0 +1,20 @@
+-- `yard_parse::is_negative` meets its contract.
+use mathlib.Core.Path.{refl}
+use Rattle.yard_rules.specs.Line.{isNegative}
+use Rattle.yard_parse.proofs.Forms.{none-plain}
+use borrow.Author.Needs.{needs}
+use Rattle.yard_parse.proofs.is_negative.Statement.{statement}
+use Rattle.yard_parse.proofs.is_negative.Tie as tie
+
+shared-slice-read-result : tie.Need-shared-slice-read-result
+shared-slice-read-result c = search needs
+
+returns : tie.Need-returns
+returns c = none-plain _ (c .if1 .taken)
+
+returns-2 : tie.Need-returns-2
+unfolding isNegative
+returns-2 c = refl
+
+pub is-negative-spec : {M : Type 1} → statement M
+is-negative-spec = tie.close (tie.spec shared-slice-read-result returns returns-2)

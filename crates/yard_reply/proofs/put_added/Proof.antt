@@ -1,0 +1,60 @@
+-- `yard_reply::put_added` meets its contract: 0 and the reply's numbers, or the refusal alone.
+use mathlib.Core.Path.{ap, _∙_}
+use mathlib.Core.List.{[], _∷_}
+use lib.ListN.{length}
+use lib.Seq.{sets}
+use Rattle.yard_rules.specs.Line.{letterA}
+use Rattle.yard_rules.specs.Reply.{replyLine, addText}
+use Rattle.yard_reply.proofs.Numbers.{accepted, refused}
+use borrow.Author.Needs.{needs}
+use Rattle.yard_reply.proofs.put_added.Statement.{statement}
+use Rattle.yard_reply.proofs.put_added.Tie as tie
+
+cast-put-three : tie.Need-cast-put-three
+cast-put-three c = search needs
+
+cast-put-three-2 : tie.Need-cast-put-three-2
+cast-put-three-2 c = search needs
+
+put-three-requires : tie.Need-put-three-requires
+put-three-requires c κs = search needs
+
+cast-put-one : tie.Need-cast-put-one
+cast-put-one c = search needs
+
+put-one-requires : tie.Need-put-one-requires
+put-one-requires c κs = search needs
+
+same-length : tie.Need-same-length
+same-length c = search needs
+
+returns : tie.Need-returns
+unfolding addText
+returns c =
+    let a = c .before .before .before .before .before .before .before .before .before .args in
+    let ns = accepted (a .reply .refusal) (a .reply .bucket ∷ a .reply .distances ∷ []) (c .before .before .before .before .before .before .if1 .taken) in
+    (c .before .before .put-three .ensures .0 ∙ ap (λ ns. sets (a .out .now) 0 (replyLine letterA ns)) ns, c .before .before .put-three .ensures .1 ∙ ap (λ ns. length (replyLine letterA ns)) ns)
+
+same-length-2 : tie.Need-same-length-2
+same-length-2 c = search needs
+
+returns-2 : tie.Need-returns-2
+unfolding addText
+returns-2 c =
+    let a = c .before .before .before .before .before .before .before .before .args in
+    let ns = refused (a .reply .refusal) (a .reply .bucket ∷ a .reply .distances ∷ []) (c .before .before .before .before .before .if1 .left) in
+    (c .before .before .put-one .ensures .0 ∙ ap (λ ns. sets (a .out .now) 0 (replyLine letterA ns)) ns, c .before .before .put-one .ensures .1 ∙ ap (λ ns. length (replyLine letterA ns)) ns)
+
+pub put-added-spec : {M : Type 1} → statement M
+put-added-spec =
+    tie.close
+    (tie.spec
+    cast-put-three
+    cast-put-three-2
+    put-three-requires
+    cast-put-one
+    put-one-requires
+    same-length
+    returns
+    same-length-2
+    returns-2)

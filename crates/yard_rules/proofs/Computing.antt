@@ -1,0 +1,43 @@
+-- A conversation with every definition that it goes by opened, so that antt computes it; the one place that lists them.
+use Prim.Native.Nat.{ℕ}
+use mathlib.Core.List.{List, flatten}
+use Rattle.metric_rules.specs.Lists.{countFrom, total, select, every}
+use Rattle.metric_rules.specs.Row.{rowWidth, tagAt, measuresAt, codeAt, thresholdAt, markAt, zeroRow, word, wide, words, tagOf, profileOf, thresholdOf, markOf, isLive, measure, codeWord, rowOf, withThreshold, withMark}
+use Rattle.metric_rules.specs.Validity.{nationals, countryOf, nationalOf, lastCountry, lastNational, validTag, measureLimit, validMeasure, validMeasures}
+use Rattle.metric_rules.specs.Distance.{mostDistance, saturated, gap, measureDistance, differing, codeDistance, distanceBy, distance, metricAt, spaceOf, lastMetric, validSpace}
+use Rattle.tree_rules.specs.Sorting.{keyLe, insertBy, sortBy}
+use Rattle.tree_rules.specs.Layout.{leftSize, costWithin, cost, rankedFrom, tagKey, placed, fromPivot, nearKey, lastDistance, split, node, layoutWithin, layout}
+use Rattle.search_rules.specs.Range.{entry, entryDistance, entryKey, ordered, entersLeft, entersRight, nothing, both, toQuery, entryOf, isHit, visited, rangeWithin, rangeTree}
+use Rattle.search_rules.specs.Nearest.{keep, worst, opens as halfOpens, taken, turn, halvesInTurn, nearestWithin, nearestTree}
+use Rattle.bucket_rules.specs.Geometry.{leastOrder, mostOrder, validOrder, room, bucketsOf, headerRow, sizesRow, firstSlot, tableRows, workRows}
+use Rattle.bucket_rules.specs.Table.{rowAt, orderOf, tableSpace, builtOf, liveOf, inUse, liveTotal, slotsOf, liveSlots, pairRow, headerOf, putSizes, putBucket, emptied, cleared}
+use Rattle.bucket_rules.specs.Checks.{sizePasses, sizesPass, marksPass, tableRefusal, readRefusal, changeRefusal}
+use Rattle.bucket_rules.specs.Fresh.{freshRefusal, freshTable, tableAfterFresh}
+use Rattle.bucket_rules.specs.Rebuild.{liveItems, rebuilt}
+use Rattle.bucket_rules.specs.Add.{addRefusal, emptyFrom, lowestEmpty, gathered, addBucket, addTarget, added, addReply, tableAfterAdd, workAfterAdd}
+use Rattle.bucket_rules.specs.Remove.{removeRefusal, marked, united, thinned, settled, removed, removeReply, tableAfterRemove, workAfterRemove}
+use Rattle.bucket_rules.specs.Search.{bucketsDown, rangeMet, rangeAnswer, nearestTally, nearestAnswer, fitRefusal, rangeRefusal, nearestRefusal, searchReply, zeroEntry, resultAfter, rangeReply, resultAfterRange, nearestReply, resultAfterNearest}
+use Rattle.bucket_rules.specs.LookUp.{placeFrom, placeIn, find, isLiveTag}
+use Rattle.yard_rules.specs.Text.{onto, parted, partAt, partsIn, digitOf, isDigit, isNumeral, numeralAfter, numeral, digits, widthWithin, width, decimal}
+use Rattle.yard_rules.specs.Line.{isNumber, onlyByte, isCode, codeIn, isNegative, unsigned, isMeasure, hundredths, measureIn, hasProfile, profileIn, headerIn, opens, commandIn}
+use Rattle.yard_rules.specs.Reply.{spaced, replyLine, replyNumbers, addText, removeText, entryText, entriesText, searchText}
+use Rattle.yard_rules.specs.Spoken.{otherText, mostYardOrder, headerRefusal, greeted, areasAfter, textAfter, answered, saidAt, spoken, after, printed, lastKept, firstKept, linesIn, conversation, Areas}
+
+unfoldable pub talk : Areas → List ℕ → List ℕ
+unfolding
+    flatten countFrom total select every rowWidth tagAt measuresAt codeAt thresholdAt markAt zeroRow word wide words tagOf profileOf thresholdOf
+    markOf measure codeWord rowOf withThreshold withMark nationals countryOf nationalOf lastCountry lastNational validTag measureLimit
+    validMeasure validMeasures mostDistance saturated gap measureDistance differing codeDistance distanceBy distance metricAt spaceOf
+    lastMetric validSpace keyLe insertBy sortBy leftSize costWithin cost rankedFrom tagKey placed fromPivot nearKey lastDistance split node
+    layoutWithin layout entry entryDistance entryKey ordered isLive entersLeft entersRight nothing both toQuery entryOf isHit visited
+    rangeWithin rangeTree keep worst halfOpens taken turn halvesInTurn nearestWithin nearestTree leastOrder mostOrder validOrder room
+    bucketsOf headerRow sizesRow firstSlot tableRows workRows rowAt orderOf tableSpace builtOf liveOf inUse liveTotal slotsOf liveSlots
+    pairRow headerOf putSizes putBucket emptied cleared sizePasses sizesPass marksPass tableRefusal readRefusal changeRefusal freshRefusal
+    freshTable tableAfterFresh liveItems rebuilt addRefusal emptyFrom lowestEmpty gathered addBucket addTarget added addReply tableAfterAdd
+    workAfterAdd removeRefusal marked united thinned settled removed removeReply tableAfterRemove workAfterRemove placeFrom placeIn find
+    isLiveTag bucketsDown rangeMet rangeAnswer nearestTally nearestAnswer fitRefusal rangeRefusal nearestRefusal searchReply zeroEntry
+    resultAfter rangeReply resultAfterRange nearestReply resultAfterNearest onto parted partAt partsIn digitOf isDigit isNumeral numeralAfter
+    numeral digits widthWithin width decimal isNumber onlyByte isCode codeIn isNegative unsigned isMeasure hundredths measureIn
+    hasProfile profileIn headerIn opens commandIn spaced replyLine replyNumbers addText removeText entryText entriesText searchText otherText
+    mostYardOrder headerRefusal greeted areasAfter textAfter answered saidAt spoken after printed lastKept firstKept linesIn conversation
+talk a input = conversation a input

@@ -1,0 +1,77 @@
+-- Worked by hand: a conversation in which `?` lines count, a minus covers all digits, the entries found and the distances differ and the last
+-- line has no line feed; and single fields of and out of form.
+use Prim.Native.Nat.{ℕ}
+use mathlib.Core.Path.{_≡_, refl}
+use mathlib.Core.Bool.{Bool, true, false}
+use mathlib.Core.List.{List, [], _∷_}
+use Rattle.metric_rules.specs.Lists.{every}
+use Rattle.yard_rules.specs.Text.{point, onto, parted, partAt, partsIn, digitOf, isDigit, isNumeral, numeralAfter, numeral}
+use Rattle.yard_rules.specs.Line.{isNumber, onlyByte, isCode, codeIn, isNegative, unsigned, isMeasure}
+use Rattle.yard_rules.proofs.Computing.{talk}
+use Rattle.yard_rules.proofs.Example.{scratch}
+
+input : List ℕ
+input =
+    -- 1 0
+    49 ∷ 32 ∷ 48 ∷ 10 ∷
+    -- (an empty line)
+    10 ∷
+    -- A 036000000000001 -0.05 0.00 0.00 0.00 -
+    65 ∷ 32 ∷ 48 ∷ 51 ∷ 54 ∷ 48 ∷ 48 ∷ 48 ∷ 48 ∷ 48 ∷ 48 ∷ 48 ∷ 48 ∷ 48 ∷ 48 ∷ 48 ∷ 49 ∷ 32 ∷ 45 ∷ 48 ∷ 46 ∷ 48 ∷ 53 ∷ 32 ∷ 48 ∷ 46 ∷ 48 ∷ 48 ∷ 32 ∷ 48 ∷ 46 ∷ 48 ∷ 48 ∷ 32 ∷ 48 ∷ 46 ∷ 48 ∷ 48 ∷ 32 ∷ 45 ∷ 10 ∷
+    -- N 1 0.05 0.00 0.00 0.00 -
+    78 ∷ 32 ∷ 49 ∷ 32 ∷ 48 ∷ 46 ∷ 48 ∷ 53 ∷ 32 ∷ 48 ∷ 46 ∷ 48 ∷ 48 ∷ 32 ∷ 48 ∷ 46 ∷ 48 ∷ 48 ∷ 32 ∷ 48 ∷ 46 ∷ 48 ∷ 48 ∷ 32 ∷ 45 ∷ 10 ∷
+    -- N 0 0.00 0.00 0.00 0.00 -
+    78 ∷ 32 ∷ 48 ∷ 32 ∷ 48 ∷ 46 ∷ 48 ∷ 48 ∷ 32 ∷ 48 ∷ 46 ∷ 48 ∷ 48 ∷ 32 ∷ 48 ∷ 46 ∷ 48 ∷ 48 ∷ 32 ∷ 48 ∷ 46 ∷ 48 ∷ 48 ∷ 32 ∷ 45 ∷ 10 ∷
+    -- W 4294967296 0.00 0.00 0.00 0.00 -
+    87 ∷ 32 ∷ 52 ∷ 50 ∷ 57 ∷ 52 ∷ 57 ∷ 54 ∷ 55 ∷ 50 ∷ 57 ∷ 54 ∷ 32 ∷ 48 ∷ 46 ∷ 48 ∷ 48 ∷ 32 ∷ 48 ∷ 46 ∷ 48 ∷ 48 ∷ 32 ∷ 48 ∷ 46 ∷ 48 ∷ 48 ∷ 32 ∷ 48 ∷ 46 ∷ 48 ∷ 48 ∷ 32 ∷ 45 ∷ 10 ∷
+    -- W 1 0.00 0.00 0.00 0.00 -
+    87 ∷ 32 ∷ 49 ∷ 32 ∷ 48 ∷ 46 ∷ 48 ∷ 48 ∷ 32 ∷ 48 ∷ 46 ∷ 48 ∷ 48 ∷ 32 ∷ 48 ∷ 46 ∷ 48 ∷ 48 ∷ 32 ∷ 48 ∷ 46 ∷ 48 ∷ 48 ∷ 32 ∷ 45 ∷ 10 ∷
+    -- R 036000000000001
+    82 ∷ 32 ∷ 48 ∷ 51 ∷ 54 ∷ 48 ∷ 48 ∷ 48 ∷ 48 ∷ 48 ∷ 48 ∷ 48 ∷ 48 ∷ 48 ∷ 48 ∷ 48 ∷ 49 ∷
+    []
+
+output : List ℕ
+output =
+    -- ? 2
+    63 ∷ 32 ∷ 50 ∷ 10 ∷
+    -- A 0 0 0
+    65 ∷ 32 ∷ 48 ∷ 32 ∷ 48 ∷ 32 ∷ 48 ∷ 10 ∷
+    -- N 0 1 1
+    78 ∷ 32 ∷ 48 ∷ 32 ∷ 49 ∷ 32 ∷ 49 ∷ 10 ∷
+    -- 036000000000001 10
+    48 ∷ 51 ∷ 54 ∷ 48 ∷ 48 ∷ 48 ∷ 48 ∷ 48 ∷ 48 ∷ 48 ∷ 48 ∷ 48 ∷ 48 ∷ 48 ∷ 49 ∷ 32 ∷ 49 ∷ 48 ∷ 10 ∷
+    -- N 5
+    78 ∷ 32 ∷ 53 ∷ 10 ∷
+    -- ? 6
+    63 ∷ 32 ∷ 54 ∷ 10 ∷
+    -- W 0 0 1
+    87 ∷ 32 ∷ 48 ∷ 32 ∷ 48 ∷ 32 ∷ 49 ∷ 10 ∷
+    -- R 0 0
+    82 ∷ 32 ∷ 48 ∷ 32 ∷ 48 ∷ 10 ∷
+    []
+
+conversation-worked : talk scratch input ≡ output
+unfolding talk scratch input output
+conversation-worked = refl
+
+-- -.5 and 123456.00 are no measures, 00000.00 is; a code of upper-case digits is none; 4294967295 is a number and 4294967296 is not
+forms : List Bool
+unfolding
+    every onto parted partAt partsIn digitOf isDigit isNumeral numeralAfter numeral isNumber onlyByte isCode isNegative unsigned isMeasure
+forms =
+    isMeasure point (45 ∷ 46 ∷ 53 ∷ [])
+    ∷ isMeasure point (49 ∷ 50 ∷ 51 ∷ 52 ∷ 53 ∷ 54 ∷ 46 ∷ 48 ∷ 48 ∷ [])
+    ∷ isMeasure point (48 ∷ 48 ∷ 48 ∷ 48 ∷ 48 ∷ 46 ∷ 48 ∷ 48 ∷ [])
+    ∷ isCode (48 ∷ 48 ∷ 48 ∷ 48 ∷ 48 ∷ 48 ∷ 48 ∷ 48 ∷ 48 ∷ 48 ∷ 48 ∷ 48 ∷ 48 ∷ 48 ∷ 48 ∷ 48 ∷ 48 ∷ 48 ∷ 48 ∷ 48 ∷ 48 ∷ 48 ∷ 48 ∷ 48 ∷ 48 ∷ 48 ∷ 48 ∷ 48 ∷ 48 ∷ 48 ∷ 48 ∷ 70 ∷ [])
+    ∷ isNumber (52 ∷ 50 ∷ 57 ∷ 52 ∷ 57 ∷ 54 ∷ 55 ∷ 50 ∷ 57 ∷ 53 ∷ [])
+    ∷ isNumber (52 ∷ 50 ∷ 57 ∷ 52 ∷ 57 ∷ 54 ∷ 55 ∷ 50 ∷ 57 ∷ 54 ∷ [])
+    ∷ []
+
+forms-worked : forms ≡ false ∷ false ∷ true ∷ false ∷ true ∷ false ∷ []
+unfolding forms
+forms-worked = refl
+
+-- the first 16 digits are the first word
+words-worked : codeIn (48 ∷ 48 ∷ 48 ∷ 48 ∷ 48 ∷ 48 ∷ 48 ∷ 48 ∷ 48 ∷ 48 ∷ 48 ∷ 48 ∷ 48 ∷ 48 ∷ 48 ∷ 49 ∷ 48 ∷ 48 ∷ 48 ∷ 48 ∷ 48 ∷ 48 ∷ 48 ∷ 48 ∷ 48 ∷ 48 ∷ 48 ∷ 48 ∷ 48 ∷ 48 ∷ 50 ∷ 102 ∷ []) ≡ 1 ∷ 47 ∷ []
+unfolding codeIn onlyByte numeral numeralAfter digitOf
+words-worked = refl

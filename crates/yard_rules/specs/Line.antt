@@ -1,0 +1,127 @@
+-- 01, "The program": the form of a line, and what a line of that form says. Every line of bytes is a header or not, and a command or not.
+use Prim.Native.Nat.{ℕ, _+_, _*_, _^_}
+use mathlib.Core.Bool.{Bool, true, false, _&&_, _||_}
+use mathlib.Core.List.{List, [], _∷_}
+use lib.IntN.{ℤ, pos, negℤ}
+use lib.ListN.{length, getD, take, drop}
+use lib.Dec.{ltb, eqb}
+use Rattle.metric_rules.specs.declared.Profile.{Profile}
+use Rattle.yard_rules.specs.declared.Header.{Header}
+use Rattle.yard_rules.specs.declared.Header.the-variants as header
+use Rattle.yard_rules.specs.declared.Command.{Command}
+use Rattle.yard_rules.specs.declared.Command.the-variants as command
+use Rattle.yard_rules.specs.Text.{space, minus, point, partAt, partsIn, isNumeral, numeral}
+
+-- "A tag is 15 digits"
+abbrev pub isTag : List ℕ → Bool
+isTag text = isNumeral 10 15 15 text
+
+-- "T, metric, radius and k are 1 to 10 digits within 32 bits"
+unfoldable pub isNumber : List ℕ → Bool
+isNumber text = isNumeral 10 1 10 text && ltb (numeral 10 text) (2 ^ 32)
+
+-- the only byte of a text, and 0 where it has none or more
+unfoldable pub onlyByte : List ℕ → ℕ
+onlyByte text = elim (eqb (length text) 1) [ true ↦ getD text 0 0 | false ↦ 0 ]
+
+-- "A code is 32 lowercase hex digits, or `-` for all zero bits"; the first 16 digits are its first word (the interface, point 13)
+unfoldable pub isCode : List ℕ → Bool
+isCode text = eqb (onlyByte text) minus || isNumeral 16 32 32 text
+
+unfoldable pub codeIn : List ℕ → List ℕ
+codeIn text =
+    elim (eqb (onlyByte text) minus) [ true ↦ 0 ∷ 0 ∷ [] | false ↦ numeral 16 (take 16 text) ∷ numeral 16 (drop 16 text) ∷ [] ]
+
+-- "A measure is an optional minus, 1 to 5 digits, a point, 2 digits; one sign covers all digits". What stands for the point is an argument
+unfoldable pub isNegative : List ℕ → Bool
+isNegative text = eqb (getD text 0 0) minus
+
+unfoldable pub unsigned : List ℕ → List ℕ
+unsigned text = elim (isNegative text) [ true ↦ drop 1 text | false ↦ text ]
+
+unfoldable pub isMeasure : ℕ → List ℕ → Bool
+isMeasure mark text =
+    let size = unsigned text in
+    eqb (partsIn mark size) 2 && isNumeral 10 1 5 (partAt mark size 0) && isNumeral 10 2 2 (partAt mark size 1)
+
+unfoldable pub hundredths : ℕ → List ℕ → ℕ
+hundredths mark size = 100 * numeral 10 (partAt mark size 0) + numeral 10 (partAt mark size 1)
+
+unfoldable pub measureIn : ℕ → List ℕ → ℤ
+measureIn mark text =
+    let n = hundredths mark (unsigned text) in
+    elim (isNegative text) [ true ↦ negℤ (pos n) | false ↦ pos n ]
+
+-- "a profile is `m m m m code`": the last five of a line's seven fields
+abbrev pub field : List ℕ → ℕ → List ℕ
+field line n = partAt space line n
+
+unfoldable pub hasProfile : List ℕ → Bool
+hasProfile line =
+    eqb (partsIn space line) 7
+    && isMeasure point (field line 2)
+    && isMeasure point (field line 3)
+    && isMeasure point (field line 4)
+    && isMeasure point (field line 5)
+    && isCode (field line 6)
+
+unfoldable pub profileIn : List ℕ → Profile
+profileIn line =
+    record {
+      measures =
+          measureIn point (field line 2)
+          ∷ measureIn point (field line 3)
+          ∷ measureIn point (field line 4)
+          ∷ measureIn point (field line 5)
+          ∷ [];
+      code = codeIn (field line 6);
+    }
+
+-- "Line 1 is `T metric`"
+unfoldable pub headerIn : List ℕ → Header
+headerIn line =
+    elim (eqb (partsIn space line) 2 && isNumber (field line 0) && isNumber (field line 1)) [
+      | true ↦ header.Of (numeral 10 (field line 0)) (numeral 10 (field line 1))
+      | false ↦ header.Other
+    ]
+
+-- the letters of the commands and of the replies
+abbrev pub letterA : ℕ
+letterA = 65
+
+abbrev pub letterF : ℕ
+letterF = 70
+
+abbrev pub letterN : ℕ
+letterN = 78
+
+abbrev pub letterR : ℕ
+letterR = 82
+
+abbrev pub letterW : ℕ
+letterW = 87
+
+abbrev pub questionMark : ℕ
+questionMark = 63
+
+-- the letter of a line and the form of its second field
+unfoldable pub opens : ℕ → (List ℕ → Bool) → List ℕ → Bool
+opens letter form line = eqb (onlyByte (field line 0)) letter && form (field line 1)
+
+-- "Then `A tag m m m m code`, `R tag`, `W radius profile`, `N k profile`"
+unfoldable pub commandIn : List ℕ → Command
+commandIn line =
+    let number = numeral 10 (field line 1) in
+    elim (hasProfile line) [
+      | true ↦
+          elim (opens letterA isTag line) [
+            | true ↦ command.Add number
+            | false ↦
+                elim (opens letterW isNumber line) [
+                  | true ↦ command.Within number
+                  | false ↦ elim (opens letterN isNumber line) [ true ↦ command.Nearest number | false ↦ command.Other ]
+                ]
+          ]
+      | false ↦
+          elim (eqb (partsIn space line) 2 && opens letterR isTag line) [ true ↦ command.Remove number | false ↦ command.Other ]
+    ]

@@ -1,0 +1,42 @@
+-- 01, "The program", "Replies": the bytes of each reply. Every line ends in a line feed.
+use Prim.Native.Nat.{ℕ, zero, suc}
+use mathlib.Core.List.{List, [], _∷_, _++_}
+use lib.ListN.{take, getD}
+use Rattle.search_rules.specs.Range.{Entry}
+use Rattle.bucket_rules.specs.declared.Added.{Added}
+use Rattle.bucket_rules.specs.declared.Removed.{Removed}
+use Rattle.bucket_rules.specs.declared.Searched.{Searched}
+use Rattle.yard_rules.specs.Text.{lineFeed, space, digits, decimal}
+use Rattle.yard_rules.specs.Line.{letterA, letterR}
+
+-- numbers, each after a space
+unfoldable pub spaced : List ℕ → List ℕ
+spaced [] = []
+spaced (n ∷ ns) = space ∷ decimal n ++ spaced ns
+
+-- a letter, numbers, a line feed
+unfoldable pub replyLine : ℕ → List ℕ → List ℕ
+replyLine letter ns = letter ∷ spaced ns ++ (lineFeed ∷ [])
+
+-- a refusal is letter and number; an accepted call 0 and the numbers of its reply
+unfoldable pub replyNumbers : ℕ → List ℕ → List ℕ
+replyNumbers zero ns = 0 ∷ ns
+replyNumbers (suc n) ns = suc n ∷ []
+
+unfoldable pub addText : Added → List ℕ
+addText a = replyLine letterA (replyNumbers (a .refusal) (a .bucket ∷ a .distances ∷ []))
+
+unfoldable pub removeText : Removed → List ℕ
+removeText r = replyLine letterR (replyNumbers (r .refusal) (r .distances ∷ []))
+
+-- "one `tag distance` line each": a tag is 15 digits here too
+unfoldable pub entryText : Entry → List ℕ
+entryText e = digits 15 (getD e 0 0) ++ space ∷ decimal (getD e 1 0) ++ (lineFeed ∷ [])
+
+unfoldable pub entriesText : List Entry → List ℕ
+entriesText [] = []
+entriesText (e ∷ es) = entryText e ++ entriesText es
+
+-- found is 0 where the search was refused, so no entry is printed then
+unfoldable pub searchText : ℕ → Searched → List Entry → List ℕ
+searchText letter s area = replyLine letter (replyNumbers (s .refusal) (s .found ∷ s .distances ∷ [])) ++ entriesText (take (s .found) area)

@@ -1,0 +1,4 @@
+mod Finding
+mod Opening
+mod Saying
+pub mod Longer

@@ -1,0 +1,36 @@
+-- `yard_talk::say_added` meets its contract: the call, and its reply as bytes.
+use mathlib.Core.Path.{refl, ap, ap₂, sym, subst, _∙_}
+use Rattle.yard_rules.specs.Reply.{addText}
+use Rattle.yard_talk.proofs.Saying.{put-as}
+use borrow.Author.Needs.{needs}
+use Rattle.yard_talk.proofs.say_added.Statement.{statement}
+use Rattle.yard_talk.proofs.say_added.Tie as tie
+use Rattle.yard_talk.proofs.say_added.Reads as reads
+use Rattle.yard_talk.proofs.say_added.Lts as lts
+
+add-requires : tie.Need-add-requires
+add-requires c κs = search needs
+
+put-added-requires : tie.Need-put-added-requires
+put-added-requires c κs = search needs
+
+same-length : tie.Need-same-length
+same-length c = search needs
+
+same-length-2 : tie.Need-same-length-2
+same-length-2 c = search needs
+
+same-length-3 : tie.Need-same-length-3
+same-length-3 c = search needs
+
+-- antt refused `returns` as it was built: the module's report says why
+returns : tie.Need-returns
+returns c =
+    let r = c .before .before .before .before .before .add .ensures in
+    (r .1 .0, (r .1 .1, put-as _ _ _ _ _ (ap addText (r .0)) (c .before .before .put-added .ensures)))
+
+-- antt refused `say-added-spec` as it was built: the module's report says why
+pub say-added-spec : {M : Type 1} → statement M
+say-added-spec =
+    tie.close
+    (tie.spec add-requires put-added-requires same-length same-length-2 same-length-3 returns)

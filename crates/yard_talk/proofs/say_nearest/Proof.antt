@@ -1,0 +1,41 @@
+-- `yard_talk::say_nearest` meets its contract: the search, and its reply with the entries of the result area as bytes.
+use mathlib.Core.Path.{refl, ap, ap₂, sym, subst, _∙_}
+use native.Mathlib.Omega.{arith}
+use Rattle.bucket_rules.specs.declared.Searched.{Searched}
+use Rattle.yard_rules.specs.Line.{letterN}
+use Rattle.yard_rules.specs.Reply.{searchText}
+use Rattle.yard_talk.proofs.Finding.{nearest-found}
+use Rattle.yard_talk.proofs.Saying.{put-as}
+use borrow.Author.Needs.{needs}
+use Rattle.yard_talk.proofs.say_nearest.Statement.{statement}
+use Rattle.yard_talk.proofs.say_nearest.Tie as tie
+use Rattle.yard_talk.proofs.say_nearest.Reads as reads
+use Rattle.yard_talk.proofs.say_nearest.Lts as lts
+
+nearest-requires : tie.Need-nearest-requires
+nearest-requires c κs = search needs
+
+-- antt refused `put-searched-requires` as it was built: the module's report says why
+put-searched-requires : tie.Need-put-searched-requires
+put-searched-requires c κs =
+    let a = c .before .before .before .before .before .before .args in
+    let few = nearest-found (a .table .now) (a .result .now) (a .query) (a .k) in
+    let found = ap (λ (s : Searched). s .found) (c .before .before .before .nearest .ensures .0) in
+    (omega (arith, few, found), omega (arith, few, found, c .before .before .before .before .before .before .pre))
+
+same-length : tie.Need-same-length
+same-length c = search needs
+
+same-length-2 : tie.Need-same-length-2
+same-length-2 c = search needs
+
+-- antt refused `returns` as it was built: the module's report says why
+returns : tie.Need-returns
+returns c =
+    let r = c .before .before .before .before .before .before .nearest .ensures in
+    (r .1, put-as _ _ _ _ _ (ap₂ (searchText letterN) (r .0) (r .1)) (c .before .before .put-searched .ensures))
+
+-- antt refused `say-nearest-spec` as it was built: the module's report says why
+pub say-nearest-spec : {M : Type 1} → statement M
+say-nearest-spec =
+    tie.close (tie.spec nearest-requires put-searched-requires same-length same-length-2 returns)

@@ -1,0 +1,36 @@
+-- `yard_talk::say_removed` meets its contract: the call, and its reply as bytes.
+use mathlib.Core.Path.{refl, ap, ap₂, sym, subst, _∙_}
+use Rattle.yard_rules.specs.Reply.{removeText}
+use Rattle.yard_talk.proofs.Saying.{put-as}
+use borrow.Author.Needs.{needs}
+use Rattle.yard_talk.proofs.say_removed.Statement.{statement}
+use Rattle.yard_talk.proofs.say_removed.Tie as tie
+use Rattle.yard_talk.proofs.say_removed.Reads as reads
+use Rattle.yard_talk.proofs.say_removed.Lts as lts
+
+remove-requires : tie.Need-remove-requires
+remove-requires c κs = search needs
+
+put-removed-requires : tie.Need-put-removed-requires
+put-removed-requires c κs = search needs
+
+same-length : tie.Need-same-length
+same-length c = search needs
+
+same-length-2 : tie.Need-same-length-2
+same-length-2 c = search needs
+
+same-length-3 : tie.Need-same-length-3
+same-length-3 c = search needs
+
+-- antt refused `returns` as it was built: the module's report says why
+returns : tie.Need-returns
+returns c =
+    let r = c .before .before .before .before .before .remove .ensures in
+    (r .1 .0, (r .1 .1, put-as _ _ _ _ _ (ap removeText (r .0)) (c .before .before .put-removed .ensures)))
+
+-- antt refused `say-removed-spec` as it was built: the module's report says why
+pub say-removed-spec : {M : Type 1} → statement M
+say-removed-spec =
+    tie.close
+    (tie.spec remove-requires put-removed-requires same-length same-length-2 same-length-3 returns)

@@ -1,0 +1,90 @@
+-- `yard_talk::talk` meets its contract: by the stage.
+use mathlib.Core.Path.{refl, ap, ap₂, sym, subst, _∙_}
+use Rattle.yard_rules.specs.declared.Stage.{Stage}
+use Rattle.yard_rules.specs.declared.Stage.the-variants as stage
+use Rattle.yard_rules.specs.Spoken.{saidAt, answered}
+use Rattle.yard_talk.specs.Lent.{lent, Puts, Says}
+use borrow.Author.Needs.{needs}
+use Rattle.yard_talk.proofs.talk.Statement.{statement}
+use Rattle.yard_talk.proofs.talk.Tie as tie
+use Rattle.yard_talk.proofs.talk.Reads as reads
+use Rattle.yard_talk.proofs.talk.Lts as lts
+
+enum-told : tie.Need-enum-told
+enum-told c = search needs
+
+first-line-requires : tie.Need-first-line-requires
+first-line-requires c κs = search needs
+
+enum-told-2 : tie.Need-enum-told-2
+enum-told-2 c = search needs
+
+answer-requires : tie.Need-answer-requires
+answer-requires c κs = search needs
+
+enum-told-3 : tie.Need-enum-told-3
+enum-told-3 c = search needs
+
+same-length : tie.Need-same-length
+same-length c = search needs
+
+same-length-2 : tie.Need-same-length-2
+same-length-2 c = search needs
+
+-- antt refused `returns` as it was built: the module's report says why
+returns : tie.Need-returns
+unfolding saidAt
+returns c =
+    let a = c .before .before .before .before .before .before .before .before .before .before .args in
+    let s = c .before .before .before .first-line in
+    subst (λ (x : Stage). Says (saidAt (lent (a .table .now) (a .work .now) (a .result .now)) (a .number) x (a .line .now)) (lent (s .last .0) (a .work .now) (a .result .now)) (a .out .now) (s .last .1 .0) (s .result)) (sym (c .before .before .before .before .before .before .enum-told .given .1))
+    (s .ensures (a .work .now) (a .result .now))
+
+same-length-3 : tie.Need-same-length-3
+same-length-3 c = search needs
+
+same-length-4 : tie.Need-same-length-4
+same-length-4 c = search needs
+
+same-length-5 : tie.Need-same-length-5
+same-length-5 c = search needs
+
+same-length-6 : tie.Need-same-length-6
+same-length-6 c = search needs
+
+-- antt refused `returns-2` as it was built: the module's report says why
+returns-2 : tie.Need-returns-2
+unfolding saidAt answered
+returns-2 c =
+    let a = c .before .before .before .before .before .before .before .before .before .before .before .before .before .before .args in
+    let s = c .before .before .before .before .before .answer in
+    subst (λ (x : Stage). Says (saidAt (lent (a .table .now) (a .work .now) (a .result .now)) (a .number) x (a .line .now)) (lent (s .last .0) (s .last .1 .0) (s .last .1 .1 .0)) (a .out .now) (s .last .1 .1 .1 .0) (record { stage = stage.Serving; length = s .result })) (sym (c .before .before .before .before .before .before .before .before .before .before .enum-told2 .given .1))
+    (record { areas-are = s .ensures .0; stage-is = refl; text-is = s .ensures .1 })
+
+-- antt refused `returns-3` as it was built: the module's report says why
+returns-3 : tie.Need-returns-3
+unfolding saidAt Puts
+returns-3 c =
+    let a = c .before .before .before .before .args in
+    subst (λ (x : Stage). Says (saidAt (lent (a .table .now) (a .work .now) (a .result .now)) (a .number) x (a .line .now)) (lent (a .table .now) (a .work .now) (a .result .now)) (a .out .now) (a .out .now) (record { stage = stage.Ended; length = 0 })) (sym (c .enum-told3 .given .1))
+    (record { areas-are = refl; stage-is = refl; text-is = (refl, refl) })
+
+-- antt refused `talk-spec` as it was built: the module's report says why
+pub talk-spec : {M : Type 1} → statement M
+talk-spec =
+    tie.close
+    (tie.spec
+    enum-told
+    first-line-requires
+    enum-told-2
+    answer-requires
+    enum-told-3
+    same-length
+    same-length-2
+    returns
+    same-length-3
+    same-length-4
+    same-length-5
+    same-length-6
+    returns-2
+    returns-3)
