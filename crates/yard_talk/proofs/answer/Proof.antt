@@ -13,7 +13,6 @@ command-requires c κs = search needs
 enum-known-tag : tie.Need-enum-known-tag
 enum-known-tag c = search needs
 
--- antt refused `profile-requires` as it was built: the module's report says why
 profile-requires : tie.Need-profile-requires
 profile-requires c κs =
     (c .before .before .before .before .before .before .before .before .before .pre .1, profile-beside _ (ap needsProfile (sym (c .before .before .before .before .before .before .command .ensures) ∙ c .before .before .before .before .tag .given .1)))
@@ -30,7 +29,6 @@ say-removed-requires c κs = search needs
 enum-known-radius : tie.Need-enum-known-radius
 enum-known-radius c = search needs
 
--- antt refused `profile-requires-2` as it was built: the module's report says why
 profile-requires-2 : tie.Need-profile-requires-2
 profile-requires-2 c κs =
     (c .before .before .before .before .before .before .before .before .before .pre .1, profile-beside _ (ap needsProfile (sym (c .before .before .before .before .before .before .command .ensures) ∙ c .before .before .before .before .radius .given .1)))
@@ -41,7 +39,6 @@ say-within-requires c κs = search needs
 enum-known-k : tie.Need-enum-known-k
 enum-known-k c = search needs
 
--- antt refused `profile-requires-3` as it was built: the module's report says why
 profile-requires-3 : tie.Need-profile-requires-3
 profile-requires-3 c κs =
     (c .before .before .before .before .before .before .before .before .before .pre .1, profile-beside _ (ap needsProfile (sym (c .before .before .before .before .before .before .command .ensures) ∙ c .before .before .before .before .k .given .1)))
@@ -64,7 +61,6 @@ same-length-2 c = search needs
 same-length-3 : tie.Need-same-length-3
 same-length-3 c = search needs
 
--- antt refused `returns` as it was built: the module's report says why
 returns : tie.Need-returns
 returns c =
     let a = c .before .before .before .before .before .before .before .before .before .before .before .before .before .before .before .args in
@@ -80,7 +76,6 @@ same-length-5 c = search needs
 same-length-6 : tie.Need-same-length-6
 same-length-6 c = search needs
 
--- antt refused `returns-2` as it was built: the module's report says why
 returns-2 : tie.Need-returns-2
 returns-2 c =
     let a = c .before .before .before .before .before .before .before .before .before .before .before .before .before .before .args in
@@ -96,7 +91,6 @@ same-length-8 c = search needs
 same-length-9 : tie.Need-same-length-9
 same-length-9 c = search needs
 
--- antt refused `returns-3` as it was built: the module's report says why
 returns-3 : tie.Need-returns-3
 returns-3 c =
     let a = c .before .before .before .before .before .before .before .before .before .before .before .before .before .before .args in
@@ -112,7 +106,6 @@ same-length-11 c = search needs
 same-length-12 : tie.Need-same-length-12
 same-length-12 c = search needs
 
--- antt refused `returns-4` as it was built: the module's report says why
 returns-4 : tie.Need-returns-4
 returns-4 c =
     let a = c .before .before .before .before .before .before .before .before .before .before .before .before .before .before .args in
@@ -122,14 +115,12 @@ returns-4 c =
 same-length-13 : tie.Need-same-length-13
 same-length-13 c = search needs
 
--- antt refused `returns-5` as it was built: the module's report says why
 returns-5 : tie.Need-returns-5
 returns-5 c =
     let a = c .before .before .before .before .before .before .before .before .before .args in
     let s = c .before .before .put-one in
     other-answered (a .table .now) (a .work .now) (a .result .now) (a .number) (a .line .now) (a .out .now) (s .last .0) (s .result) (sym (c .before .before .before .before .enum-told .given .1) ∙ c .before .before .before .before .before .before .command .ensures) (put-as _ _ _ _ _ refl (s .ensures .0, s .ensures .1))
 
--- antt refused `answer-spec` as it was built: the module's report says why
 pub answer-spec : {M : Type 1} → statement M
 answer-spec =
     tie.close

@@ -33,7 +33,6 @@ same-length c = search needs
 same-length-2 : tie.Need-same-length-2
 same-length-2 c = search needs
 
--- antt refused `returns` as it was built: the module's report says why
 returns : tie.Need-returns
 returns c =
     let a = c .before .before .before .before .before .before .before .before .before .before .before .before .args in
@@ -45,7 +44,6 @@ returns c =
 same-length-3 : tie.Need-same-length-3
 same-length-3 c = search needs
 
--- antt refused `returns-2` as it was built: the module's report says why
 returns-2 : tie.Need-returns-2
 returns-2 c =
     let a = c .before .before .before .before .before .before .before .before .before .args in
@@ -54,7 +52,6 @@ returns-2 c =
     subst (λ (h : Header). Says (greeted (lent (a .table .now) work result) (a .number) h) (lent (a .table .now) work result) (a .out .now) (p .last .0) (record { stage = stage.Ended; length = p .result })) (sym (c .before .before .before .before .enum-told .given .1) ∙ c .before .before .before .before .before .before .header .ensures)
     (other-ended (a .table .now) work result (a .number) (a .out .now) (p .last .0) (p .result) (put-as _ _ _ _ _ refl (p .ensures .0, p .ensures .1)))
 
--- antt refused `first-line-spec` as it was built: the module's report says why
 pub first-line-spec : {M : Type 1} → statement M
 first-line-spec =
     tie.close

@@ -14,7 +14,6 @@ set-up-requires c κs = search needs
 same-length : tie.Need-same-length
 same-length c = search needs
 
--- antt refused `returns` as it was built: the module's report says why
 returns : tie.Need-returns
 returns c =
     let a = c .before .before .before .before .before .args in
@@ -33,7 +32,6 @@ same-length-2 c = search needs
 same-length-3 : tie.Need-same-length-3
 same-length-3 c = search needs
 
--- antt refused `returns-2` as it was built: the module's report says why
 returns-2 : tie.Need-returns-2
 returns-2 c =
     let a = c .before .before .before .before .before .before .before .before .before .args in
@@ -43,7 +41,6 @@ returns-2 c =
     greeted-ended (a .order) (a .metric) (a .table .now) work result number (a .out .now) (s .last .0) (p .last .0) (p .result) (s .result) (s .ensures .0) (s .ensures .1) (c .before .before .before .before .if1 .left)
     (put-as _ _ _ _ _ refl (p .ensures .0, p .ensures .1))
 
--- antt refused `greet-spec` as it was built: the module's report says why
 pub greet-spec : {M : Type 1} → statement M
 greet-spec =
     tie.close

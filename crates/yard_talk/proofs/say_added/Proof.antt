@@ -23,13 +23,11 @@ same-length-2 c = search needs
 same-length-3 : tie.Need-same-length-3
 same-length-3 c = search needs
 
--- antt refused `returns` as it was built: the module's report says why
 returns : tie.Need-returns
 returns c =
     let r = c .before .before .before .before .before .add .ensures in
     (r .1 .0, (r .1 .1, put-as _ _ _ _ _ (ap addText (r .0)) (c .before .before .put-added .ensures)))
 
--- antt refused `say-added-spec` as it was built: the module's report says why
 pub say-added-spec : {M : Type 1} → statement M
 say-added-spec =
     tie.close

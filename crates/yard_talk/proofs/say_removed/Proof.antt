@@ -23,13 +23,11 @@ same-length-2 c = search needs
 same-length-3 : tie.Need-same-length-3
 same-length-3 c = search needs
 
--- antt refused `returns` as it was built: the module's report says why
 returns : tie.Need-returns
 returns c =
     let r = c .before .before .before .before .before .remove .ensures in
     (r .1 .0, (r .1 .1, put-as _ _ _ _ _ (ap removeText (r .0)) (c .before .before .put-removed .ensures)))
 
--- antt refused `say-removed-spec` as it was built: the module's report says why
 pub say-removed-spec : {M : Type 1} → statement M
 say-removed-spec =
     tie.close

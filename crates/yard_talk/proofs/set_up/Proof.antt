@@ -8,7 +8,6 @@ use Rattle.yard_talk.proofs.set_up.Tie as tie
 use Rattle.yard_talk.proofs.set_up.Reads as reads
 use Rattle.yard_talk.proofs.set_up.Lts as lts
 
--- antt refused `returns` as it was built: the module's report says why
 returns : tie.Need-returns
 returns c =
     let a = c .before .args in
@@ -20,13 +19,11 @@ fresh-requires c κs = search needs
 same-length : tie.Need-same-length
 same-length c = search needs
 
--- antt refused `returns-2` as it was built: the module's report says why
 returns-2 : tie.Need-returns-2
 returns-2 c =
     let a = c .before .before .before .before .args in
     let r = c .before .fresh .ensures in
     (r .0 ∙ sym (small-refusal (a .order) (a .metric) (a .table .now) (omega (arith, c .before .before .before .if1 .left))), r .1 ∙ sym (small-table (a .order) (a .metric) (a .table .now) (omega (arith, c .before .before .before .if1 .left))))
 
--- antt refused `set-up-spec` as it was built: the module's report says why
 pub set-up-spec : {M : Type 1} → statement M
 set-up-spec = tie.close (tie.spec returns fresh-requires same-length returns-2)

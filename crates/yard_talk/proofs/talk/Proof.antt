@@ -31,7 +31,6 @@ same-length c = search needs
 same-length-2 : tie.Need-same-length-2
 same-length-2 c = search needs
 
--- antt refused `returns` as it was built: the module's report says why
 returns : tie.Need-returns
 unfolding saidAt
 returns c =
@@ -52,7 +51,6 @@ same-length-5 c = search needs
 same-length-6 : tie.Need-same-length-6
 same-length-6 c = search needs
 
--- antt refused `returns-2` as it was built: the module's report says why
 returns-2 : tie.Need-returns-2
 unfolding saidAt answered
 returns-2 c =
@@ -61,7 +59,6 @@ returns-2 c =
     subst (λ (x : Stage). Says (saidAt (lent (a .table .now) (a .work .now) (a .result .now)) (a .number) x (a .line .now)) (lent (s .last .0) (s .last .1 .0) (s .last .1 .1 .0)) (a .out .now) (s .last .1 .1 .1 .0) (record { stage = stage.Serving; length = s .result })) (sym (c .before .before .before .before .before .before .before .before .before .before .enum-told2 .given .1))
     (record { areas-are = s .ensures .0; stage-is = refl; text-is = s .ensures .1 })
 
--- antt refused `returns-3` as it was built: the module's report says why
 returns-3 : tie.Need-returns-3
 unfolding saidAt Puts
 returns-3 c =
@@ -69,7 +66,6 @@ returns-3 c =
     subst (λ (x : Stage). Says (saidAt (lent (a .table .now) (a .work .now) (a .result .now)) (a .number) x (a .line .now)) (lent (a .table .now) (a .work .now) (a .result .now)) (a .out .now) (a .out .now) (record { stage = stage.Ended; length = 0 })) (sym (c .enum-told3 .given .1))
     (record { areas-are = refl; stage-is = refl; text-is = (refl, refl) })
 
--- antt refused `talk-spec` as it was built: the module's report says why
 pub talk-spec : {M : Type 1} → statement M
 talk-spec =
     tie.close
