@@ -1,4 +1,2 @@
--- Laws of the buckets below another, one after the other, and of an accepted add.
-pub mod Below
-pub mod PutIn
+-- Laws of the refusals of an add.
 pub mod Refusing

@@ -10,9 +10,9 @@ use Rattle.metric_rules.specs.Row.{IsProfile, rowOf}
 use Rattle.metric_rules.specs.Validity.{validMeasures}
 use Rattle.tree_rules.specs.Sorting.{sortBy}
 use Rattle.search_rules.specs.Range.{Entry, ordered}
-use Rattle.nearest.specs.declared.Nearby.{Nearby}
-use Rattle.nearest.specs.Nearby.{Leaves}
-use Rattle.nearest.proofs.NearSteps.{Sound, held, not-held, numbers, front}
+use Rattle.nearest_few.specs.declared.Nearby.{Nearby}
+use Rattle.nearest_few.specs.Nearby.{Leaves}
+use Rattle.nearest_few.proofs.NearSteps.{Sound, held, not-held, numbers, front}
 use Rattle.bucket_rules.specs.declared.Searched.{Searched}
 use Rattle.bucket_rules.specs.Refusals.{badMeasure, noneAsked, resultShort}
 use Rattle.bucket_rules.specs.Geometry.{headerRow}

@@ -13,10 +13,10 @@ use Rattle.metric_rules.proofs.Codec.{profile-of-row}
 use Rattle.tree_rules.specs.Sorting.{sortBy}
 use Rattle.search_rules.specs.Range.{Entry, ordered}
 use Rattle.search_rules.specs.Nearest.{Tally, nearestTree}
-use Rattle.nearest.specs.declared.Nearby.{Nearby}
-use Rattle.nearest.specs.Nearby.{tallyOf, Ready, Leaves}
-use Rattle.nearest.proofs.Nearing.{leaves-as}
-use Rattle.nearest.proofs.NearSteps.{Sound, sound-then, sound-tree, ready-less, leaves-same, both-stop, second-ready, both-leave}
+use Rattle.nearest_few.specs.declared.Nearby.{Nearby}
+use Rattle.nearest_few.specs.Nearby.{tallyOf, Ready, Leaves}
+use Rattle.nearest_few.proofs.Nearing.{leaves-as}
+use Rattle.nearest_few.proofs.NearSteps.{Sound, sound-then, sound-tree, ready-less, leaves-same, both-stop, second-ready, both-leave}
 use Rattle.bucket_rules.specs.Geometry.{bucketsOf, headerRow}
 use Rattle.bucket_rules.specs.Table.{Table, rowAt, orderOf, tableSpace, slotsOf}
 use Rattle.bucket_rules.specs.Search.{bucketsDown, nearestTally}

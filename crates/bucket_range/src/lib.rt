@@ -12,7 +12,7 @@ ghost use Rattle.bucket_rules.specs.Search.{zeroEntry, rangeReply, resultAfterR
 ghost use Rattle.bucket_range.specs.Below.{metBelow, noneFound};
 use bucket_rules::BAD_MEASURE;
 use bucket_rules::Searched;
-use entries::sort_entries;
+use entry_sort::sort_entries;
 use metric::valid_measures;
 use metric_rules::Profile;
 use metric_rules::Row;

@@ -1,5 +1,3 @@
--- Heaps, partings and insertions of entries.
-pub mod Heap
-pub mod HeapSort
+-- Laws of the order of entries and of an insertion among them.
+pub mod Keys
 pub mod Sliding
-mod Partition

@@ -19,10 +19,10 @@ use Rattle.tree_rules.proofs.Placed.{tag-placed, threshold-placed, placed-own}
 use Rattle.search_rules.specs.Range.{Entry}
 use Rattle.image_rules.proofs.Blocks.{length-count}
 use Rattle.tree_rules.proofs.Tests.{alike-equal, equal-alike}
-use Rattle.image_layout.specs.FirstFault.{firstUnlike}
-use Rattle.image_layout.specs.Entries.{rankedIn, laidOut, partFault}
-use Rattle.image_layout.proofs.FirstFault.{unlike-here, unlike-past, unlike-left, unlike-right}
-use Rattle.image_layout.proofs.Ranking.{laid-out}
+use Rattle.image_entries.specs.FirstFault.{firstUnlike}
+use Rattle.image_entries.specs.Entries.{rankedIn, laidOut, partFault}
+use Rattle.image_entries.proofs.FirstFault.{unlike-here, unlike-past, unlike-left, unlike-right}
+use Rattle.image_entries.proofs.Ranking.{laid-out}
 
 pub same-row : (x y : Row) → sameNumbers x y ≡ true → x ≡ y
 unfolding sameNumbers

@@ -18,7 +18,7 @@ use Rattle.tree_rules.proofs.Lists.{all-at, all-take, all-drop}
 use Rattle.tree_rules.proofs.Tests.{and-first, and-second, and-pass}
 use Rattle.tree_rules.proofs.Parts.{leftPart, left-part, left-part-length, leftBack, left-back-length, rightPart, right-part, right-part-length, rightBack, right-back-length}
 use Rattle.search_rules.specs.Range.{Entry}
-use Rattle.image_layout.specs.Entries.{entryPlace, lastOf, IsEntry, TagsTell, laidOut, laidFrom, partFault}
+use Rattle.image_entries.specs.Entries.{entryPlace, lastOf, IsEntry, TagsTell, laidOut, laidFrom, partFault}
 use Rattle.image_layout.proofs.Faults.{fault-here, fault-left, fault-right, seat-right, seat-wrong}
 
 -- a part that is not empty, before and after it was arranged

@@ -1,9 +1,3 @@
--- The first slot that differs from a layout, and entries in the place of ranked rows.
-pub mod FirstFault
-pub mod Ranking
+-- The first slot that differs from a layout, half by half.
 pub mod Faults
-pub mod Apart
-pub mod Arranging
 pub mod Halves
-pub mod Filling
-pub mod Reading

@@ -20,9 +20,9 @@ use Rattle.image_rules.specs.Load.{liveRows}
 use Rattle.image_rules.proofs.Blocks.{length-count, getD-count}
 use Rattle.image_rules.proofs.Counting.{total-more, flatten-more}
 use Rattle.image_read.specs.Places.{Places}
-use Rattle.image_layout.specs.declared.Slots.{Slots}
-use Rattle.image_layout.specs.Entries.{places, TagsFit}
-use Rattle.image_layout.specs.InImage.{InImage, slotIn, slotsAt}
+use Rattle.image_entries.specs.declared.Slots.{Slots}
+use Rattle.image_entries.specs.Entries.{places, TagsFit}
+use Rattle.image_entries.specs.InImage.{InImage, slotIn, slotsAt}
 use Rattle.image_layout.proofs.Faults.{count-parts}
 use Rattle.image_test.specs.Standing.{standing}
 

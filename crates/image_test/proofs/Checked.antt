@@ -27,8 +27,8 @@ use Rattle.image_rules.specs.Load.{fieldsPass, bucketPasses, liveRows, slotsPas
 use Rattle.image_rules.proofs.Blocks.{all-flatten}
 use Rattle.search_rules.specs.Range.{Entry}
 use Rattle.image_read.specs.Places.{Places}
-use Rattle.image_layout.specs.Entries.{places, TagsFit}
-use Rattle.image_layout.specs.InImage.{InImage, slotIn, slotsAt}
+use Rattle.image_entries.specs.Entries.{places, TagsFit}
+use Rattle.image_entries.specs.InImage.{InImage, slotIn, slotsAt}
 use Rattle.image_test.specs.Standing.{bucketRead, standing, slotsStand}
 use Rattle.image_test.proofs.Buckets.{rows-before, live-all}
 

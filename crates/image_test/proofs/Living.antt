@@ -16,10 +16,10 @@ use Rattle.tree_rules.proofs.Parts.{getD-mapped}
 use Rattle.search_rules.specs.Range.{Entry, entry, entryDistance}
 use Rattle.search_rules.proofs.Selecting.{select-append}
 use Rattle.image_rules.proofs.Blocks.{length-count, getD-count}
-use Rattle.image_layout.specs.declared.Slots.{Slots}
-use Rattle.image_layout.specs.Entries.{places, entryTag, tagEntry, Fresh}
-use Rattle.image_layout.specs.InImage.{slotIn, slotsAt}
-use Rattle.image_layout.proofs.Filling.{tag-entry-tag}
+use Rattle.image_entries.specs.declared.Slots.{Slots}
+use Rattle.image_entries.specs.Entries.{places, entryTag, tagEntry, Fresh}
+use Rattle.image_entries.specs.InImage.{slotIn, slotsAt}
+use Rattle.image_entries.proofs.Filling.{tag-entry-tag}
 use Rattle.image_test.specs.Standing.{liveEntry}
 
 module _ (image : List ℕ) (at : Slots) where

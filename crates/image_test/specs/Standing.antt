@@ -13,7 +13,7 @@ use Rattle.search_rules.specs.Range.{Entry}
 use Rattle.bucket_rules.specs.Geometry.{bucketsOf}
 use Rattle.image_rules.specs.Read.{orderIn, liveIn, bucketIn}
 use Rattle.image_rules.specs.Load.{fieldsPass, liveRows}
-use Rattle.image_layout.specs.Entries.{tagEntry}
+use Rattle.image_entries.specs.Entries.{tagEntry}
 
 -- the slots of bucket k are valid, and its 0 marks number its live size
 unfoldable pub bucketRead : List ℕ → ℕ → Bool

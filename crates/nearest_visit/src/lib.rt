@@ -4,10 +4,10 @@ ghost use lib.ListN.{length};
 ghost use Rattle.metric_rules.specs.Row.{profileOf, isLive};
 ghost use Rattle.metric_rules.specs.Distance.{distance, spaceOf};
 ghost use Rattle.search_rules.specs.Nearest.{nearestTree};
-ghost use Rattle.nearest.specs.Nearby.{tallyOf, Ready, Leaves};
+ghost use Rattle.nearest_few.specs.Nearby.{tallyOf, Ready, Leaves};
 use metric_rules::Row;
-use nearest::Nearby;
 use nearest::nearest_tree;
+use nearest_few::Nearby;
 use search_rules::Entry;
 
 // The tally is lent: what it holds goes by value to the core over one tree, and what the core leaves is put back.

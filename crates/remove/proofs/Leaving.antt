@@ -24,7 +24,7 @@ use Rattle.bucket_rules.proofs.Sizes.{Used, size-in-use, sizes-at, room-positiv
 use Rattle.bucket_rules.proofs.Fill.{Changeable}
 use Rattle.buckets.specs.Lent.{Housed}
 use Rattle.buckets.proofs.Places.{lent-only}
-use Rattle.remove.specs.Lost.{Lost}
+use Rattle.settle.specs.Lost.{Lost}
 
 pub roomy-of : {work : List Row} {t : Table} → Changeable work t → Roomy t
 roomy-of {t = t} c = record { long = c .passed .framed .long; within = λ k h. bucket-within (c .passed) k h .1 }

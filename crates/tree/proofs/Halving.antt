@@ -12,13 +12,13 @@ use borrow.Author.Tests.{leb-true, leb-false}
 use Rattle.metric_rules.specs.declared.Profile.{Profile}
 use Rattle.metric_rules.specs.Row.{Row, rowWidth, zeroRow}
 use Rattle.tree_rules.specs.Layout.{leftSize, cost, placed, layoutWithin}
-use Rattle.tree_sort.specs.Working.{rankedOf, RanksApart, arranged, lastMeasured}
+use Rattle.working_rows.specs.Working.{rankedOf, RanksApart, arranged, lastMeasured}
 use Rattle.tree_rules.specs.Guided.{Whole}
 use Rattle.tree_rules.proofs.Lists.{Pairs, all-take, all-drop, pairs-take, pairs-drop}
 use Rattle.tree_rules.proofs.Cost.{cost-few, cost-halves}
 use Rattle.tree_rules.proofs.Layouts.{layoutOf}
 use Rattle.tree_rules.proofs.Parts.{leftPart, left-part, left-part-length, leftBack, left-back-length, rightPart, right-part, right-part-length, rightBack, right-back, right-back-length, take-set-first, drop-set-first}
-use Rattle.tree.proofs.Arranging.{Apart, pairs-ranks, arranged-length, arranged-apart, arranged-whole, laidFrom, layout-arranged}
+use Rattle.tree_arrange.proofs.Arranging.{Apart, pairs-ranks, arranged-length, arranged-apart, arranged-whole, laidFrom, layout-arranged}
 
 -- what a build of a part asks of its rows, and a smaller measure
 abbrev pub Asks : ℕ → List Row → List Row → Type 0

@@ -1,3 +1,2 @@
--- A part as a build arranges it, and its halves.
-mod Arranging
+-- The halves of a part.
 mod Halving

@@ -9,8 +9,8 @@ use mathlib.Core.List.{[]}
 use lib.ListN.{length, getD}
 use Rattle.metric_rules.specs.Row.{Row, IsProfile}
 use Rattle.metric_rules.proofs.Values.{is-profile}
-use Rattle.nearest.specs.Nearby.{Leaves}
-use Rattle.nearest.proofs.Nearing.{leaves-as}
+use Rattle.nearest_few.specs.Nearby.{Leaves}
+use Rattle.nearest_few.proofs.Nearing.{leaves-as}
 use Rattle.bucket_rules.specs.Geometry.{headerRow, firstSlot, tableRows}
 use Rattle.bucket_rules.specs.Table.{Table, rowAt}
 use Rattle.bucket_rules.specs.Search.{nearestTally}

@@ -5,9 +5,9 @@ use native.Mathlib.Omega.{arith}
 use mathlib.Core.Path.{sym, ap, subst}
 use borrow.Author.Needs.{needs}
 use lib.ListN.{length}
-use Rattle.nearest.proofs.Nearing.{leaves-as}
-use Rattle.nearest.proofs.NearSteps.{ready-less}
-use Rattle.nearest.specs.Nearby.{tallyOf}
+use Rattle.nearest_few.proofs.Nearing.{leaves-as}
+use Rattle.nearest_few.proofs.NearSteps.{ready-less}
+use Rattle.nearest_few.specs.Nearby.{tallyOf}
 use Rattle.bucket_rules.specs.Geometry.{firstSlot}
 use Rattle.bucket_rules.specs.Table.{builtOf}
 use Rattle.bucket_rules.proofs.Passing.{built-inside}

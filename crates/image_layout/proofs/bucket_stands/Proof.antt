@@ -11,9 +11,9 @@ use Rattle.metric_rules.specs.Row.{Row}
 use Rattle.metric_rules.specs.Distance.{distance, spaceOf}
 use Rattle.tree_rules.specs.Guided.{All}
 use Rattle.search_rules.specs.Range.{Entry, ordered}
-use Rattle.image_layout.specs.Entries.{entryTag, Fresh, IsEntry, slotEntries, partFault}
-use Rattle.image_layout.specs.InImage.{slotIn, slotsAt}
-use Rattle.image_layout.proofs.Filling.{entries-fresh, entries-are, entries-length, bucket-fails, bucket-tells, bucket-tested}
+use Rattle.image_entries.specs.Entries.{entryTag, Fresh, IsEntry, slotEntries, partFault}
+use Rattle.image_entries.specs.InImage.{slotIn, slotsAt}
+use Rattle.image_entries.proofs.Filling.{entries-fresh, entries-are, entries-length, bucket-fails, bucket-tells, bucket-tested}
 use borrow.Author.Needs.{needs}
 use Rattle.image_layout.proofs.bucket_stands.Statement.{statement}
 use Rattle.image_layout.proofs.bucket_stands.Tie as tie

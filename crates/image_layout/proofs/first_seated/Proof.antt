@@ -8,8 +8,8 @@ use Prim.Native.Nat.{_/_}
 use lib.Dec.{eqb}
 use lib.ListN.{length, take, drop, getD}
 use Rattle.metric_rules.specs.Row.{thresholdOf}
-use Rattle.image_layout.specs.Entries.{places, entryPlace, lastOf}
-use Rattle.image_layout.specs.InImage.{slotIn}
+use Rattle.image_entries.specs.Entries.{places, entryPlace, lastOf}
+use Rattle.image_entries.specs.InImage.{slotIn}
 use borrow.Author.Needs.{needs}
 use Rattle.image_layout.proofs.first_seated.Statement.{statement}
 use Rattle.image_layout.proofs.first_seated.Tie as tie

@@ -4,8 +4,8 @@ use mathlib.Core.Path.{sym, ap}
 use Prim.Native.Nat.{ℕ}
 use lib.ListN.{take, drop}
 use Rattle.search_rules.specs.Range.{entryDistance}
-use Rattle.image_layout.specs.Entries.{lastOf}
-use Rattle.image_layout.proofs.Arranging.{last-entry}
+use Rattle.image_entries.specs.Entries.{lastOf}
+use Rattle.image_entries.proofs.Arranging.{last-entry}
 use Rattle.image_layout.proofs.last_distance.Statement.{statement}
 use Rattle.image_layout.proofs.last_distance.Tie as tie
 

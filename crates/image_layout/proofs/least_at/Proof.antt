@@ -9,7 +9,7 @@ use lib.ListN.{length, getD}
 use lib.Seq.{take-all}
 use Rattle.tree_rules.specs.Guided.{All}
 use Rattle.search_rules.specs.Range.{Entry}
-use Rattle.image_layout.proofs.Arranging.{Least, least-with, least-moved}
+use Rattle.image_entries.proofs.Arranging.{Least, least-with, least-moved}
 use Rattle.image_layout.proofs.least_at.Statement.{statement}
 use Rattle.image_layout.proofs.least_at.Tie as tie
 

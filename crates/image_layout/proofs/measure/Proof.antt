@@ -10,11 +10,11 @@ use Rattle.metric_rules.specs.Distance.{distance, spaceOf}
 use Rattle.tree_rules.specs.Guided.{All}
 use Rattle.tree_rules.proofs.Lists.{all-at}
 use Rattle.tree_rules.proofs.Parts.{writtenTo, written-at, written-all, getD-mapped}
-use Rattle.image_layout.proofs.Arranging.{written-step}
+use Rattle.image_entries.proofs.Arranging.{written-step}
 use Rattle.metric_rules.specs.declared.Profile.{Profile}
 use Rattle.search_rules.specs.Range.{Entry, entry}
-use Rattle.image_layout.specs.Entries.{places, entryPlace, IsEntry, measuredIn}
-use Rattle.image_layout.specs.InImage.{slotIn}
+use Rattle.image_entries.specs.Entries.{places, entryPlace, IsEntry, measuredIn}
+use Rattle.image_entries.specs.InImage.{slotIn}
 use Rattle.image_layout.proofs.measure.Statement.{statement}
 use Rattle.image_layout.proofs.measure.Tie as tie
 

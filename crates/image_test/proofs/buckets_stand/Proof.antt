@@ -14,10 +14,10 @@ use Rattle.metric_rules.specs.Distance.{spaceOf}
 use Rattle.tree_rules.proofs.Tests.{scan-fails, scan-passes, scan-ends}
 use Rattle.bucket_rules.specs.Geometry.{bucketsOf, mostOrder}
 use Rattle.image_rules.specs.Read.{orderIn, slotsBefore, bucketIn}
-use Rattle.image_layout.specs.Entries.{places}
+use Rattle.image_entries.specs.Entries.{places}
 use Rattle.image_test.specs.Standing.{standing}
 use Rattle.image_test.proofs.Buckets.{head-fits, sizes-fit, before-next, bucket-within, buckets-length, buckets-more, bucket-asks, bucket-tests}
-use Rattle.image_layout.proofs.Reading.{slots-few}
+use Rattle.image_entries.proofs.Reading.{slots-few}
 use Rattle.image_test.proofs.buckets_stand.Statement.{statement}
 use Rattle.image_test.proofs.buckets_stand.Tie as tie
 

@@ -7,8 +7,8 @@ use Rattle.metric_rules.specs.Lists.{select, distinct}
 use Rattle.metric_rules.specs.Row.{isLive}
 use Rattle.tree_rules.specs.Guided.{All}
 use Rattle.search_rules.specs.Range.{Entry}
-use Rattle.image_layout.specs.Entries.{entryTag, Fresh}
-use Rattle.image_layout.specs.InImage.{slotsAt}
+use Rattle.image_entries.specs.Entries.{entryTag, Fresh}
+use Rattle.image_entries.specs.InImage.{slotsAt}
 use Rattle.image_test.proofs.Living.{live-fresh, live-tags}
 use borrow.Author.Needs.{needs}
 use Rattle.image_test.proofs.live_apart.Statement.{statement}

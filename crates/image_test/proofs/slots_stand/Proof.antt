@@ -7,7 +7,7 @@ use mathlib.Core.List.{List}
 use Rattle.metric_rules.specs.Distance.{spaceOf}
 use Rattle.bucket_rules.specs.Geometry.{mostOrder}
 use Rattle.image_rules.specs.Read.{orderIn}
-use Rattle.image_layout.specs.Entries.{places}
+use Rattle.image_entries.specs.Entries.{places}
 use Rattle.image_test.proofs.Buckets.{sizes-fit}
 use Rattle.image_test.proofs.Checked.{built-few, tags-fit, all-asks, stand-fails, stand-tested}
 use borrow.Author.Needs.{needs}

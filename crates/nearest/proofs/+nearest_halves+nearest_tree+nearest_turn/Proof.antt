@@ -7,9 +7,9 @@ use lib.ListN.{length, take, drop, length-take, length-drop}
 use Rattle.metric_rules.specs.Row.{profileOf, isLive}
 use Rattle.metric_rules.specs.Distance.{distance, spaceOf}
 use Rattle.search_rules.specs.Range.{toQuery, entersLeft}
-use Rattle.nearest.specs.Nearby.{tallyOf}
-use Rattle.nearest.proofs.Nearing.{leaves-as, opens-gap, opens-within, shut-beyond}
-use Rattle.nearest.proofs.NearSteps.{
+use Rattle.nearest_few.specs.Nearby.{tallyOf}
+use Rattle.nearest_few.proofs.Nearing.{leaves-as, opens-gap, opens-within, shut-beyond}
+use Rattle.nearest_few.proofs.NearSteps.{
   ready-less,
   leaves-same,
   both-stop,
@@ -43,9 +43,9 @@ use Rattle.nearest.proofs.nearest_turn.Kinds as nearest-turn-kinds
 use Rattle.nearest.proofs.+nearest_halves+nearest_tree+nearest_turn.Lts-nearest_turn as nearest-turn-lts
 use Rattle.metric.proofs.distance_between.Reads as distance-between-reads
 use Rattle.rows.proofs.threshold_of.Reads as threshold-of-reads
-use Rattle.nearest.proofs.nearest_few.Reads as nearest-few-reads
-use Rattle.nearest.proofs.reach_of.Reads as reach-of-reads
-use Rattle.nearest.proofs.take_in.Reads as take-in-reads
+use Rattle.nearest_few.proofs.nearest_few.Reads as nearest-few-reads
+use Rattle.nearest_few.proofs.reach_of.Reads as reach-of-reads
+use Rattle.nearest_few.proofs.take_in.Reads as take-in-reads
 use Rattle.turns.proofs.excess.Reads as excess-reads
 use Rattle.nearest.proofs.+nearest_halves+nearest_tree+nearest_turn.{statement}
 use Rattle.nearest.proofs.+nearest_halves+nearest_tree+nearest_turn.Tie.{close}

@@ -48,10 +48,10 @@ use denote.Exit.{yes}
 use Rattle.metric_rules.specs.Row.{profileOf, isLive}
 use Rattle.metric_rules.specs.Distance.{distance, spaceOf}
 use Rattle.search_rules.specs.Nearest.{nearestTree}
-use Rattle.nearest.specs.Nearby.{tallyOf, Ready, Leaves}
-use Rattle.nearest.specs.declared.Nearby.{Nearby}
-use Rattle.nearest.proofs.Nearby as T
-use Rattle.nearest.proofs.Nearby.Laws as T′
+use Rattle.nearest_few.specs.Nearby.{tallyOf, Ready, Leaves}
+use Rattle.nearest_few.specs.declared.Nearby.{Nearby}
+use Rattle.nearest_few.proofs.Nearby as T
+use Rattle.nearest_few.proofs.Nearby.Laws as T′
 use Rattle.nearest.proofs.nearest_tree as core
 use Rattle.nearest.proofs.nearest_tree.Symbol as core-def
 use Rattle.nearest.proofs.nearest_tree.Symbol.{name as #nearest·nearest-tree}

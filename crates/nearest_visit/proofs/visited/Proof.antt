@@ -51,10 +51,10 @@ use Rattle.walks.proofs.Lending.{lies-in, lies-out}
 use Rattle.metric_rules.specs.Row.{profileOf, isLive}
 use Rattle.metric_rules.specs.Distance.{distance, spaceOf}
 use Rattle.search_rules.specs.Nearest.{nearestTree}
-use Rattle.nearest.specs.Nearby.{tallyOf, Ready, Leaves}
-use Rattle.nearest.specs.declared.Nearby.{Nearby}
-use Rattle.nearest.proofs.Nearby as T
-use Rattle.nearest.proofs.Nearby.Laws as T′
+use Rattle.nearest_few.specs.Nearby.{tallyOf, Ready, Leaves}
+use Rattle.nearest_few.specs.declared.Nearby.{Nearby}
+use Rattle.nearest_few.proofs.Nearby as T
+use Rattle.nearest_few.proofs.Nearby.Laws as T′
 use Rattle.nearest_visit.proofs.visit as visit
 use Rattle.nearest_visit.proofs.visit.Symbol as visit-def
 use Rattle.nearest_visit.proofs.visit.Symbol.{name as #nearest-visit·visit}

@@ -21,7 +21,7 @@ use Rattle.bucket_rules.proofs.Finding.{Found, found}
 use Rattle.bucket_rules.proofs.Fill.{Changeable, changeable}
 use Rattle.look_up.specs.Spots.{placeOf}
 use Rattle.buckets.specs.Lent.{Housed}
-use Rattle.remove.specs.Lost.{Lost}
+use Rattle.settle.specs.Lost.{Lost}
 use Rattle.remove.proofs.Leaving.{housed-of, slot-row, within-built, within-room, some-live, lost-one, housed-still}
 use Rattle.remove.proofs.Refusing.{refused-first, refused-tag, refused-missing, accepted-call}
 use Rattle.remove.proofs.remove.Statement.{statement}

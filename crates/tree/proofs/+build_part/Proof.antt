@@ -12,7 +12,7 @@ use Rattle.metric_rules.specs.declared.Profile.{Profile}
 use Rattle.metric_rules.specs.Row.{Row, zeroRow}
 use Rattle.metric_rules.specs.Distance.{distance, spaceOf}
 use Rattle.tree_rules.specs.Layout.{cost, placed, layoutWithin}
-use Rattle.tree_sort.specs.Working.{rankedOf}
+use Rattle.working_rows.specs.Working.{rankedOf}
 use Rattle.tree_rules.proofs.Cost.{cost-few, cost-bound}
 use Rattle.tree.proofs.Halving.{Built, Arranged, target-set, source-set, leftTarget, leftSource, left-asks, rightTarget, rightSource, right-asks, target-length, source-length, slots-length, rows-length, part-count, part-laid, part-cleared}
 use Prim.Native.Nat.{ℕ, _+_, _*_, _/_, _^_, _<_, _≤_}
@@ -21,7 +21,7 @@ use borrow.Fn.PlainCycle.{Measures, is, falls, and}
 use Rattle.tree.proofs.build_part.Reads as build-part
 use Rattle.tree.proofs.build_part.Kinds as build-part-kinds
 use Rattle.tree.proofs.+build_part.Lts-build_part as build-part-lts
-use Rattle.tree.proofs.arrange.Reads as arrange-reads
+use Rattle.tree_arrange.proofs.arrange.Reads as arrange-reads
 use Rattle.tree.proofs.last_distance.Reads as last-distance-reads
 use Rattle.tree.proofs.place.Reads as place-reads
 use Rattle.tree.proofs.+build_part.{statement}

@@ -9,10 +9,10 @@ use lib.ListN.{length, replicate}
 use Rattle.metric_rules.specs.Row.{Row, zeroRow}
 use Rattle.metric_rules.specs.Distance.{distance, spaceOf}
 use Rattle.tree_rules.specs.Layout.{cost, layoutWithin}
-use Rattle.tree_sort.specs.Working.{rankedOf, ranksWritten, RanksApart}
+use Rattle.working_rows.specs.Working.{rankedOf, ranksWritten, RanksApart}
 use Rattle.tree_rules.specs.Guided.{Whole}
 use Rattle.tree.proofs.Halving.{layout-within}
-use Rattle.tree.proofs.Arranging.{ranks-written-whole, ranks-written-apart, layout-ranks}
+use Rattle.tree_arrange.proofs.Arranging.{ranks-written-whole, ranks-written-apart, layout-ranks}
 use Rattle.tree.proofs.build.Statement.{statement}
 use Rattle.tree.proofs.build.Tie as tie
 

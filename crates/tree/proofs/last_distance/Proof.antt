@@ -4,8 +4,8 @@ use mathlib.Core.Path.{sym, ap}
 use Prim.Native.Nat.{ℕ}
 use lib.ListN.{take, drop}
 use Rattle.metric_rules.specs.Row.{thresholdOf}
-use Rattle.tree_sort.specs.Working.{lastMeasured}
-use Rattle.tree.proofs.Arranging.{last-row}
+use Rattle.working_rows.specs.Working.{lastMeasured}
+use Rattle.tree_arrange.proofs.Arranging.{last-row}
 use borrow.Author.Needs.{needs}
 use Rattle.tree.proofs.last_distance.Statement.{statement}
 use Rattle.tree.proofs.last_distance.Tie as tie

@@ -10,10 +10,10 @@ use Prim.Native.Nat.{ℕ, _+_, _-_, _≤_, _<_}
 use lib.Seq.{take-all}
 use lib.ListN.{length, take, getD, set, length-set}
 use Rattle.metric_rules.specs.Row.{Row, withMark}
-use Rattle.tree_sort.specs.Working.{ranksWritten}
+use Rattle.working_rows.specs.Working.{ranksWritten}
 use Rattle.tree_rules.specs.Guided.{Whole}
 use Rattle.tree_rules.proofs.Parts.{writtenTo, written-at, written-next, written-all}
-use Rattle.tree.proofs.Arranging.{whole-next, ranks-length, ranks-at}
+use Rattle.tree_arrange.proofs.Arranging.{whole-next, ranks-length, ranks-at}
 use Rattle.tree.proofs.write_ranks.Statement.{statement}
 use Rattle.tree.proofs.write_ranks.Tie as tie
 

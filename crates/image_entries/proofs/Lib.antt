@@ -1,0 +1,7 @@
+-- The first slot that differs from a layout, and entries in the place of ranked rows.
+pub mod FirstFault
+pub mod Ranking
+pub mod Apart
+pub mod Arranging
+pub mod Filling
+pub mod Reading

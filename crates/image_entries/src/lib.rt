@@ -1,0 +1,69 @@
+// A bucket's slots as entries, and whether their tags are apart.
+// An entry's first word is tag · 2^12 + place, the place being the slot's number in its bucket, and its second a distance.
+ghost use mathlib.Core.Path.{_≡_};
+ghost use Prim.Native.Nat.{_≤_, _<_, _^_};
+ghost use mathlib.Core.List.{map};
+ghost use lib.ListN.{length};
+ghost use Rattle.metric_rules.specs.Lists.{distinct};
+ghost use Rattle.tree_rules.specs.Guided.{All};
+ghost use Rattle.search_rules.specs.Range.{ordered};
+ghost use Rattle.image_entries.specs.Entries.{places, entryTag, tagEntry, Fresh, TagsFit, slotEntries};
+ghost use Rattle.image_entries.specs.InImage.{InImage, slotIn};
+use entry_sort::sort_entries;
+use image_read::row_in;
+use metric_rules::Row;
+use rows::tag_of;
+use search_rules::Entry;
+
+// A bucket's slots in an image: the places of the tags and of the records, the bucket's first slot among all, and the number of its slots.
+pub struct Slots {
+    pub tags: usize,
+    pub records: usize,
+    pub first: usize,
+    pub count: usize,
+}
+
+// Slot i of a bucket.
+pub fn slot_in(image: &[u8], at: Slots, i: usize) -> Row
+    requires { ⌜ InImage (now image) at × (i < at .count) ⌝ }
+    ensures { λ r. ⌜ r ≡ slotIn (now (image .entry)) at i ⌝ }
+{
+    row_in(image, at.tags, at.records, at.first + i)
+}
+
+// The entry of a tag and a place.
+pub fn tag_entry(tag: u64, place: usize) -> Entry
+    requires { ⌜ (tag < 2 ^ 50) × (place < places) ⌝ }
+    ensures { λ r. ⌜ r ≡ tagEntry tag place ⌝ }
+{
+    [tag * 4096 + place as u64, 0]
+}
+
+// The entries of a bucket's slots.
+pub fn enter_slots(image: &[u8], at: Slots, entries: &mut [Entry])
+    requires { ⌜ InImage (now image) at × (at .count ≤ places) × (length (now entries) ≡ at .count) × TagsFit (slotIn (now image) at) (at .count) ⌝ }
+    ensures { λ _. ⌜ now (entries .exit) ≡ slotEntries (slotIn (now (image .entry)) at) (at .count) ⌝ }
+{
+    let mut i = 0;
+    while i < at.count {
+        entries[i] = tag_entry(tag_of(slot_in(image, at, i)), i);
+        i += 1;
+    }
+}
+
+// Whether no tag occurs twice among entries without a distance. Sorted, equal tags stand side by side.
+pub fn tags_apart(entries: &mut [Entry]) -> bool
+    requires { ⌜ All Fresh (now entries) ⌝ }
+    ensures apart { λ r. ⌜ r ≡ distinct (map entryTag (now (entries .entry))) ⌝ }
+    ensures sorted { λ _. ⌜ now (entries .exit) ≡ ordered (now (entries .entry)) ⌝ }
+{
+    sort_entries(entries);
+    let mut i = 0;
+    while i + 1 < entries.len() {
+        if entries[i][0] / 4096 == entries[i + 1][0] / 4096 {
+            return false;
+        }
+        i += 1;
+    }
+    true
+}

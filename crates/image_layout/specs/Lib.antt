@@ -1,3 +1,0 @@
-pub mod FirstFault
-pub mod Entries
-pub mod InImage

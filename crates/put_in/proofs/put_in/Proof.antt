@@ -1,0 +1,108 @@
+-- `put_in::put_in` meets its contract: each step's promise is handed to the laws of an accepted add. Assumes nothing.
+use borrow.Author.Needs.{needs}
+use native.Mathlib.Omega.{arith}
+use Prim.Native.Nat.{ℕ}
+use mathlib.Core.Path.{refl, _∙_, ap, ap₂, subst⁻¹}
+use mathlib.Core.List.{List}
+use lib.ListN.{set, length-set}
+use lib.Seq.{sets}
+use Rattle.metric_rules.specs.Lists.{countFrom}
+use Rattle.metric_rules.specs.Row.{Row}
+use Rattle.bucket_rules.specs.Geometry.{workRows}
+use Rattle.bucket_rules.specs.Rebuild.{liveItems}
+use Rattle.bucket_rules.proofs.Adding.{lowest-within}
+use Rattle.buckets.specs.Lent.{Lent, Housed}
+use Rattle.put_in.proofs.PutIn.{Accepted, changes, housed, few, some-gathered, cost-counted, number-gathered, target-found, target-fits, work-cleared, table-built, lent-emptied}
+use Rattle.put_in.proofs.put_in.Statement.{statement}
+use Rattle.put_in.proofs.put_in.Tie as tie
+
+ok : (c : tie.Start) → Accepted (c .args .table .now) (c .args .work .now) (c .args .tag) (c .args .profile)
+ok c = record { none = c .pre .1 }
+
+house : (c : tie.Start) → Housed (c .args .table .now) (c .args .order .t)
+house c = housed (ok c) (c .args .order .t) (c .pre .0)
+
+lowest-empty-requires : tie.Need-lowest-empty-requires
+lowest-empty-requires c κs = house (c .before) .lent
+
+row-of-requires : tie.Need-row-of-requires
+row-of-requires c κs = search needs
+
+slice-set-from-work : tie.Need-slice-set-from-work
+slice-set-from-work c = omega (arith, few (ok (c .before .before .before)) .0, some-gathered (ok (c .before .before .before)), changes (ok (c .before .before .before)) .roomy)
+
+gather-below-requires : tie.Need-gather-below-requires
+gather-below-requires c κs =
+    let s = c .before .before .before .before .before in
+    let w : List Row = s .args .work .now in
+    let l = c .before .before .before .lowest-empty in (
+      house s,
+      omega (arith, l .ensures, lowest-within (s .args .table .now), s .pre .0),
+      omega (arith, number-gathered (ok s) (l .ensures) refl, few (ok s) .0, changes (ok s) .roomy, length-set w 0 (c .before .before .row-of .result)),
+    )
+
+add-bucket-requires : tie.Need-add-bucket-requires
+add-bucket-requires c κs =
+    let s = c .before .before .before .before .before .before .before in
+    let l = c .before .before .before .before .before .lowest-empty in
+    let g = c .before .gather-below in (
+      omega (arith, l .ensures, lowest-within (s .args .table .now), changes (ok s) .passed .framed .order),
+      omega (arith, g .ensures .0),
+      omega (arith, number-gathered (ok s) (l .ensures) (g .ensures .0), few (ok s) .1),
+    )
+
+empty-below-requires : tie.Need-empty-below-requires
+empty-below-requires c κs =
+    let s = c .before .before .before .before .before .before .before .before .before in
+    (house s .lent, omega (arith, c .before .before .before .before .before .before .before .lowest-empty .ensures, lowest-within (s .args .table .now), s .pre .0))
+
+build-bucket-requires : tie.Need-build-bucket-requires
+build-bucket-requires c κs =
+    let s = c .before .before .before .before .before .before .before .before .before .before .before .before .before in
+    let l = c .before .before .before .before .before .before .before .before .before .before .before .lowest-empty in
+    let g = c .before .before .before .before .before .before .before .gather-below in
+    let e = c .before .before .before .empty-below in
+    let fits = target-fits (ok s) (l .ensures) (g .ensures .0) (c .before .before .before .before .before .add-bucket .ensures) in (
+      subst⁻¹ (λ (u : List Row). Lent u (s .args .order .t)) (e .ensures) (lent-emptied (ok s) (s .args .order .t) (s .pre .0) (l .ensures)),
+      omega (arith, fits .0, s .pre .0),
+      fits .1,
+      omega (arith, g .kept .1 .1 .1 .0, length-set (s .args .work .now) 0 (c .before .before .before .before .before .before .before .before .before .before .row-of .result), changes (ok s) .roomy, ap workRows (s .pre .0)),
+    )
+
+same-length : tie.Need-same-length
+same-length c = search needs
+
+same-length-2 : tie.Need-same-length-2
+same-length-2 c =
+    c .before .before .build-bucket .kept .1 .1 .1 .0 ∙ c .before .before .before .before .before .before .before .before .before .before .gather-below .kept .1 .1 .1 .0 ∙ length-set (c .before .before .before .before .before .before .before .before .before .before .before .before .before .before .before .before .args .work .now) 0 (c .before .before .before .before .before .before .before .before .before .before .before .before .before .row-of .result)
+
+returns : tie.Need-returns
+returns c =
+    let s = c .before .before .before .before .before .before .before .before .before .before .before .before .before .before .before .before in
+    let l = c .before .before .before .before .before .before .before .before .before .before .before .before .before .before .lowest-empty .ensures in
+    let g = c .before .before .before .before .before .before .before .before .before .before .gather-below .ensures in
+    let b = c .before .before .build-bucket .ensures in
+    let to = c .before .before .before .before .before .before .before .before .add-bucket .ensures in
+    let w : List Row = s .args .work .now in
+    let stored = g .1 ∙ ap (λ (r : Row). sets (set w 0 r) 1 (liveItems (s .args .table .now) (countFrom 0 (c .before .before .before .before .before .before .before .before .before .before .before .before .before .before .lowest-empty .result)))) (c .before .before .before .before .before .before .before .before .before .before .before .before .before .row-of .ensures) in (
+      ap₂ (λ (k d : ℕ). record { refusal = 0; bucket = k; distances = d }) (target-found (ok s) l (g .0) to) (cost-counted (ok s) l (g .0) (b .1 .1)),
+      (
+        table-built (ok s) l (g .0) stored to (c .before .before .before .before .before .before .empty-below .ensures) (b .0),
+        b .1 .0 ∙ work-cleared (ok s) l (g .0) stored (s .args .order .t) (s .pre .0),
+      ),
+    )
+
+pub put-in-spec : {M : Type 1} → statement M
+put-in-spec =
+    tie.close
+    (tie.spec
+    lowest-empty-requires
+    row-of-requires
+    slice-set-from-work
+    gather-below-requires
+    add-bucket-requires
+    empty-below-requires
+    build-bucket-requires
+    same-length
+    same-length-2
+    returns)

@@ -1,0 +1,2 @@
+-- A part as a build arranges it.
+pub mod Arranging

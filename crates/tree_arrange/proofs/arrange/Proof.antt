@@ -1,0 +1,168 @@
+-- `tree_arrange::arrange` meets its contract: what stands behind the first row is measured from it, copied to the destination and sorted, and the
+-- row brought to the front is the least. Assumes nothing.
+use native.Mathlib.Omega.{arith}
+use mathlib.Core.Path.{_≡_, sym, _∙_, ap, ap₂}
+use mathlib.Core.Bool.{true}
+use mathlib.Core.List.{List, [], _∷_, _++_, map, List·Permᴰ, Permᴰ·symm}
+use Prim.Native.Nat.{ℕ, _-_, _≤_, _<_}
+use lib.Seq.{getD-take}
+use lib.ListN.{length, take, drop, getD, length-set, length-take, length-drop}
+use borrow.Rule.Slice.PartMut.{putMid}
+use Rattle.metric_rules.specs.Row.{Row}
+use Rattle.metric_rules.specs.Distance.{Space, distance, spaceOf}
+use Rattle.metric_rules.specs.Lists.{every}
+use Rattle.tree_rules.specs.Sorting.{keyLe, sortBy}
+use Rattle.working_rows.specs.Working.{workKey, firstKey, RanksApart, measuredFrom, sortedFrom, arranged}
+use Rattle.tree_rules.proofs.Lists.{all-perm}
+use Rattle.tree_rules.proofs.Tests.{every-all}
+use Rattle.tree_rules.proofs.Sorting.{NotAfter}
+use Rattle.tree_rules.proofs.Parts.{part-rest, put-rest, part-behind, put-behind}
+use Rattle.tree_arrange.proofs.Arranging.{brought, brought-perm, brought-first, arranged-by}
+use borrow.Author.Needs.{needs}
+use Rattle.tree_arrange.proofs.arrange.Statement.{statement}
+use Rattle.tree_arrange.proofs.arrange.Tie as tie
+
+-- a slice whose rest was lent and given back as `new`: what is lent of it next is `new`
+again : (whole new : List Row) → 1 ≤ length whole
+    → take (length (putMid 1 (length whole - 1) whole new) - 1) (drop 1 (putMid 1 (length whole - 1) whole new)) ≡ new
+again whole new h =
+    ap (λ (w : List Row). take (length w - 1) (drop 1 w)) (put-rest 1 whole new)
+    ∙ part-behind 1 (take 1 whole) new (omega (arith, length-take 1 whole))
+
+-- and given back once more as `last`
+twice : (whole new last : List Row) → 1 ≤ length whole
+    → putMid 1 (length (putMid 1 (length whole - 1) whole new) - 1) (putMid 1 (length whole - 1) whole new) last ≡ take 1 whole ++ last
+twice whole new last h =
+    ap (λ (w : List Row). putMid 1 (length w - 1) w last) (put-rest 1 whole new)
+    ∙ put-behind 1 (take 1 whole) new (omega (arith, length-take 1 whole)) last
+
+module _ (space : Space) (src : List Row) (at : ℕ) (within : at < length src)
+    (least : every (λ x. keyLe (firstKey (getD src at [])) (firstKey x)) src ≡ true) (apart : RanksApart src) where
+  -- the least row in front, and the others sorted from it
+  in-order :
+      take 1 (brought src at) ++ sortBy workKey (map (measuredFrom (distance space) (getD src at [])) (drop 1 (brought src at)))
+      ≡ arranged (distance space) src
+  unfolding sortedFrom
+  in-order =
+      let v : Row = getD src at [] in
+      let p : List·Permᴰ (v ∷ drop 1 (brought src at)) src = brought-perm src at within in
+      ap (λ (f : List Row). f ++ sortBy workKey (map (measuredFrom (distance space) v) (drop 1 (brought src at)))) (brought-first src at within)
+      ∙ sym (arranged-by (distance space) v (drop 1 (brought src at)) src p
+      (all-perm (NotAfter firstKey v) (Permᴰ·symm p) (every-all (λ x. keyLe (firstKey v) (firstKey x)) src least) .1) apart)
+
+  finished :
+      (first measured last : List Row) → first ≡ brought src at
+      → measured ≡ map (measuredFrom (distance space) (getD first 0 [])) (take (length first - 1) (drop 1 first))
+      → last ≡ sortBy workKey (take (length (putMid 1 (length first - 1) first measured) - 1) (drop 1 (putMid 1 (length first - 1) first measured)))
+      → putMid 1 (length (putMid 1 (length first - 1) first measured) - 1) (putMid 1 (length first - 1) first measured) last ≡ arranged (distance space) src
+  finished first measured last e m l =
+      let n : length first ≡ length src = ap length e ∙ simp length-set in
+      let v : getD first 0 [] ≡ getD src at [] =
+      sym (getD-take 1 first 0 [] (omega arith))
+      ∙ ap (λ (f : List Row). getD (take 1 f) 0 []) e
+      ∙ ap (λ (f : List Row). getD f 0 []) (brought-first src at within) in
+      twice first measured last (omega arith)
+      ∙ ap (λ (q : List Row). take 1 first ++ q)
+      (l ∙ ap (sortBy workKey) (again first measured (omega arith) ∙ m ∙ ap₂ (λ (w : Row) (r : List Row). map (measuredFrom (distance space) w) r) v (part-rest 1 first)))
+      ∙ ap (λ (f : List Row). take 1 f ++ sortBy workKey (map (measuredFrom (distance space) (getD src at [])) (drop 1 f))) e
+      ∙ in-order
+
+first-at-requires : tie.Need-first-at-requires
+first-at-requires c κs = search needs
+
+bring-first-requires : tie.Need-bring-first-requires
+bring-first-requires c κs = search needs
+
+slice-copy-out-v : tie.Need-slice-copy-out-v
+slice-copy-out-v c = search needs
+
+sub-measure : tie.Need-sub-measure
+sub-measure c = search needs
+
+part-measure-start : tie.Need-part-measure-start
+part-measure-start c = search needs
+
+part-measure-end : tie.Need-part-measure-end
+part-measure-end c = search needs
+
+sub-measure-2 : tie.Need-sub-measure-2
+sub-measure-2 c = search needs
+
+part-measure-start-2 : tie.Need-part-measure-start-2
+part-measure-start-2 c = search needs
+
+part-measure-end-2 : tie.Need-part-measure-end-2
+part-measure-end-2 c = search needs
+
+measure-requires : tie.Need-measure-requires
+measure-requires c κs = search needs
+
+sub-sort : tie.Need-sub-sort
+sub-sort c = search needs
+
+part-sort-start : tie.Need-part-sort-start
+part-sort-start c = search needs
+
+part-sort-end : tie.Need-part-sort-end
+part-sort-end c = search needs
+
+sub-sort-2 : tie.Need-sub-sort-2
+sub-sort-2 c = search needs
+
+part-sort-start-2 : tie.Need-part-sort-start-2
+part-sort-start-2 c = search needs
+
+part-sort-end-2 : tie.Need-part-sort-end-2
+part-sort-end-2 c = search needs
+
+sort-requires : tie.Need-sort-requires
+sort-requires c κs =
+    let a = c .before .before .before .before .before .before .before .before .before .before .before .before .before .args in
+    let m = c .before .before .before .before .measure in
+    let b : List Row = c .before .before .before .before .before .before .before .before .before .bring-first .last .0 in
+    let k : length b ≡ length (a .src .now) = c .before .before .before .before .before .before .before .before .before .bring-first .kept .0 in
+    let p = c .before .before .before .before .before .before .before .before .before .before .before .before .before .pre in
+    again (a .dst .now) (m .last .0) (omega (arith, p .0, p .1)) ∙ m .ensures .1 .0 ∙ sym (again b (m .last .1 .0) (omega (arith, k, p .1)))
+
+same-length : tie.Need-same-length
+same-length c = search needs
+
+same-length-2 : tie.Need-same-length-2
+same-length-2 c = search needs
+
+returns : tie.Need-returns
+returns c =
+    let s = c .before .before .before .before .before .before .before .before .before .before .before .before .before .before .before .before in
+    let f = c .before .before .before .before .before .before .before .before .before .before .before .before .before .before .first-at in
+    let b = c .before .before .before .before .before .before .before .before .before .before .before .before .bring-first in
+    let m = c .before .before .before .before .before .before .before .measure in
+    let k : length (b .last .0) ≡ length (s .args .src .now) = b .kept .0 in (
+      finished (spaceOf (s .args .header .now)) (s .args .src .now) (f .result) (f .ensures .0) (f .ensures .1) (s .pre .2) (b .last .0) (m .last .1 .0) (c .before .before .sort .last .0)
+          (b .ensures) (m .ensures .0) (c .before .before .sort .ensures),
+      m .ensures .1 .1 ∙ ap length (part-rest 1 (b .last .0)) ∙ length-drop 1 (b .last .0) ∙ ap (λ (n : ℕ). n - 1) k,
+    )
+
+pub arrange-spec : {M : Type 1} → statement M
+arrange-spec =
+    tie.close
+    (tie.spec
+    first-at-requires
+    bring-first-requires
+    slice-copy-out-v
+    sub-measure
+    part-measure-start
+    part-measure-end
+    sub-measure-2
+    part-measure-start-2
+    part-measure-end-2
+    measure-requires
+    sub-sort
+    part-sort-start
+    part-sort-end
+    sub-sort-2
+    part-sort-start-2
+    part-sort-end-2
+    sort-requires
+    same-length
+    same-length-2
+    returns)
