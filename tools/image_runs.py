@@ -168,4 +168,5 @@ def main():
             sys.exit(f"{path.name} is not what the script writes")
 
 
-main()
+if __name__ == "__main__":
+    main()
