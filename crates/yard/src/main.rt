@@ -1,13 +1,15 @@
-// The program: reads standard input in pieces, gathers lines, has each answered and writes the answer at once.
+// The program: reads standard input in pieces, has the conversation take one step after the other, and writes at once what each step prints.
 ghost use mathlib.Core.Path.{_≡_};
-ghost use Prim.Native.Nat.{_+_, _*_, _≤_, _<_};
+ghost use Prim.Native.Nat.{_+_, _-_, _*_, _^_, _≤_, _<_};
 ghost use lib.ListN.{length};
+ghost use Rattle.yard_answer.specs.Lent.{lent};
+ghost use Rattle.yard_session.specs.Fed.{Midway, stretch};
+ghost use Rattle.yard_session.specs.Stands.{Stands, Takes, Ends};
 use libc::STDIN_FILENO;
 use libc::STDOUT_FILENO;
 use metric_rules::Row;
 use search_rules::Entry;
-use yard_lines::Held;
-use yard_rules::Stage;
+use yard_session::Place;
 
 // The rows of a table of order 8, its work area, and as many entries as it has slots in use at most.
 const TABLE_ROWS: usize = 521;
@@ -22,231 +24,84 @@ const OUT: usize = 65 + 37 * ENTRIES;
 // No command is longer than 90 bytes.
 const LINE: usize = 128;
 
-// How far the conversation is: the stage, the number of the line that comes in, what is held of it, and the place in the piece that was read.
-pub struct Place {
-    pub stage: Stage,
-    pub number: u64,
-    pub length: usize,
-    pub over: bool,
+// How many bytes of the piece there are, and the place of the next one.
+pub struct Ahead {
+    pub end: usize,
     pub from: usize,
 }
 
-// The line held in this much of the area; one that is too long for it is answered as an empty one is, with `?`.
-fn held_line(area: &[u8], n: usize, over: bool) -> &[u8]
-    requires { ⌜ length (now area) ≤ 128 ⌝ }
-    ensures { λ r. ⌜ length (now r) ≤ 128 ⌝ }
+// The next byte: of the piece while it has one, and else of the next piece, which is empty at the end of the input.
+fn next_byte(piece: &mut [u8], end: usize, from: usize) -> Ahead
+    requires { ⌜ end ≤ length (now piece) ⌝ }
+    ensures { λ r. ⌜ r .end ≤ length (now (piece .entry)) ⌝ }
+    ensures { λ r. ⌜ (from < end → (r .end ≡ end) × (r .from ≡ from) × (now (piece .exit) ≡ now (piece .entry))) ⌝ }
+    ensures { λ r. ⌜ (end ≤ from → r .from ≡ 0) ⌝ }
 {
-    if over {
-        return &area[..0];
+    if from < end {
+        return Ahead { end, from };
     }
-    if n <= area.len() {
-        return &area[..n];
-    }
-    &area[..0]
-}
-
-fn put(out: &[u8], n: usize) {
-    if n <= out.len() {
-        io::write_all(STDOUT_FILENO, &out[..n]);
+    let got = libc::read(STDIN_FILENO, piece);
+    Ahead {
+        end: io::count(got, piece),
+        from: 0,
     }
 }
 
-// The numbers of the lines end at the largest of the type, which no input reaches.
-fn next_number(number: u64) -> u64 {
-    if number < u64::MAX {
-        number + 1
-    } else {
-        number
-    }
+fn put(out: &[u8], n: usize)
+    requires { ⌜ n ≤ length (now out) ⌝ }
+{
+    io::write_all(STDOUT_FILENO, &out[..n]);
 }
 
-// One line answered, and its answer written.
-fn say(
+// One step, and what it prints is written.
+fn turn(
     table: &mut [Row],
     work: &mut [Row],
     result: &mut [Entry],
     out: &mut [u8],
-    line: &[u8],
-    stage: Stage,
-    number: u64,
-) -> Stage
-    requires { ⌜ (65 + 37 * length (now result) ≤ length (now out)) × (length (now line) ≤ 128) ⌝ }
-{
-    let spoke = yard_talk::talk(table, work, result, out, stage, number, line);
-    put(out, spoke.length);
-    spoke.stage
-}
-
-// The line that ends at a line feed or at the end of the input.
-fn end_line(
-    table: &mut [Row],
-    work: &mut [Row],
-    result: &mut [Entry],
-    out: &mut [u8],
-    area: &[u8],
-    at: Place,
+    area: &mut [u8],
+    piece: &[u8],
     from: usize,
-) -> Place
-    requires { ⌜ (65 + 37 * length (now result) ≤ length (now out)) × (length (now area) ≤ 128) ⌝ }
-    ensures { λ r. ⌜ r .from ≡ from ⌝ }
-{
-    let before = at.stage;
-    let line = held_line(area, at.length, at.over);
-    let stage = say(table, work, result, out, line, before, at.number);
-    Place {
-        stage,
-        number: next_number(at.number),
-        length: 0,
-        over: false,
-        from,
-    }
-}
-
-// A piece up to its next line feed, or to its end.
-fn take_line(
-    table: &mut [Row],
-    work: &mut [Row],
-    result: &mut [Entry],
-    out: &mut [u8],
-    area: &mut [u8],
-    piece: &[u8],
     at: Place,
 ) -> Place
-    requires { ⌜ (65 + 37 * length (now result) ≤ length (now out)) × (length (now area) ≤ 128) × (at .from < length (now piece)) ⌝ }
-    ensures { λ r. ⌜ at .from < r .from ⌝ }
+    requires { ⌜ (65 + 37 * length (now result) ≤ length (now out)) × (90 ≤ length (now area)) × (length (now area) < 2 ^ 32) × (at .number < 2 ^ 64 - 1) ⌝ }
+    ensures { λ r. ⌜ r .number ≤ at .number + 1 ⌝ }
+    ensures { λ r. ⌜ ((m : Midway) → Stands m (lent (now (table .entry)) (now (work .entry)) (now (result .entry))) (now (area .entry)) at → from < length (now (piece .entry)) → Takes m (stretch (now (piece .entry)) from (r .from)) (lent (now (table .exit)) (now (work .exit)) (now (result .exit))) (now (area .exit)) (now (out .entry)) (now (out .exit)) r) ⌝ }
+    ensures { λ r. ⌜ ((m : Midway) → Stands m (lent (now (table .entry)) (now (work .entry)) (now (result .entry))) (now (area .entry)) at → length (now (piece .entry)) ≤ from → Ends m (lent (now (table .exit)) (now (work .exit)) (now (result .exit))) (now (out .entry)) (now (out .exit)) r) ⌝ }
 {
-    let held = Held {
-        length: at.length,
-        over: at.over,
-    };
-    let more = yard_lines::gather(area, held, piece, at.from);
-    let stage = at.stage;
-    let number = at.number;
-    if piece.len() <= more.end {
-        return Place {
-            stage,
-            number,
-            length: more.length,
-            over: more.over,
-            from: piece.len(),
-        };
+    if from < piece.len() {
+        let next = yard_session::take_line(table, work, result, out, area, piece, from, at);
+        put(out, next.printed);
+        return next;
     }
-    let ending = Place {
-        stage,
-        number,
-        length: more.length,
-        over: more.over,
-        from: 0,
-    };
-    end_line(table, work, result, out, area, ending, more.end + 1)
+    let last = yard_session::take_end(table, work, result, out, area, at);
+    put(out, last.printed);
+    last
 }
 
-// All lines of a piece.
-fn take_piece(
-    table: &mut [Row],
-    work: &mut [Row],
-    result: &mut [Entry],
-    out: &mut [u8],
-    area: &mut [u8],
-    piece: &[u8],
-    at: Place,
-) -> Place
-    requires { ⌜ (65 + 37 * length (now result) ≤ length (now out)) × (length (now area) ≤ 128) ⌝ }
-{
-    let mut place = at;
-    while place.from < piece.len() {
-        place = take_line(table, work, result, out, area, piece, place);
-    }
-    place
-}
-
-// After the last line feed there is a line where there is a byte; no line at all is an empty first line.
-fn take_end(
-    table: &mut [Row],
-    work: &mut [Row],
-    result: &mut [Entry],
-    out: &mut [u8],
-    area: &[u8],
-    at: Place,
-)
-    requires { ⌜ (65 + 37 * length (now result) ≤ length (now out)) × (length (now area) ≤ 128) ⌝ }
-{
-    if at.length > 0 {
-        end_line(table, work, result, out, area, at, 0);
-        return;
-    }
-    if at.number == 1 {
-        end_line(table, work, result, out, area, at, 0);
-    }
-}
-
-fn is_ended(stage: Stage) -> bool {
-    match stage {
-        Stage::Waiting => false,
-        Stage::Serving => false,
-        Stage::Ended => true,
-    }
-}
-
-// The next piece of the input, and whether to go on after it.
-fn take_some(
-    table: &mut [Row],
-    work: &mut [Row],
-    result: &mut [Entry],
-    out: &mut [u8],
-    area: &mut [u8],
-    at: Place,
-) -> Place
-    requires { ⌜ (65 + 37 * length (now result) ≤ length (now out)) × (length (now area) ≤ 128) ⌝ }
-{
-    let mut piece = io::buffer();
-    let got = libc::read(STDIN_FILENO, &mut piece);
-    let n = io::count(got, &piece);
-    let stage = at.stage;
-    if n == 0 {
-        take_end(table, work, result, out, area, at);
-        return Place {
-            stage: Stage::Ended,
-            number: at.number,
-            length: 0,
-            over: false,
-            from: 0,
-        };
-    }
-    let start = Place {
-        stage,
-        number: at.number,
-        length: at.length,
-        over: at.over,
-        from: 0,
-    };
-    take_piece(table, work, result, out, area, &piece[..n], start)
-}
-
-// A proved loop has to end, and nothing says that the input does: it counts its turns down from a number that no run uses up.
+// A proved loop has to end, and nothing says that the input does: it counts its turns down from a number that no run uses up. A turn takes one line at
+// most, so the number of a line stays below the largest of its type.
 fn converse(
     table: &mut [Row],
     work: &mut [Row],
     result: &mut [Entry],
     out: &mut [u8],
     area: &mut [u8],
+    piece: &mut [u8],
 )
-    requires { ⌜ (65 + 37 * length (now result) ≤ length (now out)) × (length (now area) ≤ 128) ⌝ }
+    requires { ⌜ (65 + 37 * length (now result) ≤ length (now out)) × (90 ≤ length (now area)) × (length (now area) < 2 ^ 32) ⌝ }
 {
-    let mut place = Place {
-        stage: Stage::Waiting,
-        number: 1,
-        length: 0,
-        over: false,
-        from: 0,
-    };
-    let mut turns = u64::MAX;
+    let mut at = yard_session::begin();
+    let mut end = 0;
+    let mut turns = u64::MAX - 1;
     while turns > 0 {
-        let stage = place.stage;
-        if is_ended(stage) {
+        let stage = at.stage;
+        if yard_session::is_ended(stage) {
             return;
         }
-        place = take_some(table, work, result, out, area, place);
+        let next = next_byte(piece, end, at.from);
+        end = next.end;
+        at = turn(table, work, result, out, area, &piece[..end], next.from, at);
         turns -= 1;
     }
 }
@@ -257,5 +112,13 @@ fn main() {
     let mut result = [[0u64; 2]; ENTRIES];
     let mut out = [0u8; OUT];
     let mut area = [0u8; LINE];
-    converse(&mut table, &mut work, &mut result, &mut out, &mut area);
+    let mut piece = io::buffer();
+    converse(
+        &mut table,
+        &mut work,
+        &mut result,
+        &mut out,
+        &mut area,
+        &mut piece,
+    );
 }

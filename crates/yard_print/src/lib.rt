@@ -76,7 +76,7 @@ fn put_entry(out: &mut [u8], at: usize, entry: Entry) -> usize
 // The lines of the first entries of a result area.
 pub fn put_entries(out: &mut [u8], from: usize, area: &[Entry], found: usize) -> usize
     requires { ⌜ (found ≤ length (now area)) × (from + 37 * found ≤ length (now out)) ⌝ }
-    ensures { λ r. ⌜ (now (out .exit) ≡ sets (now (out .entry)) from (entriesText (take found (now (area .entry))))) × (r ≡ from + length (entriesText (take found (now (area .entry))))) ⌝ }
+    ensures { λ r. ⌜ (now (out .exit) ≡ sets (now (out .entry)) from (entriesText (take found (now (area .entry))))) × (r ≡ from + length (entriesText (take found (now (area .entry))))) × (r ≤ from + 37 * found) ⌝ }
 {
     let mut at = from;
     let mut i = 0;

@@ -1,11 +1,12 @@
 -- The numbers of a reply by its refusal, and two runs of bytes that adjoin.
-use Prim.Native.Nat.{ℕ, zero, suc, _+_}
+use Prim.Native.Nat.{ℕ, zero, suc, _+_, _≤_}
 use native.Mathlib.Omega.{arith}
 use mathlib.Core.Path.{_≡_, refl, ap, sym, _∙_}
 use mathlib.Core.List.{List, [], _∷_, _++_}
 use lib.ListN.{length, length-append}
 use lib.Seq.{sets}
 use Rattle.yard_rules.specs.Reply.{replyNumbers}
+use Rattle.yard_reply.specs.Put.{Puts}
 
 pub accepted : (refusal : ℕ) (ns : List ℕ) → refusal ≡ 0 → 0 ∷ ns ≡ replyNumbers refusal ns
 unfolding replyNumbers
@@ -21,8 +22,8 @@ sets-on l i j [] b e = let same : j ≡ i = omega arith in ap (λ (k : ℕ). set
 sets-on l i j (x ∷ a) b e = sets-on _ (suc i) j a b (omega arith)
 
 -- a run of bytes and the run after it
-pub both-put : (l middle after : List ℕ) (at end : ℕ) (xs ys : List ℕ) → middle ≡ sets l 0 xs → at ≡ length xs → after ≡ sets middle at ys → end ≡ at + length ys
-    → (after ≡ sets l 0 (xs ++ ys)) × (end ≡ length (xs ++ ys))
-both-put l middle after at end xs ys e place f long =
+pub both-put : (l middle after : List ℕ) (at end : ℕ) (xs ys : List ℕ) → middle ≡ sets l 0 xs → at ≡ length xs → after ≡ sets middle at ys → end ≡ at + length ys → end ≤ length l
+    → Puts l after end (xs ++ ys)
+both-put l middle after at end xs ys e place f long fits =
     let from : at ≡ 0 + length xs = omega arith in
-    (f ∙ ap (λ m. sets m at ys) e ∙ sets-on l 0 at xs ys from, omega (arith, length-append xs ys))
+    (f ∙ ap (λ m. sets m at ys) e ∙ sets-on l 0 at xs ys from, omega (arith, length-append xs ys), fits)

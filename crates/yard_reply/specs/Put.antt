@@ -1,4 +1,4 @@
--- The first line of a search's reply, put at the start of an area.
+-- A text put at the start of an area.
 use Prim.Native.Nat.{ℕ, _≤_}
 use mathlib.Core.Path.{_≡_}
 use mathlib.Core.List.{List, [], _∷_}
@@ -7,6 +7,11 @@ use lib.Seq.{sets}
 use Rattle.bucket_rules.specs.declared.Searched.{Searched}
 use Rattle.yard_rules.specs.Reply.{replyLine, replyNumbers}
 
+-- the area after it, its length, and that the area has room for it
+abbrev pub Puts : List ℕ → List ℕ → ℕ → List ℕ → Type 0
+Puts out after n text = (after ≡ sets out 0 text) × (n ≡ length text) × (n ≤ length out)
+
+-- the first line of a search's reply
 pub record FoundPut (before after : List ℕ) (letter : ℕ) (s : Searched) (r : ℕ) : Type 0 where
   pub bytes : after ≡ sets before 0 (replyLine letter (replyNumbers (s .refusal) (s .found ∷ s .distances ∷ [])))
   pub long : r ≡ length (replyLine letter (replyNumbers (s .refusal) (s .found ∷ s .distances ∷ [])))

@@ -3,8 +3,7 @@ ghost use mathlib.Core.Path.{_≡_};
 ghost use mathlib.Core.List.{[], _∷_};
 ghost use Prim.Native.Nat.{_+_, _*_, _≤_};
 ghost use lib.ListN.{length};
-ghost use lib.Seq.{sets};
-ghost use Rattle.yard_reply.specs.Put.{FoundPut};
+ghost use Rattle.yard_reply.specs.Put.{Puts, FoundPut};
 ghost use Rattle.yard_rules.specs.Reply.{replyLine, addText, removeText, searchText};
 use bucket_rules::Added;
 use bucket_rules::Removed;
@@ -14,7 +13,7 @@ use search_rules::Entry;
 // A letter and one number: a refusal, or a line that is `?`.
 pub fn put_one(out: &mut [u8], letter: u8, n: u64) -> usize
     requires { ⌜ 65 ≤ length (now out) ⌝ }
-    ensures { λ r. ⌜ (now (out .exit) ≡ sets (now (out .entry)) 0 (replyLine letter (n ∷ []))) × (r ≡ length (replyLine letter (n ∷ []))) × (r ≤ 65) ⌝ }
+    ensures { λ r. ⌜ Puts (now (out .entry)) (now (out .exit)) r (replyLine letter (n ∷ [])) × (r ≤ 65) ⌝ }
 {
     let numbers = [n];
     yard_print::put_line(out, letter, &numbers)
@@ -22,7 +21,7 @@ pub fn put_one(out: &mut [u8], letter: u8, n: u64) -> usize
 
 fn put_two(out: &mut [u8], letter: u8, a: u64, b: u64) -> usize
     requires { ⌜ 65 ≤ length (now out) ⌝ }
-    ensures { λ r. ⌜ (now (out .exit) ≡ sets (now (out .entry)) 0 (replyLine letter (a ∷ b ∷ []))) × (r ≡ length (replyLine letter (a ∷ b ∷ []))) ⌝ }
+    ensures { λ r. ⌜ Puts (now (out .entry)) (now (out .exit)) r (replyLine letter (a ∷ b ∷ [])) ⌝ }
 {
     let numbers = [a, b];
     yard_print::put_line(out, letter, &numbers)
@@ -30,7 +29,7 @@ fn put_two(out: &mut [u8], letter: u8, a: u64, b: u64) -> usize
 
 fn put_three(out: &mut [u8], letter: u8, a: u64, b: u64, c: u64) -> usize
     requires { ⌜ 65 ≤ length (now out) ⌝ }
-    ensures { λ r. ⌜ (now (out .exit) ≡ sets (now (out .entry)) 0 (replyLine letter (a ∷ b ∷ c ∷ []))) × (r ≡ length (replyLine letter (a ∷ b ∷ c ∷ []))) × (r ≤ 65) ⌝ }
+    ensures { λ r. ⌜ Puts (now (out .entry)) (now (out .exit)) r (replyLine letter (a ∷ b ∷ c ∷ [])) × (r ≤ 65) ⌝ }
 {
     let numbers = [a, b, c];
     yard_print::put_line(out, letter, &numbers)
@@ -38,7 +37,7 @@ fn put_three(out: &mut [u8], letter: u8, a: u64, b: u64, c: u64) -> usize
 
 pub fn put_added(out: &mut [u8], reply: Added) -> usize
     requires { ⌜ 65 ≤ length (now out) ⌝ }
-    ensures { λ r. ⌜ (now (out .exit) ≡ sets (now (out .entry)) 0 (addText reply)) × (r ≡ length (addText reply)) ⌝ }
+    ensures { λ r. ⌜ Puts (now (out .entry)) (now (out .exit)) r (addText reply) ⌝ }
 {
     if reply.refusal == 0 {
         put_three(out, b'A', 0, reply.bucket as u64, reply.distances as u64)
@@ -49,7 +48,7 @@ pub fn put_added(out: &mut [u8], reply: Added) -> usize
 
 pub fn put_removed(out: &mut [u8], reply: Removed) -> usize
     requires { ⌜ 65 ≤ length (now out) ⌝ }
-    ensures { λ r. ⌜ (now (out .exit) ≡ sets (now (out .entry)) 0 (removeText reply)) × (r ≡ length (removeText reply)) ⌝ }
+    ensures { λ r. ⌜ Puts (now (out .entry)) (now (out .exit)) r (removeText reply) ⌝ }
 {
     if reply.refusal == 0 {
         put_two(out, b'R', 0, reply.distances as u64)
@@ -72,7 +71,7 @@ fn put_found(out: &mut [u8], letter: u8, reply: Searched) -> usize
 
 pub fn put_searched(out: &mut [u8], letter: u8, reply: Searched, area: &[Entry]) -> usize
     requires { ⌜ (reply .found ≤ length (now area)) × (65 + 37 * reply .found ≤ length (now out)) ⌝ }
-    ensures { λ r. ⌜ (now (out .exit) ≡ sets (now (out .entry)) 0 (searchText letter reply (now (area .entry)))) × (r ≡ length (searchText letter reply (now (area .entry)))) ⌝ }
+    ensures { λ r. ⌜ Puts (now (out .entry)) (now (out .exit)) r (searchText letter reply (now (area .entry))) ⌝ }
 {
     let found = reply.found as usize;
     let at = put_found(out, letter, reply);

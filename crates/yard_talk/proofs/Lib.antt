@@ -1,4 +1,2 @@
-mod Finding
 mod Opening
-mod Saying
 pub mod Longer

@@ -3,6 +3,7 @@ use Prim.Native.Nat.{ℕ, zero, suc, _≤_, _<_}
 use mathlib.Core.Path.{_≡_, refl, ap, sym, subst, _∙_}
 use mathlib.Core.Bool.{true, false}
 use mathlib.Core.List.{List, [], _∷_}
+use native.Mathlib.Omega.{arith}
 use lib.ListN.{length}
 use borrow.Author.Tests.{lt-leb, le-leb}
 use Rattle.metric_rules.specs.Row.{Row}
@@ -16,7 +17,9 @@ use Rattle.yard_rules.specs.Line.{letterF, questionMark}
 use Rattle.yard_rules.specs.Reply.{replyLine}
 use Rattle.yard_rules.specs.Spoken.{Said, mostYardOrder, headerRefusal, greeted, otherText}
 use Rattle.yard_talk.specs.declared.Spoke.{Spoke}
-use Rattle.yard_talk.specs.Lent.{lent, Puts, tableAfterHeader, Says}
+use Rattle.yard_reply.specs.Put.{Puts}
+use Rattle.yard_answer.specs.Lent.{lent}
+use Rattle.yard_talk.specs.Says.{tableAfterHeader, Says}
 
 fresh-kept : (order metric : ℕ) (t : Table) (k : ℕ) → freshRefusal (length t) order (record { metric = metric }) ≡ suc k → tableAfterFresh order (record { metric = metric }) t ≡ t
 unfolding tableAfterFresh
@@ -64,11 +67,10 @@ module _ (order metric : ℕ) (t : Table) (work : List Row) (result : List Entry
   -- an accepted header
   pub greeted-served : (t' : Table) (n : ℕ) → n ≡ headerRefusal t order metric → t' ≡ tableAfterHeader order metric t → n ≡ 0
       → Says (greeted (lent t work result) number (header.Of order metric)) (lent t' work result) out out (record { stage = stage.Serving; length = 0 })
-  unfolding Puts
   greeted-served t' n e f z =
       let r : headerRefusal t order metric ≡ 0 = sym e ∙ z in
       subst (λ (s : Said). Says s (lent t' work result) out out (record { stage = stage.Serving; length = 0 })) (sym (greeted-at 0 r))
-      (record { areas-are = ap (λ (x : Table). lent x work result) (f ∙ header-table order metric t 0 r); stage-is = refl; text-is = (refl, refl) })
+      (record { areas-are = ap (λ (x : Table). lent x work result) (f ∙ header-table order metric t 0 r); stage-is = refl; text-is = (refl, refl, omega arith) })
 
   -- a refused one
   pub greeted-ended : (t' : Table) (after : List ℕ) (m n : ℕ) → n ≡ headerRefusal t order metric → t' ≡ tableAfterHeader order metric t → (n ≡ 0 → ⊥)

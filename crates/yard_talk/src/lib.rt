@@ -1,98 +1,20 @@
-// The conversation: a line and what stands before it, the areas after it and the bytes to print. One function for each command.
+// The conversation: a line and what stands before it, the areas after it and the bytes to print.
 ghost use mathlib.Core.Path.{_≡_};
 ghost use mathlib.Core.List.{List};
 ghost use Prim.Native.Nat.{ℕ, _+_, _*_, _≤_, _<_, _^_};
 ghost use lib.ListN.{length};
 ghost use Rattle.metric_rules.specs.Row.{Row};
 ghost use Rattle.search_rules.specs.Range.{Entry};
-ghost use Rattle.bucket_rules.specs.Add.{addReply, tableAfterAdd, workAfterAdd};
-ghost use Rattle.bucket_rules.specs.Remove.{removeReply, tableAfterRemove, workAfterRemove};
-ghost use Rattle.bucket_rules.specs.Search.{rangeReply, resultAfterRange, nearestReply, resultAfterNearest};
-ghost use Rattle.yard_rules.specs.Line.{letterN, letterW, headerIn, commandIn, profileIn};
-ghost use Rattle.yard_rules.specs.Reply.{addText, removeText, searchText};
-ghost use Rattle.yard_rules.specs.Spoken.{areasAfter, textAfter, headerRefusal, greeted, saidAt};
+ghost use Rattle.yard_rules.specs.Line.{headerIn};
+ghost use Rattle.yard_rules.specs.Spoken.{headerRefusal, greeted, saidAt};
 ghost use Rattle.yard_rules.specs.declared.Header.the-variants as header;
-ghost use Rattle.yard_talk.specs.Lent.{lent, Puts, tableAfterHeader, Says};
+ghost use Rattle.yard_answer.specs.Lent.{lent};
+ghost use Rattle.yard_talk.specs.Says.{tableAfterHeader, Says};
 use bucket_rules::BAD_ORDER;
-use metric_rules::Profile;
 use metric_rules::Row;
 use search_rules::Entry;
-use yard_rules::Command;
 use yard_rules::Header;
 use yard_rules::Stage;
-
-fn say_added(
-    table: &mut [Row],
-    work: &mut [Row],
-    out: &mut [u8],
-    tag: u64,
-    profile: Profile,
-) -> usize
-    requires { ⌜ 65 ≤ length (now out) ⌝ }
-    ensures table { λ _. ⌜ now (table .exit) ≡ tableAfterAdd (now (table .entry)) (now (work .entry)) tag profile ⌝ }
-    ensures work { λ _. ⌜ now (work .exit) ≡ workAfterAdd (now (table .entry)) (now (work .entry)) tag profile ⌝ }
-    ensures text { λ r. ⌜ Puts (now (out .entry)) (now (out .exit)) r (addText (addReply (now (table .entry)) (now (work .entry)) tag profile)) ⌝ }
-{
-    yard_reply::put_added(out, add::add(table, work, tag, profile))
-}
-
-fn say_removed(table: &mut [Row], work: &mut [Row], out: &mut [u8], tag: u64) -> usize
-    requires { ⌜ 65 ≤ length (now out) ⌝ }
-    ensures table { λ _. ⌜ now (table .exit) ≡ tableAfterRemove (now (table .entry)) (now (work .entry)) tag ⌝ }
-    ensures work { λ _. ⌜ now (work .exit) ≡ workAfterRemove (now (table .entry)) (now (work .entry)) tag ⌝ }
-    ensures text { λ r. ⌜ Puts (now (out .entry)) (now (out .exit)) r (removeText (removeReply (now (table .entry)) (now (work .entry)) tag)) ⌝ }
-{
-    yard_reply::put_removed(out, remove::remove(table, work, tag))
-}
-
-// A search's reply needs room for as many entries as the result area has.
-fn say_within(
-    table: &[Row],
-    result: &mut [Entry],
-    out: &mut [u8],
-    query: Profile,
-    radius: u32,
-) -> usize
-    requires { ⌜ 65 + 37 * length (now result) ≤ length (now out) ⌝ }
-    ensures result { λ _. ⌜ now (result .exit) ≡ resultAfterRange (now (table .entry)) (now (result .entry)) query radius ⌝ }
-    ensures text { λ r. ⌜ Puts (now (out .entry)) (now (out .exit)) r (searchText letterW (rangeReply (now (table .entry)) (now (result .entry)) query radius) (resultAfterRange (now (table .entry)) (now (result .entry)) query radius)) ⌝ }
-{
-    let reply = bucket_range::range(table, result, query, radius);
-    yard_reply::put_searched(out, b'W', reply, result)
-}
-
-fn say_nearest(table: &[Row], result: &mut [Entry], out: &mut [u8], query: Profile, k: u32) -> usize
-    requires { ⌜ 65 + 37 * length (now result) ≤ length (now out) ⌝ }
-    ensures result { λ _. ⌜ now (result .exit) ≡ resultAfterNearest (now (table .entry)) (now (result .entry)) query k ⌝ }
-    ensures text { λ r. ⌜ Puts (now (out .entry)) (now (out .exit)) r (searchText letterN (nearestReply (now (table .entry)) (now (result .entry)) query k) (resultAfterNearest (now (table .entry)) (now (result .entry)) query k)) ⌝ }
-{
-    let reply = bucket_nearest::nearest(table, result, query, k);
-    yard_reply::put_searched(out, b'N', reply, result)
-}
-
-// A line after an accepted header.
-fn answer(
-    table: &mut [Row],
-    work: &mut [Row],
-    result: &mut [Entry],
-    out: &mut [u8],
-    number: u64,
-    line: &[u8],
-) -> usize
-    requires { ⌜ (65 + 37 * length (now result) ≤ length (now out)) × (length (now line) < 2 ^ 32) ⌝ }
-    ensures areas { λ _. ⌜ lent (now (table .exit)) (now (work .exit)) (now (result .exit)) ≡ areasAfter (lent (now (table .entry)) (now (work .entry)) (now (result .entry))) (commandIn (now (line .entry))) (profileIn (now (line .entry))) ⌝ }
-    ensures text { λ r. ⌜ Puts (now (out .entry)) (now (out .exit)) r (textAfter (lent (now (table .entry)) (now (work .entry)) (now (result .entry))) number (commandIn (now (line .entry))) (profileIn (now (line .entry)))) ⌝ }
-{
-    match yard_line::command(line) {
-        Command::Add(tag) => say_added(table, work, out, tag, yard_line::profile(line)),
-        Command::Remove(tag) => say_removed(table, work, out, tag),
-        Command::Within(radius) => {
-            say_within(table, result, out, yard_line::profile(line), radius)
-        }
-        Command::Nearest(k) => say_nearest(table, result, out, yard_line::profile(line), k),
-        Command::Other => yard_reply::put_one(out, b'?', number),
-    }
-}
 
 // How far the conversation is after a line, and how many bytes it prints.
 pub struct Spoke {
@@ -166,7 +88,7 @@ pub fn talk(
     match stage {
         Stage::Waiting => first_line(table, out, number, line),
         Stage::Serving => {
-            let length = answer(table, work, result, out, number, line);
+            let length = yard_answer::answer(table, work, result, out, number, line);
             Spoke {
                 stage: Stage::Serving,
                 length,

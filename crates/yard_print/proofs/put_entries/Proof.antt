@@ -67,6 +67,7 @@ returns c =
     let all : at .i ≡ a .found = omega arith in (
       at .inv .4 ∙ ap (λ k. sets (a .out .now) (a .from) (entriesText (take k (a .area .now)))) all,
       at .inv .3 ∙ ap (λ k. a .from + length (entriesText (take k (a .area .now)))) all,
+      omega (arith, at .inv .2, all),
     )
 
 pub put-entries-spec : {M : Type 1} → statement M

@@ -1,10 +1,9 @@
 -- `yard_reply::put_added` meets its contract: 0 and the reply's numbers, or the refusal alone.
-use mathlib.Core.Path.{ap, _∙_}
+use mathlib.Core.Path.{subst}
 use mathlib.Core.List.{[], _∷_}
-use lib.ListN.{length}
-use lib.Seq.{sets}
 use Rattle.yard_rules.specs.Line.{letterA}
 use Rattle.yard_rules.specs.Reply.{replyLine, addText}
+use Rattle.yard_reply.specs.Put.{Puts}
 use Rattle.yard_reply.proofs.Numbers.{accepted, refused}
 use borrow.Author.Needs.{needs}
 use Rattle.yard_reply.proofs.put_added.Statement.{statement}
@@ -33,7 +32,7 @@ unfolding addText
 returns c =
     let a = c .before .before .before .before .before .before .before .before .before .args in
     let ns = accepted (a .reply .refusal) (a .reply .bucket ∷ a .reply .distances ∷ []) (c .before .before .before .before .before .before .if1 .taken) in
-    (c .before .before .put-three .ensures .0 ∙ ap (λ ns. sets (a .out .now) 0 (replyLine letterA ns)) ns, c .before .before .put-three .ensures .1 ∙ ap (λ ns. length (replyLine letterA ns)) ns)
+    subst (λ ns. Puts (a .out .now) (c .before .before .put-three .last .0) (c .before .before .put-three .result) (replyLine letterA ns)) ns (c .before .before .put-three .ensures .0)
 
 same-length-2 : tie.Need-same-length-2
 same-length-2 c = search needs
@@ -43,7 +42,7 @@ unfolding addText
 returns-2 c =
     let a = c .before .before .before .before .before .before .before .before .args in
     let ns = refused (a .reply .refusal) (a .reply .bucket ∷ a .reply .distances ∷ []) (c .before .before .before .before .before .if1 .left) in
-    (c .before .before .put-one .ensures .0 ∙ ap (λ ns. sets (a .out .now) 0 (replyLine letterA ns)) ns, c .before .before .put-one .ensures .1 ∙ ap (λ ns. length (replyLine letterA ns)) ns)
+    subst (λ ns. Puts (a .out .now) (c .before .before .put-one .last .0) (c .before .before .put-one .result) (replyLine letterA ns)) ns (c .before .before .put-one .ensures .0)
 
 pub put-added-spec : {M : Type 1} → statement M
 put-added-spec =

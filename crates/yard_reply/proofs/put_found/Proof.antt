@@ -33,9 +33,9 @@ returns c =
     let ns = accepted (a .reply .refusal) (a .reply .found ∷ a .reply .distances ∷ []) (c .before .before .before .before .before .before .if1 .taken) in
     let put = c .before .before .put-three .ensures in
     record {
-      bytes = put .0 ∙ ap (λ ns. sets (a .out .now) 0 (replyLine (a .letter) ns)) ns;
-      long = put .1 ∙ ap (λ ns. length (replyLine (a .letter) ns)) ns;
-      most = put .2;
+      bytes = put .0 .0 ∙ ap (λ ns. sets (a .out .now) 0 (replyLine (a .letter) ns)) ns;
+      long = put .0 .1 ∙ ap (λ ns. length (replyLine (a .letter) ns)) ns;
+      most = put .1;
     }
 
 same-length-2 : tie.Need-same-length-2
@@ -47,9 +47,9 @@ returns-2 c =
     let ns = refused (a .reply .refusal) (a .reply .found ∷ a .reply .distances ∷ []) (c .before .before .before .before .before .if1 .left) in
     let put = c .before .before .put-one .ensures in
     record {
-      bytes = put .0 ∙ ap (λ ns. sets (a .out .now) 0 (replyLine (a .letter) ns)) ns;
-      long = put .1 ∙ ap (λ ns. length (replyLine (a .letter) ns)) ns;
-      most = put .2;
+      bytes = put .0 .0 ∙ ap (λ ns. sets (a .out .now) 0 (replyLine (a .letter) ns)) ns;
+      long = put .0 .1 ∙ ap (λ ns. length (replyLine (a .letter) ns)) ns;
+      most = put .1;
     }
 
 pub put-found-spec : {M : Type 1} → statement M

@@ -1,10 +1,9 @@
 -- `yard_reply::put_removed` meets its contract: 0 and the reply's numbers, or the refusal alone.
-use mathlib.Core.Path.{ap, _∙_}
+use mathlib.Core.Path.{subst}
 use mathlib.Core.List.{[], _∷_}
-use lib.ListN.{length}
-use lib.Seq.{sets}
 use Rattle.yard_rules.specs.Line.{letterR}
 use Rattle.yard_rules.specs.Reply.{replyLine, removeText}
+use Rattle.yard_reply.specs.Put.{Puts}
 use Rattle.yard_reply.proofs.Numbers.{accepted, refused}
 use borrow.Author.Needs.{needs}
 use Rattle.yard_reply.proofs.put_removed.Statement.{statement}
@@ -30,7 +29,7 @@ unfolding removeText
 returns c =
     let a = c .before .before .before .before .before .before .before .before .args in
     let ns = accepted (a .reply .refusal) (a .reply .distances ∷ []) (c .before .before .before .before .before .if1 .taken) in
-    (c .before .before .put-two .ensures .0 ∙ ap (λ ns. sets (a .out .now) 0 (replyLine letterR ns)) ns, c .before .before .put-two .ensures .1 ∙ ap (λ ns. length (replyLine letterR ns)) ns)
+    subst (λ ns. Puts (a .out .now) (c .before .before .put-two .last .0) (c .before .before .put-two .result) (replyLine letterR ns)) ns (c .before .before .put-two .ensures)
 
 same-length-2 : tie.Need-same-length-2
 same-length-2 c = search needs
@@ -40,7 +39,7 @@ unfolding removeText
 returns-2 c =
     let a = c .before .before .before .before .before .before .before .before .args in
     let ns = refused (a .reply .refusal) (a .reply .distances ∷ []) (c .before .before .before .before .before .if1 .left) in
-    (c .before .before .put-one .ensures .0 ∙ ap (λ ns. sets (a .out .now) 0 (replyLine letterR ns)) ns, c .before .before .put-one .ensures .1 ∙ ap (λ ns. length (replyLine letterR ns)) ns)
+    subst (λ ns. Puts (a .out .now) (c .before .before .put-one .last .0) (c .before .before .put-one .result) (replyLine letterR ns)) ns (c .before .before .put-one .ensures .0)
 
 pub put-removed-spec : {M : Type 1} → statement M
 put-removed-spec =

@@ -1,4 +1,5 @@
 -- `yard_reply::put_searched` meets its contract: the entries come after the first line.
+use native.Mathlib.Omega.{arith}
 use mathlib.Core.List.{[], _∷_}
 use lib.ListN.{take}
 use Rattle.yard_rules.specs.Reply.{replyLine, replyNumbers, searchText, entriesText}
@@ -32,6 +33,7 @@ returns c =
     (first .long)
     (rest .0)
     (rest .1)
+    (omega (arith, rest .2, first .most))
 
 pub put-searched-spec : {M : Type 1} → statement M
 put-searched-spec =

@@ -3,8 +3,8 @@ use mathlib.Core.Path.{refl, ap, ap₂, sym, subst, _∙_}
 use Rattle.yard_rules.specs.declared.Header.{Header}
 use Rattle.yard_rules.specs.declared.Stage.the-variants as stage
 use Rattle.yard_rules.specs.Spoken.{greeted}
-use Rattle.yard_talk.specs.Lent.{lent, Says}
-use Rattle.yard_talk.proofs.Saying.{put-as}
+use Rattle.yard_answer.specs.Lent.{lent}
+use Rattle.yard_talk.specs.Says.{Says}
 use Rattle.yard_talk.proofs.Opening.{other-ended}
 use borrow.Author.Needs.{needs}
 use Rattle.yard_talk.proofs.first_line.Statement.{statement}
@@ -50,7 +50,7 @@ returns-2 c =
     let p = c .before .before .put-one in
     λ work result.
     subst (λ (h : Header). Says (greeted (lent (a .table .now) work result) (a .number) h) (lent (a .table .now) work result) (a .out .now) (p .last .0) (record { stage = stage.Ended; length = p .result })) (sym (c .before .before .before .before .enum-told .given .1) ∙ c .before .before .before .before .before .before .header .ensures)
-    (other-ended (a .table .now) work result (a .number) (a .out .now) (p .last .0) (p .result) (put-as _ _ _ _ _ refl (p .ensures .0, p .ensures .1)))
+    (other-ended (a .table .now) work result (a .number) (a .out .now) (p .last .0) (p .result) (p .ensures .0))
 
 pub first-line-spec : {M : Type 1} → statement M
 first-line-spec =

@@ -1,6 +1,5 @@
 -- `yard_talk::greet` meets its contract.
 use mathlib.Core.Path.{refl, ap, ap₂, sym, subst, _∙_}
-use Rattle.yard_talk.proofs.Saying.{put-as}
 use Rattle.yard_talk.proofs.Opening.{greeted-served, greeted-ended}
 use borrow.Author.Needs.{needs}
 use Rattle.yard_talk.proofs.greet.Statement.{statement}
@@ -39,7 +38,7 @@ returns-2 c =
     let p = c .before .before .put-one in
     λ work result number.
     greeted-ended (a .order) (a .metric) (a .table .now) work result number (a .out .now) (s .last .0) (p .last .0) (p .result) (s .result) (s .ensures .0) (s .ensures .1) (c .before .before .before .before .if1 .left)
-    (put-as _ _ _ _ _ refl (p .ensures .0, p .ensures .1))
+    (p .ensures .0)
 
 pub greet-spec : {M : Type 1} → statement M
 greet-spec =

@@ -1,9 +1,12 @@
 -- `yard_talk::talk` meets its contract: by the stage.
-use mathlib.Core.Path.{refl, ap, ap₂, sym, subst, _∙_}
+use mathlib.Core.Path.{refl, sym, subst}
+use native.Mathlib.Omega.{arith}
 use Rattle.yard_rules.specs.declared.Stage.{Stage}
 use Rattle.yard_rules.specs.declared.Stage.the-variants as stage
 use Rattle.yard_rules.specs.Spoken.{saidAt, answered}
-use Rattle.yard_talk.specs.Lent.{lent, Puts, Says}
+use Rattle.yard_reply.specs.Put.{Puts}
+use Rattle.yard_answer.specs.Lent.{lent}
+use Rattle.yard_talk.specs.Says.{Says}
 use borrow.Author.Needs.{needs}
 use Rattle.yard_talk.proofs.talk.Statement.{statement}
 use Rattle.yard_talk.proofs.talk.Tie as tie
@@ -60,11 +63,11 @@ returns-2 c =
     (record { areas-are = s .ensures .0; stage-is = refl; text-is = s .ensures .1 })
 
 returns-3 : tie.Need-returns-3
-unfolding saidAt Puts
+unfolding saidAt
 returns-3 c =
     let a = c .before .before .before .before .args in
     subst (λ (x : Stage). Says (saidAt (lent (a .table .now) (a .work .now) (a .result .now)) (a .number) x (a .line .now)) (lent (a .table .now) (a .work .now) (a .result .now)) (a .out .now) (a .out .now) (record { stage = stage.Ended; length = 0 })) (sym (c .enum-told3 .given .1))
-    (record { areas-are = refl; stage-is = refl; text-is = (refl, refl) })
+    (record { areas-are = refl; stage-is = refl; text-is = (refl, refl, omega arith) })
 
 pub talk-spec : {M : Type 1} → statement M
 talk-spec =

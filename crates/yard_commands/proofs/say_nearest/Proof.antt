@@ -1,16 +1,16 @@
--- `yard_talk::say_nearest` meets its contract: the search, and its reply with the entries of the result area as bytes.
+-- `yard_commands::say_nearest` meets its contract: the search, and its reply with the entries of the result area as bytes.
 use mathlib.Core.Path.{refl, ap, ap₂, sym, subst, _∙_}
 use native.Mathlib.Omega.{arith}
 use Rattle.bucket_rules.specs.declared.Searched.{Searched}
 use Rattle.yard_rules.specs.Line.{letterN}
 use Rattle.yard_rules.specs.Reply.{searchText}
-use Rattle.yard_talk.proofs.Finding.{nearest-found}
-use Rattle.yard_talk.proofs.Saying.{put-as}
+use Rattle.yard_commands.proofs.Finding.{nearest-found}
+use Rattle.yard_reply.specs.Put.{Puts}
 use borrow.Author.Needs.{needs}
-use Rattle.yard_talk.proofs.say_nearest.Statement.{statement}
-use Rattle.yard_talk.proofs.say_nearest.Tie as tie
-use Rattle.yard_talk.proofs.say_nearest.Reads as reads
-use Rattle.yard_talk.proofs.say_nearest.Lts as lts
+use Rattle.yard_commands.proofs.say_nearest.Statement.{statement}
+use Rattle.yard_commands.proofs.say_nearest.Tie as tie
+use Rattle.yard_commands.proofs.say_nearest.Reads as reads
+use Rattle.yard_commands.proofs.say_nearest.Lts as lts
 
 nearest-requires : tie.Need-nearest-requires
 nearest-requires c κs = search needs
@@ -31,7 +31,7 @@ same-length-2 c = search needs
 returns : tie.Need-returns
 returns c =
     let r = c .before .before .before .before .before .before .nearest .ensures in
-    (r .1, put-as _ _ _ _ _ (ap₂ (searchText letterN) (r .0) (r .1)) (c .before .before .put-searched .ensures))
+    (r .1, subst (Puts _ _ _) (ap₂ (searchText letterN) (r .0) (r .1)) (c .before .before .put-searched .ensures))
 
 pub say-nearest-spec : {M : Type 1} → statement M
 say-nearest-spec =

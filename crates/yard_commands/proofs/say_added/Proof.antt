@@ -1,12 +1,12 @@
--- `yard_talk::say_added` meets its contract: the call, and its reply as bytes.
+-- `yard_commands::say_added` meets its contract: the call, and its reply as bytes.
 use mathlib.Core.Path.{refl, ap, ap₂, sym, subst, _∙_}
 use Rattle.yard_rules.specs.Reply.{addText}
-use Rattle.yard_talk.proofs.Saying.{put-as}
+use Rattle.yard_reply.specs.Put.{Puts}
 use borrow.Author.Needs.{needs}
-use Rattle.yard_talk.proofs.say_added.Statement.{statement}
-use Rattle.yard_talk.proofs.say_added.Tie as tie
-use Rattle.yard_talk.proofs.say_added.Reads as reads
-use Rattle.yard_talk.proofs.say_added.Lts as lts
+use Rattle.yard_commands.proofs.say_added.Statement.{statement}
+use Rattle.yard_commands.proofs.say_added.Tie as tie
+use Rattle.yard_commands.proofs.say_added.Reads as reads
+use Rattle.yard_commands.proofs.say_added.Lts as lts
 
 add-requires : tie.Need-add-requires
 add-requires c κs = search needs
@@ -26,7 +26,7 @@ same-length-3 c = search needs
 returns : tie.Need-returns
 returns c =
     let r = c .before .before .before .before .before .add .ensures in
-    (r .1 .0, (r .1 .1, put-as _ _ _ _ _ (ap addText (r .0)) (c .before .before .put-added .ensures)))
+    (r .1 .0, (r .1 .1, subst (Puts _ _ _) (ap addText (r .0)) (c .before .before .put-added .ensures)))
 
 pub say-added-spec : {M : Type 1} → statement M
 say-added-spec =

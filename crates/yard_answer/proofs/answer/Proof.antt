@@ -1,11 +1,11 @@
--- `yard_talk::answer` meets its contract: one command at a time.
+-- `yard_answer::answer` meets its contract: one command at a time.
 use mathlib.Core.Path.{refl, ap, ap₂, sym, subst, _∙_}
-use Rattle.yard_talk.proofs.Saying.{put-as, needsProfile, profile-beside, add-answered, remove-answered, within-answered, nearest-answered, other-answered}
+use Rattle.yard_answer.proofs.Saying.{needsProfile, profile-beside, add-answered, remove-answered, within-answered, nearest-answered, other-answered}
 use borrow.Author.Needs.{needs}
-use Rattle.yard_talk.proofs.answer.Statement.{statement}
-use Rattle.yard_talk.proofs.answer.Tie as tie
-use Rattle.yard_talk.proofs.answer.Reads as reads
-use Rattle.yard_talk.proofs.answer.Lts as lts
+use Rattle.yard_answer.proofs.answer.Statement.{statement}
+use Rattle.yard_answer.proofs.answer.Tie as tie
+use Rattle.yard_answer.proofs.answer.Reads as reads
+use Rattle.yard_answer.proofs.answer.Lts as lts
 
 command-requires : tie.Need-command-requires
 command-requires c κs = search needs
@@ -119,7 +119,7 @@ returns-5 : tie.Need-returns-5
 returns-5 c =
     let a = c .before .before .before .before .before .before .before .before .before .args in
     let s = c .before .before .put-one in
-    other-answered (a .table .now) (a .work .now) (a .result .now) (a .number) (a .line .now) (a .out .now) (s .last .0) (s .result) (sym (c .before .before .before .before .enum-told .given .1) ∙ c .before .before .before .before .before .before .command .ensures) (put-as _ _ _ _ _ refl (s .ensures .0, s .ensures .1))
+    other-answered (a .table .now) (a .work .now) (a .result .now) (a .number) (a .line .now) (a .out .now) (s .last .0) (s .result) (sym (c .before .before .before .before .enum-told .given .1) ∙ c .before .before .before .before .before .before .command .ensures) (s .ensures .0)
 
 pub answer-spec : {M : Type 1} → statement M
 answer-spec =

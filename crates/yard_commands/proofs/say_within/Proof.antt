@@ -1,16 +1,16 @@
--- `yard_talk::say_within` meets its contract: the search, and its reply with the entries of the result area as bytes.
+-- `yard_commands::say_within` meets its contract: the search, and its reply with the entries of the result area as bytes.
 use mathlib.Core.Path.{refl, ap, ap₂, sym, subst, _∙_}
 use native.Mathlib.Omega.{arith}
 use Rattle.bucket_rules.specs.declared.Searched.{Searched}
 use Rattle.yard_rules.specs.Line.{letterW}
 use Rattle.yard_rules.specs.Reply.{searchText}
-use Rattle.yard_talk.proofs.Finding.{range-found}
-use Rattle.yard_talk.proofs.Saying.{put-as}
+use Rattle.yard_commands.proofs.Finding.{range-found}
+use Rattle.yard_reply.specs.Put.{Puts}
 use borrow.Author.Needs.{needs}
-use Rattle.yard_talk.proofs.say_within.Statement.{statement}
-use Rattle.yard_talk.proofs.say_within.Tie as tie
-use Rattle.yard_talk.proofs.say_within.Reads as reads
-use Rattle.yard_talk.proofs.say_within.Lts as lts
+use Rattle.yard_commands.proofs.say_within.Statement.{statement}
+use Rattle.yard_commands.proofs.say_within.Tie as tie
+use Rattle.yard_commands.proofs.say_within.Reads as reads
+use Rattle.yard_commands.proofs.say_within.Lts as lts
 
 range-requires : tie.Need-range-requires
 range-requires c κs = search needs
@@ -31,7 +31,7 @@ same-length-2 c = search needs
 returns : tie.Need-returns
 returns c =
     let r = c .before .before .before .before .before .before .range .ensures in
-    (r .1, put-as _ _ _ _ _ (ap₂ (searchText letterW) (r .0) (r .1)) (c .before .before .put-searched .ensures))
+    (r .1, subst (Puts _ _ _) (ap₂ (searchText letterW) (r .0) (r .1)) (c .before .before .put-searched .ensures))
 
 pub say-within-spec : {M : Type 1} → statement M
 say-within-spec =

@@ -3,8 +3,6 @@ use Prim.Native.Nat.{ℕ}
 use mathlib.Core.Path.{_≡_, refl, ap, ap₂, subst, _∙_}
 use mathlib.Core.Bool.{Bool, true, false, _&&_, false≢true}
 use mathlib.Core.List.{List, [], _∷_}
-use lib.ListN.{length}
-use lib.Seq.{sets}
 use lib.Dec.{eqb}
 use Rattle.metric_rules.specs.declared.Profile.{Profile}
 use Rattle.metric_rules.specs.Row.{Row}
@@ -19,12 +17,8 @@ use Rattle.yard_rules.specs.Text.{space, partsIn, numeral}
 use Rattle.yard_rules.specs.Line.{letterA, letterN, letterR, letterW, questionMark, field, isTag, isNumber, opens, hasProfile, commandIn, profileIn}
 use Rattle.yard_rules.specs.Reply.{replyLine, addText, removeText, searchText}
 use Rattle.yard_rules.specs.Spoken.{areasAfter, textAfter, otherText}
-use Rattle.yard_talk.specs.Lent.{lent, Puts}
-
--- a text put under another name
-pub put-as : (out after : List ℕ) (n : ℕ) (text said : List ℕ) → text ≡ said → (after ≡ sets out 0 text) × (n ≡ length text) → Puts out after n said
-unfolding Puts
-put-as out after n text said e p = (p .0 ∙ ap (sets out 0) e, p .1 ∙ ap length e)
+use Rattle.yard_reply.specs.Put.{Puts}
+use Rattle.yard_answer.specs.Lent.{lent}
 
 -- an add and the searches have a profile beside them
 abbrev pub needsProfile : Command → Bool

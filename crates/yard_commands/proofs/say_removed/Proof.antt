@@ -1,12 +1,12 @@
--- `yard_talk::say_removed` meets its contract: the call, and its reply as bytes.
+-- `yard_commands::say_removed` meets its contract: the call, and its reply as bytes.
 use mathlib.Core.Path.{refl, ap, ap₂, sym, subst, _∙_}
 use Rattle.yard_rules.specs.Reply.{removeText}
-use Rattle.yard_talk.proofs.Saying.{put-as}
+use Rattle.yard_reply.specs.Put.{Puts}
 use borrow.Author.Needs.{needs}
-use Rattle.yard_talk.proofs.say_removed.Statement.{statement}
-use Rattle.yard_talk.proofs.say_removed.Tie as tie
-use Rattle.yard_talk.proofs.say_removed.Reads as reads
-use Rattle.yard_talk.proofs.say_removed.Lts as lts
+use Rattle.yard_commands.proofs.say_removed.Statement.{statement}
+use Rattle.yard_commands.proofs.say_removed.Tie as tie
+use Rattle.yard_commands.proofs.say_removed.Reads as reads
+use Rattle.yard_commands.proofs.say_removed.Lts as lts
 
 remove-requires : tie.Need-remove-requires
 remove-requires c κs = search needs
@@ -26,7 +26,7 @@ same-length-3 c = search needs
 returns : tie.Need-returns
 returns c =
     let r = c .before .before .before .before .before .remove .ensures in
-    (r .1 .0, (r .1 .1, put-as _ _ _ _ _ (ap removeText (r .0)) (c .before .before .put-removed .ensures)))
+    (r .1 .0, (r .1 .1, subst (Puts _ _ _) (ap removeText (r .0)) (c .before .before .put-removed .ensures)))
 
 pub say-removed-spec : {M : Type 1} → statement M
 say-removed-spec =

@@ -1,0 +1,3 @@
+pub mod Feeding
+mod Standing
+pub mod Told
