@@ -8,7 +8,7 @@ returns : tie.Need-returns
 returns c = λ area line lines h e. long-last lines (c .if1 .taken) h
 
 returns-2 : tie.Need-returns-2
-returns-2 c = λ area line lines h e. byte-last lines (c .before .if1 .left) (c .if2 .taken) h
+returns-2 c = λ area line lines h e. byte-last lines (c .before .if1 .left) (omega (arith, c .if2 .taken)) h
 
 returns-3 : tie.Need-returns-3
 returns-3 c = λ area line lines h e. first-last _ lines (c .before .if1 .left) (omega (arith, c .if2 .left)) h e
