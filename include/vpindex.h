@@ -36,6 +36,7 @@ extern "C" {
 #define VPINDEX_MAX_ORDER 12             /* a table of order T holds at most 2^T items, T being 0 to 12 */
 #define VPINDEX_SUM_OF_DIFFERENCES 0     /* metric 0: the sum of the absolute differences of the four measures */
 #define VPINDEX_DIFFERING_BITS 1         /* metric 1: the number of bits in which the two codes differ */
+#define VPINDEX_LARGEST_DIFFERENCE 2     /* metric 2: the largest of the absolute differences of the four measures */
 #define VPINDEX_MAX_MEASURE 1000000      /* a measure is -1,000,000 to 1,000,000 */
 #define VPINDEX_MIN_TAG UINT64_C(1000000000000)    /* country 1, national 0 */
 #define VPINDEX_MAX_TAG UINT64_C(999999999999999)  /* country 999, national 999,999,999,999 */
@@ -71,7 +72,7 @@ extern "C" {
 #define VPINDEX_BAD_TAG 1                /* tag outside VPINDEX_MIN_TAG to VPINDEX_MAX_TAG */
 #define VPINDEX_BAD_MEASURE 2            /* a measure outside its range */
 #define VPINDEX_BAD_ORDER 3              /* order above 12 */
-#define VPINDEX_BAD_METRIC 4             /* metric neither 0 nor 1 */
+#define VPINDEX_BAD_METRIC 4             /* metric above 2 */
 #define VPINDEX_NO_COUNT 5               /* nearest with k = 0 */
 #define VPINDEX_NO_ROOM 6                /* result area with fewer entries than the reply, or fewer bytes than the image */
 #define VPINDEX_BAD_LENGTH 7             /* the image's length is wrong */

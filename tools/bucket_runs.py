@@ -91,9 +91,9 @@ def removals(k):
     yield start + [(REMOVE, old, half), (ADD, new, half), (REMOVE, new, quarter), (REMOVE, old + half, quarter)]
 
 
-def all_in_use(order):
+def all_in_use(order, metric):
     """Every bucket in use and the table not full, so that the next add finds no empty bucket."""
-    steps, first = [(FRESH, order, 1)], 1
+    steps, first = [(FRESH, order, metric)], 1
     for k in range(order, -1, -1):
         keep = 2**k // 4 + 1
         steps += [(ADD, first, 2**k), (REMOVE, first, 2**k - keep)]
@@ -107,8 +107,8 @@ def runs():
     for k in (2, 3, 12):
         for steps in removals(k):
             yield steps + [(RANGE, 0, 0), (NEAREST, 0, 4096)]
-    for order in (2, 3, 12):
-        yield all_in_use(order) + [(RANGE, 0, 0)]
+    for order, metric in ((2, 1), (3, 2), (12, 1)):
+        yield all_in_use(order, metric) + [(RANGE, 0, 0)]
 
 
 def outcome(table, step):

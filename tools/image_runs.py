@@ -6,7 +6,7 @@ With --check it writes nothing and fails where a file differs from what it would
 
 Every bucket of the image is in use, two of them with dead slots. Nationals, measures and codes are such that one bit makes tags alike within a bucket
 and across buckets, that items lie equally far from the first of bucket 2, that measures stand at both limits, and that the trees are the same by
-either metric: the bits are flipped in the image of each.
+every metric: the bits are flipped in the image of each.
 """
 import struct
 import sys
@@ -20,7 +20,7 @@ LIVE, DEAD = 0, 1
 # Of each bucket its slots: national, measures, code, threshold, mark.
 BUCKETS = [
     [(8, (10**6, -(10**6), 0, 0), (0, 0), 0, LIVE)],
-    [(9, (-5, 0, 0, 7), (0, 0), 2, LIVE), (26, (-4, 1, 0, 7), (1, 1 << 63), 0, DEAD)],
+    [(9, (-5, 0, 0, 7), (0, 0), 2, LIVE), (26, (-3, 0, 0, 7), (1, 1 << 63), 0, DEAD)],
     [
         (10, (10, 0, -9, 0), (0, 0), 3, DEAD),
         (11, (13, 0, -9, 0), (7, 0), 6, LIVE),
@@ -51,7 +51,9 @@ class Slot:
 def distance(metric, a, b):
     if metric == 0:
         return min(sum(abs(x - y) for x, y in zip(a.measures, b.measures)), 2**32 - 1)
-    return sum(bin(x ^ y).count("1") for x, y in zip(a.code, b.code))
+    if metric == 1:
+        return sum(bin(x ^ y).count("1") for x, y in zip(a.code, b.code))
+    return max(abs(x - y) for x, y in zip(a.measures, b.measures))
 
 
 def layout(metric, slots):
@@ -104,7 +106,7 @@ def load(rows, image):
     order, metric = image[0], image[1]
     if order > 12:
         return 3
-    if metric > 1:
+    if metric > 2:
         return 4
     if image[2] or image[3]:
         return 8
@@ -136,7 +138,7 @@ def flipped(image, at, bit):
 def output(image):
     longer = image + bytes(1)
     lines = [f"{n}" + reply(ROWS - 1, longer[:n]) + reply(ROWS, longer[:n]) for n in range(len(longer) + 1)]
-    for metric in (0, 1):
+    for metric in (0, 1, 2):
         whole = image_of(ORDER, metric, BUCKETS)
         lines += [f"{at}" + "".join(reply(ROWS, flipped(whole, at, bit)) for bit in range(8)) for at in range(len(whole))]
     return "\n".join(lines) + "\n"

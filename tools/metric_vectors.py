@@ -14,7 +14,8 @@ LOW, HIGH = -(2**31), 2**31 - 1
 WORD = 2**64 - 1
 LIMIT = 1_000_000
 STEPS = (0, 1, 5, 11)
-METRICS = (0, 1, 2, 2**32 - 1)
+METRICS = (0, 1, 2)
+NO_METRIC = 2**32 - 1  # no call takes it; the distance reads it as 2
 
 
 def valid_tag(tag):
@@ -29,7 +30,9 @@ def valid_measures(measures):
 def distance(metric, p, q):
     if metric == 0:
         return min(sum(abs(a - b) for a, b in zip(p[0], q[0])), 4_294_967_295)
-    return sum(bin(a ^ b).count("1") for a, b in zip(p[1], q[1]))
+    if metric == 1:
+        return sum(bin(a ^ b).count("1") for a, b in zip(p[1], q[1]))
+    return max(abs(a - b) for a, b in zip(p[0], q[0]))
 
 
 def row(tag, profile, threshold, mark):
@@ -54,6 +57,11 @@ def objects():
         (first + 2, [LOW, 0, 0, 0], [0, 1], 0, 0),
         (first + 3, [HIGH, 1, 0, 0], [2, 0], 0, 0),
         (first + 4, [LOW, 0, 0, 0], [0, 0], 0, 0),
+        # the largest difference one more than the next, at the ends of 32 bits: in the second place, and then in the last
+        (first + 7, [LOW, HIGH, LOW + 1, HIGH], [0, 0], 0, 0),
+        (first + 8, [HIGH - 1, LOW, HIGH, LOW + 1], [0, 0], 0, 0),
+        (first + 9, [0, HIGH, LOW, LOW], [0, 0], 0, 0),
+        (first + 10, [HIGH, 0, -1, 0], [0, 0], 0, 0),
         (first + 5, [-1, 0, 1, 0], [0xAAAAAAAAAAAAAAAA, 0x5555555555555555], 0, 0),
         (first + 6, [0, -1, 0, 1], [0x5555555555555555, 0xAAAAAAAAAAAAAAAA], 0, 0),
     ]
@@ -63,7 +71,7 @@ def objects():
             measures[at] = past
             items.append((first + 16 + at, measures, [1 << (16 * at), 1 << (63 - 16 * at)], at, at % 2))
     draw = random.Random(20)
-    for k in range(14):
+    for k in range(10):
         bound = (HIGH, LIMIT, 300)[k % 3]
         items.append((
             draw.randint(0, WORD) if k % 2 else draw.randint(first, last),
@@ -109,7 +117,7 @@ def output(items, tag_list):
     for i, (_, p, _, _) in enumerate(items):
         for step in STEPS:
             q = items[(i + step) % len(items)][1]
-            found = [distance(m, p, q) for m in METRICS] + [distance(m, p, q) for m in METRICS[:2]]
+            found = [distance(m, p, q) for m in (*METRICS, NO_METRIC, *METRICS)]
             lines.append(" ".join(map(str, found)))
     lines += [f"{t} {valid_tag(t):d}" for t in tag_list]
     return "\n".join(lines) + "\n"

@@ -21,7 +21,7 @@ from image_runs import distance, layout
 ROOT = Path(__file__).resolve().parent.parent
 STORED = ROOT / "tests" / "yard"
 EXAMPLE = ROOT / "crates" / "yard"
-MOST_ORDER, LAST_METRIC = 8, 1
+MOST_ORDER, LAST_METRIC = 8, 2
 SECONDS, SHORT = 20, 5000
 
 NUMBER = rb"([0-9]{1,10})"
@@ -405,7 +405,7 @@ def herd(metric, seed, count):
         elif kind == 18:
             lines.append(f"N {1 + draws.below(6)} {drawn_profile(draws)}")
         else:
-            lines.append(f"W {draws.below(1500 if metric == 0 else 60)} {drawn_profile(draws)}")
+            lines.append(f"W {draws.below((1500, 60, 800)[metric])} {drawn_profile(draws)}")
     lines += [f"A {tag_of(n)} {drawn_profile(draws)}" for n in range(1000, 1300)]
     return talk(*lines, f"W 4294967295 {FLAT}", f"N 300 {FLAT}")
 
@@ -462,6 +462,7 @@ def runs():
     yield "smallest", smallest()
     yield "herd_by_measures", herd(0, 1, 900)
     yield "herd_by_codes", herd(1, 2, 900)
+    yield "herd_by_largest", herd(2, 3, 900)
     yield "long_lines", long_lines()
     yield "strange_bytes", strange_bytes()
     yield "empty", b""

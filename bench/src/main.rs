@@ -18,6 +18,7 @@ use plot::Series;
 use searches::Full;
 
 const ORDERS: [u32; 5] = [4, 6, 8, 10, 12];
+const METRICS: [u32; 3] = [0, 1, 2];
 
 fn main() {
     let mut words = env::args().skip(1);
@@ -45,7 +46,7 @@ fn all_searches(seed: u64) -> String {
         "| herd | metric | search | found | visited | calls ns | plain ns | scan ns | /plain | /scan |\n".to_string();
     table += "|---|---|---|---|---|---|---|---|---|---|\n";
     for spread in SPREADS {
-        for metric in 0..=1 {
+        for metric in METRICS {
             eprintln!("searches: {}, metric {metric}", spread.name);
             let mut full = Full::new(seed, spread, 12, metric);
             let lines = [full.nearest(), full.range(10, None), full.range(10, Some(4096)), full.range(1000, None)];
@@ -65,7 +66,7 @@ fn change_row(line: &changes::Line) -> String {
 fn all_changes(seed: u64) -> String {
     let mut table = "| herd | metric | call | calls µs | plain µs | /plain |\n|---|---|---|---|---|---|\n".to_string();
     for spread in [SPREADS[0], SPREADS[3]] {
-        for metric in 0..=1 {
+        for metric in METRICS {
             eprintln!("changes: {}, metric {metric}", spread.name);
             for line in Work::new(seed, spread, 12, metric).measure(5) {
                 _ = writeln!(table, "| {} | {metric} | {}", spread.name, change_row(&line));
@@ -80,7 +81,7 @@ fn growth(seed: u64) -> (String, Vec<(String, Vec<Series>)>) {
     let mut table =
         "| T | metric | call | calls µs | plain µs | /plain | scan µs |\n|---|---|---|---|---|---|---|\n".to_string();
     let mut panels = vec![];
-    for metric in 0..=1 {
+    for metric in METRICS {
         let mut lines: Vec<Series> = vec![];
         for order in ORDERS {
             eprintln!("growth: order {order}, metric {metric}");

@@ -27,11 +27,11 @@ pub struct Plain {
 }
 
 fn distance(metric: u32, a: &Profile, b: &Profile) -> u32 {
-    if metric == 0 {
-        let sum: u64 = (0..4).map(|i| a.measures[i].abs_diff(b.measures[i]) as u64).sum();
-        sum.min(u32::MAX as u64) as u32
-    } else {
-        (a.code[0] ^ b.code[0]).count_ones() + (a.code[1] ^ b.code[1]).count_ones()
+    let differences = (0..4).map(|i| a.measures[i].abs_diff(b.measures[i]));
+    match metric {
+        0 => differences.map(u64::from).sum::<u64>().min(u32::MAX as u64) as u32,
+        1 => (a.code[0] ^ b.code[0]).count_ones() + (a.code[1] ^ b.code[1]).count_ones(),
+        _ => differences.fold(0, u32::max),
     }
 }
 

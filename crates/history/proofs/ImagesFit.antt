@@ -8,6 +8,7 @@ use lib.ListN.{length}
 use Rattle.metric_rules.specs.Lists.{every, select}
 use Rattle.metric_rules.specs.Row.{isLive, markOf}
 use Rattle.metric_rules.specs.Distance.{validSpace}
+use Rattle.metric_rules.proofs.Laws.{metric-byte}
 use Rattle.tree_rules.proofs.Tests.{and-second, and-pass, all-every}
 use Rattle.bucket_rules.specs.Geometry.{validOrder, room, tableRows}
 use Rattle.bucket_rules.specs.Table.{Table, orderOf, tableSpace, liveOf, slotsOf, liveSlots}
@@ -24,14 +25,11 @@ use Rattle.image_rules.proofs.ReadTests.{reads-slots, reads-sizes, reads-bucket
 use Rattle.image_rules.proofs.Accepting.{Accepted}
 use Rattle.image_rules.proofs.Lengths.{length-image-built}
 use Rattle.history.proofs.Sound.{Sound}
-use Rattle.history.proofs.SoundStanding.{metric-most, room-most, sound-sizes, sound-roomy, sound-slots}
+use Rattle.history.proofs.SoundStanding.{room-most, sound-sizes, sound-roomy, sound-slots}
 
 module _ {t : Table} (sound : Sound t) where
   order-bound : orderOf t ≤ 12
   order-bound = order-most (orderOf t) (sound .order)
-
-  metric-bound : tableSpace t .metric ≤ 1
-  metric-bound = metric-most (tableSpace t) (sound .space)
 
   room-bound : (k : ℕ) → k ≤ orderOf t → room k ≤ 4096
   room-bound k h = room-most k (orderOf t) h (sound .order)
@@ -40,7 +38,7 @@ module _ {t : Table} (sound : Sound t) where
   sound-fits =
       record {
         order = omega (arith, order-bound);
-        metric = omega (arith, metric-bound);
+        metric = omega (arith, metric-byte (tableSpace t) (sound .space));
         built = λ k h. omega (arith, sound-sizes sound k h .1, room-bound k h);
         live = λ k h. omega (arith, sound-sizes sound k h .0, sound-sizes sound k h .1, room-bound k h);
         slots = slots-length (sound-roomy sound);

@@ -10,11 +10,10 @@ use native.Mathlib.Decide.{decLe}
 use lib.Dec.{leb, eqb}
 use lib.ListN.{length, getD, drop}
 use lib.Seq.{getD-take, getD-drop}
-use borrow.Author.Tests.{leb-true}
 use Rattle.metric_rules.specs.Lists.{every, select, distinct}
 use Rattle.metric_rules.specs.Row.{Row, IsRow, isLive, tagOf, profileOf, markOf}
 use Rattle.metric_rules.specs.Validity.{validTag, validMeasures}
-use Rattle.metric_rules.specs.Distance.{Space, distance, lastMetric, validSpace}
+use Rattle.metric_rules.specs.Distance.{Space, distance, validSpace}
 use Rattle.tree_rules.specs.Layout.{isLayout}
 use Rattle.tree_rules.specs.Guided.{All}
 use Rattle.tree_rules.proofs.Lists.{all-weaken}
@@ -23,7 +22,7 @@ use Rattle.bucket_rules.specs.Geometry.{validOrder, room, bucketsOf, headerRow,
 use Rattle.bucket_rules.specs.Table.{Table, rowAt, orderOf, tableSpace, builtOf, liveOf, slotsOf, liveSlots, pairRow, headerOf}
 use Rattle.bucket_rules.specs.Checks.{sizesPass, marksPass}
 use Rattle.bucket_rules.specs.Rebuild.{liveItems}
-use Rattle.bucket_rules.proofs.Buckets.{order-most, every-bucket}
+use Rattle.bucket_rules.proofs.Buckets.{every-bucket}
 use Rattle.bucket_rules.proofs.Owned.{all-own}
 use Rattle.bucket_rules.proofs.RowsFit.{zero-row-fits, pair-row-fits, header-fits}
 use Rattle.bucket_rules.proofs.Puts.{Holds, held-built, held-live, held-slots, held-zeros}
@@ -113,11 +112,7 @@ module _ (image : List ℕ) (area : Table) (bytes : All (λ b. b < 2 ^ 8) image)
   u-long = rw (here .order, here .long) (ok .roomy)
 
   header-row : IsRow (rowAt u headerRow)
-  unfolding validSpace lastMetric
-  header-row =
-      let order : orderIn image ≤ 12 = order-most (orderIn image) (ok .order) in
-      let metric : spaceIn image .metric ≤ 1 = leb-true (spaceIn image .metric) 1 (ok .space) in
-      rw (here .header) (header-fits (orderIn image) (spaceIn image) (omega arith) (omega arith))
+  header-row = rw (here .header) (header-fits (orderIn image) (spaceIn image) (ok .order) (ok .space))
 
   sizes-rows : (k : ℕ) → k ≤ orderOf u → IsRow (rowAt u (sizesRow k))
   sizes-rows k h =

@@ -94,14 +94,14 @@ tries =
     ∷ on laid (add (tag 4) below)
     ∷ on laid (range below 0)
     ∷ on laid (nearest below 0)
-    ∷ on laid (fresh 13 (by 2))
-    ∷ on laid (fresh 12 (by 2))
+    ∷ on laid (fresh 13 (by 3))
+    ∷ on laid (fresh 12 (by 3))
     ∷ on laid (nearest (valued 0) 0)
     ∷ on laid write
     ∷ on laid (load (0 ∷ 0 ∷ 0 ∷ []))
-    ∷ on laid (load (13 ∷ 2 ∷ 1 ∷ 0 ∷ []))
+    ∷ on laid (load (13 ∷ 3 ∷ 1 ∷ 0 ∷ []))
+    ∷ on laid (load (0 ∷ 3 ∷ 1 ∷ 0 ∷ []))
     ∷ on laid (load (0 ∷ 2 ∷ 1 ∷ 0 ∷ []))
-    ∷ on laid (load (0 ∷ 0 ∷ 1 ∷ 0 ∷ []))
     ∷ on laid (load (0 ∷ 0 ∷ 0 ∷ 0 ∷ 1 ∷ 0 ∷ 0 ∷ []))
     ∷ on laid (load (0 ∷ 0 ∷ 0 ∷ 0 ∷ 1 ∷ 0 ∷ 0 ∷ 0 ∷ []))
     ∷ on laid (load (0 ∷ 0 ∷ 0 ∷ 0 ∷ 1 ∷ 0 ∷ 1 ∷ 0 ∷ []))
@@ -116,6 +116,7 @@ tries =
     ∷ on (take 10 laid) (fresh 2 (by 0))
     ∷ record { call = add (tag 5) (valued 0); lent = shortWork }
     ∷ on (take 1 (headed 13 0)) (remove 0)
+    ∷ on (headed 2 3) (range below 0)
     ∷ on (headed 2 2) (range below 0)
     ∷ on (sized 2 4 1) (lookUp 0)
     ∷ on (sized 0 1 1) write
@@ -156,6 +157,7 @@ expected =
     ∷ noAdd 23
     ∷ noRemove 24
     ∷ noSearch 24
+    ∷ noSearch 2
     ∷ noProfile 24
     ∷ noImage 24
     ∷ noAdd 24

@@ -1,4 +1,4 @@
--- Searches worked by hand from 01's "Searching": equal bounds, dead and foreign slots, both metrics, ties of rank, and the largest distance.
+-- Searches worked by hand from 01's "Searching": equal bounds, dead and foreign slots, the three metrics, ties of rank, and the largest distance.
 -- Each is a run that antt computes. A reply is refusal, found, distances and then each entry's tag and distance.
 use Prim.Native.Nat.{ℕ, _+_, _-_, _^_}
 use mathlib.Core.Path.{_≡_, refl}
@@ -7,7 +7,7 @@ use lib.IntN.{ℤ, pos, negsuc}
 use lib.ListN.{set}
 use Rattle.metric_rules.specs.declared.Profile.{Profile}
 use Rattle.metric_rules.specs.Row.{Row, word, rowOf, tagOf, thresholdOf, withThreshold, withMark}
-use Rattle.metric_rules.specs.Distance.{distance, measureDistance}
+use Rattle.metric_rules.specs.Distance.{distance, measureDistance, largest, worstDistance}
 use Rattle.tree_rules.specs.Layout.{layout}
 use Rattle.bucket_rules.specs.Geometry.{firstSlot}
 use Rattle.bucket_rules.specs.Table.{Table, rowAt}
@@ -34,8 +34,21 @@ codes : Table
 unfolding after scratch tag coded
 codes = after scratch (fresh 1 (by 1) ∷ add (tag 1) (coded 0 0) ∷ add (tag 2) (coded (2 ^ 64 - 1) 1) ∷ [])
 
+measured : ℤ → ℤ → ℤ → ℤ → Profile
+measured a b c d = record { measures = a ∷ b ∷ c ∷ d ∷ []; code = 0 ∷ 0 ∷ [] }
+
+-- metric 2: all zero, and differences of 3, 5, 7 and 1
+worsts : Table
+unfolding after scratch tag measured
+worsts =
+    after scratch
+    (fresh 1 (by 2)
+    ∷ add (tag 1) (measured (pos 0) (pos 0) (pos 0) (pos 0))
+    ∷ add (tag 2) (measured (pos 3) (pos 5) (negsuc 6) (pos 1))
+    ∷ [])
+
 searches : List (List (List ℕ))
-unfolding replies after scratch table four foreign coded codes valued tag removing withThreshold withMark
+unfolding replies after scratch table four foreign coded codes measured worsts valued tag removing withThreshold withMark
 searches =
     replies table (range (valued 0) 4_294_967_295 ∷ nearest (valued 0) 9 ∷ nearest (valued 13) 2 ∷ [])
     ∷ replies (after scratch (fresh 2 (by 0) ∷ [])) (range (valued 0) 5 ∷ nearest (valued 0) 5 ∷ [])
@@ -48,6 +61,7 @@ searches =
     ∷ replies (foreign (withMark 5) 1) (range (valued 13) 0 ∷ lookUp (tag 2) ∷ lookUp (tag 3) ∷ [])
     ∷ replies codes
     (range (coded 0 0) 64 ∷ range (coded 0 0) 65 ∷ nearest (coded (2 ^ 64 - 1) (2 ^ 64 - 1)) 1 ∷ [])
+    ∷ replies worsts (range (valued 0) 6 ∷ range (valued 0) 7 ∷ nearest (measured (negsuc 3) (pos 5) (pos 0) (pos 0)) 1 ∷ [])
     ∷ []
 
 worked :
@@ -75,6 +89,8 @@ worked :
     ∷ ((0 ∷ 1 ∷ 4 ∷ tag 3 ∷ 0 ∷ []) ∷ (21 ∷ 0 ∷ []) ∷ (0 ∷ 2 ∷ []) ∷ [])
     -- metric 1: 65 bits differ; from all ones 128 and 63
     ∷ ((0 ∷ 1 ∷ 2 ∷ tag 1 ∷ 0 ∷ []) ∷ (0 ∷ 2 ∷ 2 ∷ tag 1 ∷ 0 ∷ tag 2 ∷ 65 ∷ []) ∷ (0 ∷ 1 ∷ 2 ∷ tag 2 ∷ 63 ∷ []) ∷ [])
+    -- metric 2: 7 is the largest of 3, 5, 7 and 1; from -4, 5, 0, 0 it is 5 to the zeros and 7 to the other
+    ∷ ((0 ∷ 1 ∷ 2 ∷ tag 1 ∷ 0 ∷ []) ∷ (0 ∷ 2 ∷ 2 ∷ tag 1 ∷ 0 ∷ tag 2 ∷ 7 ∷ []) ∷ (0 ∷ 1 ∷ 2 ∷ tag 1 ∷ 5 ∷ []) ∷ [])
     ∷ [])
 unfolding searches tag
 worked = refl
@@ -88,22 +104,22 @@ ties :
 unfolding tagOf thresholdOf word layout distance rowOf valued
 ties = refl
 
-measured : ℤ → ℤ → ℤ → ℤ → Profile
-measured a b c d = record { measures = a ∷ b ∷ c ∷ d ∷ []; code = 0 ∷ 0 ∷ [] }
-
--- the ends of 32 bits: one difference of 2^32 - 1 is itself, two of 2^31 are one too many, and four of the largest are far too many
-largest : List ℕ
-unfolding measureDistance measured
-largest =
+-- the ends of 32 bits, by metrics 0 and 2: one difference of 2^32 - 1 is itself, two of 2^31 are one too many for a sum, and four of the largest
+-- far too many; the largest difference always fits
+ends : (Profile → Profile → ℕ) → List ℕ
+unfolding measured
+ends between =
     let low = negsuc (2 ^ 31 - 1) in
     let high = pos (2 ^ 31 - 1) in
     let none = pos 0 in
-    measureDistance (measured low none none none) (measured high none none none)
-    ∷ measureDistance (measured low none low none) (measured none none none none)
-    ∷ measureDistance (measured low low low low) (measured high high high high)
-    ∷ measureDistance (measured low none high none) (measured none none none none)
+    between (measured low none none none) (measured high none none none)
+    ∷ between (measured low none low none) (measured none none none none)
+    ∷ between (measured low low low low) (measured high high high high)
+    ∷ between (measured low none high none) (measured none none none none)
     ∷ []
 
-saturates : largest ≡ 4_294_967_295 ∷ 4_294_967_295 ∷ 4_294_967_295 ∷ 4_294_967_295 ∷ []
-unfolding largest
-saturates = refl
+saturates :
+    (ends measureDistance ≡ 4_294_967_295 ∷ 4_294_967_295 ∷ 4_294_967_295 ∷ 4_294_967_295 ∷ [])
+    × (ends worstDistance ≡ 4_294_967_295 ∷ 2_147_483_648 ∷ 4_294_967_295 ∷ 2_147_483_648 ∷ [])
+unfolding ends measureDistance worstDistance largest
+saturates = (refl, refl)

@@ -8,11 +8,10 @@ use native.Mathlib.Omega.{arith}
 use lib.Dec.{leb, eqb}
 use lib.Pow.{pow-mono}
 use lib.ListN.{length, replicate}
-use borrow.Author.Tests.{eqb-true, eq-eqb, leb-true}
+use borrow.Author.Tests.{eqb-true, eq-eqb}
 use Rattle.metric_rules.specs.Lists.{every, select, distinct}
 use Rattle.metric_rules.specs.Row.{Row, IsRow, tagOf, profileOf, markOf, isLive, zeroRow}
 use Rattle.metric_rules.specs.Validity.{validTag, validMeasures}
-use Rattle.metric_rules.specs.Distance.{Space, validSpace, lastMetric}
 use Rattle.tree_rules.specs.Guided.{All}
 use Rattle.tree_rules.proofs.Lists.{all-at, all-append, all-take, all-weaken}
 use Rattle.tree_rules.proofs.Tests.{and-second, and-pass, every-all, all-every}
@@ -31,13 +30,6 @@ use Rattle.bucket_rules.proofs.Owned.{holds-own, all-own, own-all}
 use Rattle.image_rules.specs.Load.{fieldsPass}
 use Rattle.history.proofs.Sound.{Sound}
 use Rattle.history.proofs.Standing.{Good, Stocked, Standing}
-
-pub metric-most : (space : Space) → validSpace space ≡ true → space .metric ≤ 1
-unfolding validSpace lastMetric
-metric-most space h = leb-true (space .metric) 1 h
-
-header-row : (order : ℕ) (space : Space) → validOrder order ≡ true → validSpace space ≡ true → IsRow (headerOf order space)
-header-row order space ho hs = header-fits order space (omega (arith, order-most order ho)) (omega (arith, metric-most space hs))
 
 pub room-most : (k order : ℕ) → k ≤ order → validOrder order ≡ true → room k ≤ 4096
 unfolding room
@@ -117,7 +109,7 @@ module _ {t : Table} (s : Standing t) where
         order = s .order;
         space = s .space;
         long = s .long;
-        rows = all-own IsRow t (s .long) (subst IsRow (sym (s .header)) (header-row (orderOf t) (tableSpace t) (s .order) (s .space))) sizes-fit slots-fit;
+        rows = all-own IsRow t (s .long) (subst IsRow (sym (s .header)) (header-fits (orderOf t) (tableSpace t) (s .order) (s .space))) sizes-fit slots-fit;
         header = s .header;
         sizeRows = λ k h. let held = s .buckets k h .held in held .sizes ∙ ap₂ pairRow (sym (held-built held)) (sym (held-live held));
         sizes = sizes-pass (orderOf t) (builtOf t) (liveOf t) sizes (omega (arith, few, standing-total));

@@ -100,4 +100,5 @@ fn main() {
     print_cut_lines();
     print_flip_lines(0);
     print_flip_lines(1);
+    print_flip_lines(2);
 }

@@ -3,9 +3,9 @@ ghost use mathlib.Core.Path.{_≡_};
 ghost use lib.IntN.{_-ℤ_, natAbs};
 ghost use mir.Syntax.{w32};
 ghost use mir.Val.{toZ};
-ghost use Prim.Native.Nat.{_+_};
+ghost use Prim.Native.Nat.{_+_, max};
 ghost use Rattle.metric_rules.specs.Row.{profileOf};
-ghost use Rattle.metric_rules.specs.Distance.{saturated, differing, measureDistance, codeDistance, distance, spaceOf};
+ghost use Rattle.metric_rules.specs.Distance.{saturated, differing, codeDistance, distanceBy, distance, spaceOf};
 ghost use Rattle.metric_rules.specs.Validity.{validTag, validMeasure, validMeasures};
 use metric_rules::CODE_0_HIGH;
 use metric_rules::CODE_0_LOW;
@@ -49,16 +49,28 @@ fn saturated_sum(a: u32, b: u32, c: u32, d: u32) -> u32
     }
 }
 
-// Metric 0, of the four measures.
-fn measure_distance(a: Row, b: Row) -> u32
-    ensures { λ r. ⌜ r ≡ measureDistance (profileOf a) (profileOf b) ⌝ }
+fn larger(a: u32, b: u32) -> u32
+    ensures { λ r. ⌜ r ≡ max a b ⌝ }
 {
-    saturated_sum(
-        gap_of(a[MEASURE_0], b[MEASURE_0]),
-        gap_of(a[MEASURE_1], b[MEASURE_1]),
-        gap_of(a[MEASURE_2], b[MEASURE_2]),
-        gap_of(a[MEASURE_3], b[MEASURE_3]),
-    )
+    if a < b { b } else { a }
+}
+
+// Metrics 0 and 2: the sum and the largest of the four measures' differences. The differences stand here once, so that a distance stays small enough
+// to be inlined where it is taken. The largest fits as it is.
+fn measure_distance(metric: u32, a: Row, b: Row) -> u32
+    requires { ⌜ (metric ≡ 1 → ⊥) ⌝ }
+    ensures { λ r. ⌜ r ≡ distanceBy metric (profileOf a) (profileOf b) ⌝ }
+{
+    let first = gap_of(a[MEASURE_0], b[MEASURE_0]);
+    let second = gap_of(a[MEASURE_1], b[MEASURE_1]);
+    let third = gap_of(a[MEASURE_2], b[MEASURE_2]);
+    let fourth = gap_of(a[MEASURE_3], b[MEASURE_3]);
+    if metric == 0 {
+        return saturated_sum(first, second, third, fourth);
+    }
+    let front = larger(first, second);
+    let back = larger(third, fourth);
+    if front < back { back } else { front }
 }
 
 // The number of bits in which two words differ.
@@ -83,15 +95,16 @@ fn code_distance(a: Row, b: Row) -> u32
     first + second
 }
 
-// The distance between the profiles of two rows, by a table's header row. A number that is no metric reads as 1. A search makes its query a row
+// The distance between the profiles of two rows, by a table's header row. A number that is no metric reads as 2. A search makes its query a row
 // once (`row_of`), so that each slot costs a row against a row.
 pub fn distance_between(header: &Row, a: Row, b: Row) -> u32
     ensures { λ r. ⌜ r ≡ distance (spaceOf (now (header .entry))) (profileOf a) (profileOf b) ⌝ }
 {
-    if header[METRIC_AT] == 0 {
-        measure_distance(a, b)
-    } else {
+    let metric = header[METRIC_AT];
+    if metric == 1 {
         code_distance(a, b)
+    } else {
+        measure_distance(metric, a, b)
     }
 }
 

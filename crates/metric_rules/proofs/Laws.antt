@@ -1,17 +1,18 @@
--- The two distances are metrics below 2^32, for every profile, and so is the distance of every metric number: one value of `Metric` for each.
--- A sum of four absolute differences keeps the three laws, and saturation keeps them; the codes go by the digits of their words.
-use Prim.Native.Nat.{ℕ, zero, suc, _+_, _*_, _≤_}
+-- The three distances are metrics below 2^32, for every profile, and so is the distance of every metric number: one value of `Metric` for each.
+-- A sum and a maximum of four absolute differences keep the three laws, and saturation keeps them; the codes go by the digits of their words.
+use Prim.Native.Nat.{ℕ, zero, suc, _+_, _*_, _^_, _≤_, _<_, max}
 use native.Mathlib.Omega.{arith}
-use mathlib.Core.Path.{_≡_, refl, ap}
+use mathlib.Core.Path.{_≡_, refl, ap, _∙_}
 use mathlib.Core.Bool.{true}
-use lib.IntN.{pos, natAbs}
+use lib.IntN.{pos, _-ℤ_, natAbs}
 use borrow.Author.Tests.{leb-true}
 use Rattle.metric_rules.specs.declared.Profile.{Profile}
-use Rattle.metric_rules.specs.Row.{measure, codeWord}
+use Rattle.metric_rules.specs.Row.{IsProfile, measure, codeWord}
 use Rattle.metric_rules.specs.Validity.{validMeasure, validMeasures, measureLimit}
-use Rattle.metric_rules.specs.Distance.{Metric, saturated, gap, measureDistance, differing, codeDistance, Space, distanceBy, distance}
+use Rattle.metric_rules.specs.Distance.{Metric, saturated, gap, measureDistance, differing, codeDistance, largest, worstDistance, Space, distanceBy, distance, lastMetric, validSpace}
 use Rattle.metric_rules.proofs.Elements.{every-at}
 use Rattle.metric_rules.proofs.Apart.{abs-self, abs-swap, abs-triangle, abs-sum}
+use Rattle.metric_rules.proofs.Words.{signed-apart}
 use Rattle.metric_rules.proofs.Digits.{differing-self, differing-swap, differing-triangle, differing-le}
 
 -- metric 0
@@ -76,18 +77,63 @@ code-metric =
           );
     }
 
--- the table's metric: number 0 is metric 0, and every other number reads as metric 1
-pub distance-measures : (space : Space) → space .metric ≡ 0 → distance space ≡ measureDistance
-unfolding distance
-distance-measures space e = ap distanceBy e
+-- metric 2. The greater of two numbers keeps the triangle law, so the largest of four does
+abbrev greater : (ℕ → ℕ) → ℕ → ℕ → ℕ
+greater f i j = max (f i) (f j)
 
-pub distance-codes : (space : Space) → (space .metric ≡ 0 → ⊥) → distance space ≡ codeDistance
-unfolding distance
-distance-codes space ne = go (space .metric) ne
-  where
-    go : (metric : ℕ) → (metric ≡ 0 → ⊥) → distanceBy metric ≡ codeDistance
-    go zero ne = absurd (ne refl)
-    go (suc metric) ne = refl
+max-triangle : (a b c a' b' c' : ℕ) → a ≤ b + c → a' ≤ b' + c' → max a a' ≤ max b b' + max c c'
+max-triangle a b c a' b' c' h h' = omega arith
+
+module _ (f g h : ℕ → ℕ) (within : (i : ℕ) → f i ≤ g i + h i) where
+  greater-triangle : (i j : ℕ) → greater f i j ≤ greater g i j + greater h i j
+  greater-triangle i j = max-triangle (f i) (g i) (h i) (f j) (g j) (h j) (within i) (within j)
+
+  largest-triangle : largest f ≤ largest g + largest h
+  unfolding largest
+  largest-triangle =
+      max-triangle (greater f 0 1) (greater g 0 1) (greater h 0 1) (greater f 2 3) (greater g 2 3) (greater h 2 3)
+      (greater-triangle 0 1) (greater-triangle 2 3)
+
+largest-alike : (f g : ℕ → ℕ) → ((i : ℕ) → f i ≡ g i) → largest f ≡ largest g
+unfolding largest
+largest-alike f g same = λ i. max (max (same 0 i) (same 1 i)) (max (same 2 i) (same 3 i))
+
+largest-none : largest (λ i. 0) ≡ 0
+unfolding largest
+largest-none = refl
+
+pub worst-metric : Metric worstDistance
+unfolding worstDistance saturated
+worst-metric =
+    record {
+      fits = λ p q. omega arith;
+      equal = λ p. ap saturated (largest-alike (gap p p) (λ i. 0) (gap-self p) ∙ largest-none);
+      symmetric = λ p q. ap saturated (largest-alike (gap p q) (gap q p) (gap-swap p q));
+      triangle = λ p q s. omega (arith, largest-triangle (gap p s) (gap p q) (gap q s) (gap-triangle p q s));
+    }
+
+-- the largest difference of measures of 32 bits is a distance as it is
+pub worst-exact : (p q : Profile) → IsProfile p → IsProfile q → worstDistance p q ≡ largest (gap p q)
+unfolding worstDistance gap saturated largest
+worst-exact p q is-p is-q =
+    let near : (i : ℕ) → natAbs (measure p i -ℤ measure q i) < 2 ^ 32 = λ i. signed-apart (measure p i) (measure q i) (is-p .signed i) (is-q .signed i) in
+    omega (arith, near 0, near 1, near 2, near 3)
+
+-- the distance by a number: 0 and 1 are metrics 0 and 1, and every other number reads as metric 2
+module _ (p q : Profile) where
+  pub by-sum : (metric : ℕ) → metric ≡ 0 → distanceBy metric p q ≡ measureDistance p q
+  unfolding distanceBy
+  by-sum metric e = ap (λ (m : ℕ). distanceBy m p q) e
+
+  pub by-codes : (metric : ℕ) → metric ≡ 1 → distanceBy metric p q ≡ codeDistance p q
+  unfolding distanceBy
+  by-codes metric e = ap (λ (m : ℕ). distanceBy m p q) e
+
+  pub by-worst : (metric : ℕ) → (metric ≡ 0 → ⊥) → (metric ≡ 1 → ⊥) → distanceBy metric p q ≡ worstDistance p q
+  unfolding distanceBy
+  by-worst zero n0 n1 = absurd (n0 refl)
+  by-worst (suc zero) n0 n1 = absurd (n1 refl)
+  by-worst (suc (suc metric)) n0 n1 = refl
 
 pub distance-metric : (space : Space) → Metric (distance space)
 unfolding distance
@@ -95,4 +141,10 @@ distance-metric space = go (space .metric)
   where
     go : (metric : ℕ) → Metric (distanceBy metric)
     go zero = measure-metric
-    go (suc metric) = code-metric
+    go (suc zero) = code-metric
+    go (suc (suc metric)) = worst-metric
+
+-- a valid metric's number is one byte, as the image stores it
+pub metric-byte : (space : Space) → validSpace space ≡ true → space .metric < 256
+unfolding validSpace lastMetric
+metric-byte space e = omega (arith, leb-true (space .metric) lastMetric e)

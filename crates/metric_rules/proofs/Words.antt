@@ -19,6 +19,14 @@ signed-size z s = natAbs-le z (s .sfits)
 word-signed : (n : ℕ) → n < 2 ^ 32 → SFits w32 (toZ w32 n)
 word-signed n h = sfits-toZ {w = w32} (fits-of-lt h)
 
+-- two signed numbers of 32 bits are less than 2^32 apart
+lifted-below : (z : ℤ) → SFits w32 z → lifted (2 ^ 31) z < 2 ^ 32
+lifted-below (pos n) s = omega (arith, s .sfits)
+lifted-below (negsuc n) s = omega arith
+
+pub signed-apart : (x y : ℤ) → SFits w32 x → SFits w32 y → natAbs (x -ℤ y) < 2 ^ 32
+signed-apart x y sx sy = omega (arith, abs-lifted (2 ^ 31) x y (signed-size x sx) (signed-size y sy), lifted-below x sx, lifted-below y sy)
+
 lifted-word : (n : ℕ) → n < 2 ^ 32 → lifted (2 ^ 31) (toZ w32 n) ≡ (n + 2 ^ 31) % 2 ^ 32
 lifted-word n h = go (ltb n (2 ^ 31)) refl
   where

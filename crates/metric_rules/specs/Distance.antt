@@ -1,5 +1,5 @@
--- 01, "A head and its distance": the two metrics, and the laws that trees, searches and costs are shown from.
-use Prim.Native.Nat.{ℕ, zero, suc, _+_, _-_, _/_, _%_, _^_, _≤_, _<_, min}
+-- 01, "A head and its distance", and W1: the three metrics, and the laws that trees, searches and costs are shown from.
+use Prim.Native.Nat.{ℕ, zero, suc, _+_, _-_, _/_, _%_, _^_, _≤_, _<_, min, max}
 use mathlib.Core.Path.{_≡_}
 use lib.IntN.{_-ℤ_, natAbs}
 use lib.Bits.{differ}
@@ -36,11 +36,19 @@ unfoldable pub codeDistance : Profile → Profile → ℕ
 unfolding differing codeWord
 codeDistance p q = differing 64 (codeWord p 0) (codeWord q 0) + differing 64 (codeWord p 1) (codeWord q 1)
 
--- the distance by a metric's number. A number above 1 is no metric and every call refuses it; here it reads as 1
+-- metric 2 (W1): the largest of the absolute differences of the four measures. Measures of 32 bits never saturate it (`worst-exact`)
+unfoldable pub largest : (ℕ → ℕ) → ℕ
+largest f = max (max (f 0) (f 1)) (max (f 2) (f 3))
+
+unfoldable pub worstDistance : Profile → Profile → ℕ
+worstDistance p q = saturated (largest (gap p q))
+
+-- the distance by a metric's number. A number above 2 is no metric and every call refuses it; here it reads as 2
 unfoldable pub distanceBy : ℕ → Profile → Profile → ℕ
 unfolding measureDistance codeDistance
 distanceBy zero = measureDistance
-distanceBy (suc metric) = codeDistance
+distanceBy (suc zero) = codeDistance
+distanceBy (suc (suc metric)) = worstDistance
 
 -- what a distance depends on, in one value: a table's metric ("A table has one metric, set when fresh")
 pub record Space : Type 0 where
@@ -58,9 +66,9 @@ unfoldable pub spaceOf : Row → Space
 unfolding word metricAt
 spaceOf header = record { metric = word header metricAt }
 
--- a metric is 0 or 1 (refusal 4 is for a number above the last)
+-- a metric is 0, 1 or 2 (refusal 4 is for a number above the last)
 unfoldable pub lastMetric : ℕ
-lastMetric = 1
+lastMetric = 2
 
 unfoldable pub validSpace : Space → Bool
 unfolding lastMetric

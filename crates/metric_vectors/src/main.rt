@@ -136,7 +136,7 @@ fn to_query(metric: u32, a: Row, query: Profile) -> u64 {
     metric::distance_to(&by, a, query) as u64
 }
 
-// The distances of objects i and j: by each metric and by two numbers that are none, then from a row to a query.
+// The distances of objects i and j: by each metric and by a number that is none, then from a row to a query.
 fn print_pair(i: usize, j: usize) {
     let a = row_at(i);
     let b = row_at(j);
@@ -145,7 +145,8 @@ fn print_pair(i: usize, j: usize) {
     print_number(between(2, a, b));
     print_number(between(0xffff_ffff, a, b));
     print_number(to_query(0, a, profile_at(j)));
-    print_last(to_query(1, a, profile_at(j)));
+    print_number(to_query(1, a, profile_at(j)));
+    print_last(to_query(2, a, profile_at(j)));
 }
 
 fn print_distances() {

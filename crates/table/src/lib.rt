@@ -22,7 +22,7 @@ pub const BUILT_AT: usize = 0;
 pub const LIVE_AT: usize = 1;
 
 // The metrics are 0 to this one.
-const LAST_METRIC: u32 = 1;
+const LAST_METRIC: u32 = 2;
 
 // A word of a row, with its bound: a row that was read from a slice comes without it.
 pub fn word_at(row: Row, i: usize) -> u32

@@ -1,5 +1,5 @@
 -- Worked by hand: a conversation in which `?` lines count, a minus covers all digits, the entries found and the distances differ and the last
--- line has no line feed; and single fields of and out of form.
+-- line has no line feed; metric 2; and single fields of and out of form.
 use Prim.Native.Nat.{ℕ}
 use mathlib.Core.Path.{_≡_, refl}
 use mathlib.Core.Bool.{Bool, true, false}
@@ -53,6 +53,34 @@ output =
 conversation-worked : talk scratch input ≡ output
 unfolding talk scratch input output
 conversation-worked = refl
+
+-- metric 2 is one, and its distance the largest difference; metric 3 is none
+byWorst : List ℕ
+byWorst =
+    -- 1 2
+    49 ∷ 32 ∷ 50 ∷ 10 ∷
+    -- A 036000000000001 0.03 -0.05 0.00 0.01 -
+    65 ∷ 32 ∷ 48 ∷ 51 ∷ 54 ∷ 48 ∷ 48 ∷ 48 ∷ 48 ∷ 48 ∷ 48 ∷ 48 ∷ 48 ∷ 48 ∷ 48 ∷ 48 ∷ 49 ∷ 32 ∷ 48 ∷ 46 ∷ 48 ∷ 51 ∷ 32 ∷ 45 ∷ 48 ∷ 46 ∷ 48 ∷ 53 ∷ 32 ∷ 48 ∷ 46 ∷ 48 ∷ 48 ∷ 32 ∷ 48 ∷ 46 ∷ 48 ∷ 49 ∷ 32 ∷ 45 ∷ 10 ∷
+    -- N 1 0.00 0.00 0.00 0.00 -
+    78 ∷ 32 ∷ 49 ∷ 32 ∷ 48 ∷ 46 ∷ 48 ∷ 48 ∷ 32 ∷ 48 ∷ 46 ∷ 48 ∷ 48 ∷ 32 ∷ 48 ∷ 46 ∷ 48 ∷ 48 ∷ 32 ∷ 48 ∷ 46 ∷ 48 ∷ 48 ∷ 32 ∷ 45 ∷ 10 ∷
+    []
+
+worst-worked :
+    talk scratch byWorst
+    ≡
+    -- A 0 0 0
+    65 ∷ 32 ∷ 48 ∷ 32 ∷ 48 ∷ 32 ∷ 48 ∷ 10 ∷
+    -- N 0 1 1
+    78 ∷ 32 ∷ 48 ∷ 32 ∷ 49 ∷ 32 ∷ 49 ∷ 10 ∷
+    -- 036000000000001 5
+    48 ∷ 51 ∷ 54 ∷ 48 ∷ 48 ∷ 48 ∷ 48 ∷ 48 ∷ 48 ∷ 48 ∷ 48 ∷ 48 ∷ 48 ∷ 48 ∷ 49 ∷ 32 ∷ 53 ∷ 10 ∷
+    []
+unfolding talk scratch byWorst
+worst-worked = refl
+
+no-metric-worked : talk scratch (49 ∷ 32 ∷ 51 ∷ 10 ∷ []) ≡ 70 ∷ 32 ∷ 52 ∷ 10 ∷ []
+unfolding talk scratch
+no-metric-worked = refl
 
 -- -.5 and 123456.00 are no measures, 00000.00 is; a code of upper-case digits is none; 4294967295 is a number and 4294967296 is not
 forms : List Bool

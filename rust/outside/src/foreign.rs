@@ -37,7 +37,7 @@ pub fn table(random: &mut Random, order: u32, metric: u32) -> Vec<Row> {
         a_size(random, &mut rows, order);
     }
     if random.one_in(12) {
-        rows[0][random.below(2)] = random.pick(&[2, 12, 13, 255, u32::MAX]);
+        rows[0][random.below(2)] = random.pick(&[2, 3, 12, 13, 255, u32::MAX]);
     }
     rows
 }

@@ -150,7 +150,7 @@ pub fn change(random: &mut Random, areas: &Areas, order: u32) -> Call {
 fn fresh(random: &mut Random, order: u32, metric: u32) -> Call {
     match random.below(4) {
         0 => Call::Fresh { order: random.pick(&[13, 12, 31, 32, 64, u32::MAX]), metric },
-        1 => Call::Fresh { order, metric: random.pick(&[2, 3, 256, u32::MAX]) },
+        1 => Call::Fresh { order, metric: random.pick(&[3, 4, 256, u32::MAX]) },
         _ => Call::Fresh { order, metric },
     }
 }

@@ -88,7 +88,7 @@ fn is_lent(call: &Call, at: usize) -> bool {
 fn areas_of_every_small_length() {
     let mut random = Random::new(4);
     let mut count = 0;
-    for (order, metric) in (0..=3).flat_map(|order| [(order, 0), (order, 1)]) {
+    for (order, metric) in (0..=3).flat_map(|order| [0, 1, 2].map(|metric| (order, metric))) {
         for rows in tables(&mut random, order, metric) {
             count += every_length(&mut random, &rows, order, metric);
         }
@@ -100,7 +100,7 @@ fn areas_of_every_small_length() {
 #[test]
 fn images_of_every_length() {
     let mut random = Random::new(5);
-    for (order, metric) in (0..=4).flat_map(|order| [(order, 0), (order, 1)]) {
+    for (order, metric) in (0..=4).flat_map(|order| [0, 1, 2].map(|metric| (order, metric))) {
         let sound = sound::table(&mut random, order, metric);
         let image = bytes(&sound);
         let mut load = |bytes: &[u8], rows: usize| {

@@ -89,7 +89,7 @@ fn grow_and_shrink(order: u32, metric: Metric, most: usize) {
 
 #[test]
 fn searches_find_what_a_scan_finds() {
-    for metric in [Metric::SumOfDifferences, Metric::DifferingBits] {
+    for metric in [Metric::SumOfDifferences, Metric::DifferingBits, Metric::LargestDifference] {
         for order in [0, 1, 2, 5, 8] {
             grow_and_shrink(order, metric, 1 << order);
         }

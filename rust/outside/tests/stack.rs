@@ -52,7 +52,7 @@ fn measure(name: &str, call: Call, mut areas: Areas) -> usize {
 
 #[test]
 fn every_call_in_a_small_stack() {
-    for metric in 0..=1 {
+    for metric in 0..=2 {
         let mut random = Random::new(9);
         let full = table(&mut random, metric, &[(12, 4096, 4096)]);
         let each: Vec<_> = (0..12).map(|k| (k, 1 << k, 1 << k)).collect();

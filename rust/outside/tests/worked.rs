@@ -134,6 +134,21 @@ fn an_add_over_dead_slots() {
     assert_eq!([0, 1, 2, 3].map(|k| yard.bucket(k).len()), [0, 0, 0, 8]);
 }
 
+// Metric 2: from all zeros the differences are 3, 5, 7 and 1, and from the other query 7, 0, 7 and 1.
+#[test]
+fn the_worst_measure_decides() {
+    let mut yard = Yard::new(1);
+    assert_eq!(yard.call(Call::Fresh { order: 1, metric: 3 }).refusal, 4);
+    assert_eq!(yard.call(Call::Fresh { order: 1, metric: 2 }).refusal, 0);
+    let profile = |measures| Profile { measures, code: [0, 0] };
+    for (national, measures) in [(1, [0; 4]), (2, [3, 5, -7, 1])] {
+        assert_eq!(yard.call(Call::Add { tag: tag(national), profile: profile(measures) }).refusal, 0);
+    }
+    assert_eq!(yard.range(0, 6), (vec![(1, 0)], 2));
+    assert_eq!(yard.range(0, 7), (vec![(1, 0), (2, 7)], 2));
+    assert_eq!(yard.search(Call::Nearest { query: profile([-4, 5, 0, 0]), k: 2 }), (vec![(1, 5), (2, 7)], 2));
+}
+
 #[test]
 fn an_empty_table() {
     let mut yard = Yard::new(2);

@@ -1,4 +1,4 @@
-//! Tags, profiles and slots, the two distances, and a slot's row.
+//! Tags, profiles and slots, the three distances, and a slot's row.
 
 use crate::refusal::{MEASURE, Refused, TAG, ensure};
 
@@ -10,7 +10,7 @@ pub type Entry = [u64; 2];
 /// The largest order.
 pub const MAX_ORDER: u32 = 12;
 /// The largest number of a metric.
-pub const MAX_METRIC: u32 = 1;
+pub const MAX_METRIC: u32 = 2;
 
 const COUNTRY: u64 = 1_000_000_000_000;
 const MAX_MEASURE: u32 = 1_000_000;
@@ -91,10 +91,10 @@ pub fn check_measures(profile: &Profile) -> Result<(), Refused> {
 
 /// The distance of two profiles by a metric.
 pub fn distance(metric: u32, p: &Profile, q: &Profile) -> u32 {
-    if metric == 0 {
-        let sum: u64 = (0..4).map(|i| p.measures[i].abs_diff(q.measures[i]) as u64).sum();
-        sum.min(u32::MAX as u64) as u32
-    } else {
-        (0..2).map(|i| (p.code[i] ^ q.code[i]).count_ones()).sum()
+    let differences = (0..4).map(|i| p.measures[i].abs_diff(q.measures[i]));
+    match metric {
+        0 => differences.map(u64::from).sum::<u64>().min(u32::MAX as u64) as u32,
+        1 => (0..2).map(|i| (p.code[i] ^ q.code[i]).count_ones()).sum(),
+        _ => differences.max().expect("four differences"),
     }
 }

@@ -134,6 +134,8 @@ pub enum Metric {
     SumOfDifferences = 0,
     /// The number of bits in which the codes differ.
     DifferingBits = 1,
+    /// The largest of the absolute differences of the four measures.
+    LargestDifference = 2,
 }
 
 impl Metric {
@@ -151,6 +153,7 @@ impl TryFrom<u32> for Metric {
         match number {
             0 => Ok(Metric::SumOfDifferences),
             1 => Ok(Metric::DifferingBits),
+            2 => Ok(Metric::LargestDifference),
             _ => Err(Refusal::BadMetric),
         }
     }

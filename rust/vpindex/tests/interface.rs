@@ -33,8 +33,10 @@ fn orders_and_metrics() {
         [Ok(0), Ok(0), Ok(1), Ok(2), Ok(12)]
     );
     assert_eq!(Order::holding(4097), Err(Refusal::BadOrder));
-    assert_eq!(Metric::try_from(1), Ok(Metric::DifferingBits));
-    assert_eq!(Metric::try_from(2), Err(Refusal::BadMetric));
+    for metric in [Metric::SumOfDifferences, Metric::DifferingBits, Metric::LargestDifference] {
+        assert_eq!(Metric::try_from(metric.get()), Ok(metric));
+    }
+    assert_eq!(Metric::try_from(3), Err(Refusal::BadMetric));
 }
 
 #[test]
@@ -65,7 +67,8 @@ fn images_refused() {
     assert_eq!(refused(&|image| image.clear()), Some(Refusal::BadLength));
     assert_eq!(refused(&|image| image.push(0)), Some(Refusal::BadLength));
     assert_eq!(refused(&|image| image[0] = 13), Some(Refusal::BadOrder));
-    assert_eq!(refused(&|image| image[1] = 2), Some(Refusal::BadMetric));
+    assert_eq!(refused(&|image| image[1] = 2), None);
+    assert_eq!(refused(&|image| image[1] = 3), Some(Refusal::BadMetric));
     assert_eq!(refused(&|image| image[2] = 1), Some(Refusal::BadImage));
     assert_eq!(refused(&|image| image[4] = 1), Some(Refusal::BadTable));
 }

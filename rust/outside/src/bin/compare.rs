@@ -10,7 +10,7 @@ fn main() {
     let mut random = Random::new(seed);
     let mut tally = Tally::default();
     while tally.calls() < calls as usize {
-        let (order, metric, seed) = (random.below(13) as u32, random.below(2) as u32, random.word());
+        let (order, metric, seed) = (random.below(13) as u32, random.below(3) as u32, random.word());
         println!("list {seed:#x} at order {order}, metric {metric}");
         tally.join(list(&mut Random::new(seed), order, metric, 50));
         let mut history = History::new(seed, order, metric);
