@@ -38,10 +38,11 @@ extern "C" {
 #define VPINDEX_DIFFERING_BITS 1         /* metric 1: the number of bits in which the two codes differ */
 #define VPINDEX_LARGEST_DIFFERENCE 2     /* metric 2: the largest of the absolute differences of the four measures */
 #define VPINDEX_MAX_MEASURE 1000000      /* a measure is -1,000,000 to 1,000,000 */
-#define VPINDEX_MIN_TAG UINT64_C(1000000000000)    /* country 1, national 0 */
-#define VPINDEX_MAX_TAG UINT64_C(999999999999999)  /* country 999, national 999,999,999,999 */
+#define VPINDEX_MIN_TAG VPINDEX_TAG(1, 0)
+#define VPINDEX_MAX_NATIONAL UINT64_C(274877906943)  /* the largest national number: 38 bits, as ISO 11784 stores it */
+#define VPINDEX_MAX_TAG VPINDEX_TAG(999, VPINDEX_MAX_NATIONAL)
 
-/* A tag from its country, 1 to 999, and its national number, 0 to 999,999,999,999. */
+/* A tag from its country, 1 to 999, and its national number, 0 to VPINDEX_MAX_NATIONAL. */
 #define VPINDEX_TAG(country, national) ((uint64_t)(country) * UINT64_C(1000000000000) + (uint64_t)(national))
 
 /* ---- Areas ----------------------------------------------------------------------------------------------------- */
@@ -69,7 +70,7 @@ extern "C" {
 #define VPINDEX_ACCEPTED 0
 
 /* by the input */
-#define VPINDEX_BAD_TAG 1                /* tag outside VPINDEX_MIN_TAG to VPINDEX_MAX_TAG */
+#define VPINDEX_BAD_TAG 1                /* the country is not 1 to 999, or the national above VPINDEX_MAX_NATIONAL */
 #define VPINDEX_BAD_MEASURE 2            /* a measure outside its range */
 #define VPINDEX_BAD_ORDER 3              /* order above 12 */
 #define VPINDEX_BAD_METRIC 4             /* metric above 2 */

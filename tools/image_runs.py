@@ -45,7 +45,9 @@ class Slot:
         self.place, self.tag, self.code = place, tag, (word, other)
 
     def is_valid(self):
-        return 1 <= self.tag // 10**12 <= 999 and all(abs(m) <= 10**6 for m in self.measures) and self.mark in (LIVE, DEAD)
+        country, national = divmod(self.tag, 10**12)
+        is_tag = 1 <= country <= 999 and national < 2**38
+        return is_tag and all(abs(m) <= 10**6 for m in self.measures) and self.mark in (LIVE, DEAD)
 
 
 def distance(metric, a, b):

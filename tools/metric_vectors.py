@@ -13,14 +13,15 @@ CRATE = Path(__file__).resolve().parent.parent / "crates" / "metric_vectors"
 LOW, HIGH = -(2**31), 2**31 - 1
 WORD = 2**64 - 1
 LIMIT = 1_000_000
+NATIONALS, LAST_NATIONAL = 10**12, 2**38 - 1
 STEPS = (0, 1, 5, 11)
 METRICS = (0, 1, 2)
 NO_METRIC = 2**32 - 1  # no call takes it; the distance reads it as 2
 
 
 def valid_tag(tag):
-    country, national = divmod(tag, 10**12)
-    return 1 <= country <= 999 and 0 <= national <= 999_999_999_999
+    country, national = divmod(tag, NATIONALS)
+    return 1 <= country <= 999 and national <= LAST_NATIONAL
 
 
 def valid_measures(measures):
@@ -42,7 +43,7 @@ def row(tag, profile, threshold, mark):
 
 def objects():
     """Tag, measures, code, threshold, mark. Those that are next to each other are compared."""
-    first, last = 10**12, 999 * 10**12 + 999_999_999_999
+    first, last = NATIONALS, 999 * NATIONALS + LAST_NATIONAL
     items = [
         (first, [0, 0, 0, 0], [0, 0], 0, 0),
         (last, [LIMIT] * 4, [WORD, WORD], 2**32 - 1, 1),
@@ -74,7 +75,7 @@ def objects():
     for k in range(10):
         bound = (HIGH, LIMIT, 300)[k % 3]
         items.append((
-            draw.randint(0, WORD) if k % 2 else draw.randint(first, last),
+            draw.randint(0, WORD) if k % 2 else draw.randint(1, 999) * NATIONALS + draw.randint(0, LAST_NATIONAL),
             [draw.randint(-bound, bound) for _ in range(4)],
             [draw.getrandbits(64), draw.getrandbits(64)],
             draw.getrandbits(32),
@@ -84,9 +85,9 @@ def objects():
 
 
 def tags():
-    first, last = 10**12, 10**15 - 1
-    return [0, 1, first - 1, first, first + 1, 36_000_000_000_001, 500 * first, last - 1, last, last + 1,
-            1_000 * first + 1, 2**32, 2**63, 2**63 - 1, WORD]
+    """The last national and the next, at three countries; the ends of the countries; and numbers that are no tags."""
+    edges = [country * NATIONALS + LAST_NATIONAL + past for country in (1, 36, 999) for past in (0, 1)]
+    return edges + [0, NATIONALS - 1, NATIONALS, 10**15 - 1, 10**15, 10**15 + LAST_NATIONAL, 2**32, 2**63 - 1, WORD]
 
 
 def constant(name, kind, numbers):

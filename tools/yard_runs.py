@@ -118,7 +118,8 @@ def profile_in(fields):
 
 
 def bad_tag(tag):
-    return not 1 <= tag // 10**12 <= 999
+    country, national = divmod(tag, 10**12)
+    return not (1 <= country <= 999 and national < 2**38)
 
 
 def bad_measure(profile):
@@ -259,6 +260,19 @@ REFUSALS = talk(
     f"R {tag_of(2)}",
     f"N 3 {FLAT}",
     f"W 4294967295 {FLAT}",
+)
+
+NATIONALS = talk(
+    "3 0",
+    *(
+        f"{letter} {tag_of(274_877_906_943 + more, country)}{rest}"
+        for country in (1, 36, 999)
+        for more in (0, 1)
+        for letter, rest in (("A", f" {FLAT}"), ("R", ""))
+    ),
+    f"A {tag_of(274_877_906_943)} {FLAT}",
+    f"A {tag_of(999_999_999_999)} {FLAT}",
+    f"N 2 {FLAT}",
 )
 
 GOOD = f"A {tag_of(7)} {FLAT}"
@@ -454,6 +468,7 @@ HEADERS = {
 
 def runs():
     yield "refusals", REFUSALS
+    yield "nationals", NATIONALS
     yield "malformed", MALFORMED
     yield "numbers", NUMBERS
     yield "codes", CODES

@@ -7,6 +7,7 @@ pub mod Removals
 pub mod Searches
 pub mod Refused
 pub mod Imaged
+pub mod Nationals
 pub mod Alike
 mod Sound
 mod Counting

@@ -6,14 +6,14 @@ use native.Mathlib.Omega.{arith}
 use mathlib.Core.Path.{_≡_, refl, sym, _∙_, ap, ap₂, subst}
 use mathlib.Core.Bool.{Bool, true, false, _&&_}
 use mathlib.Core.List.{List, [], _∷_, map}
-use lib.Dec.{leb, ltb, eqb}
+use lib.Dec.{leb, eqb}
 use lib.ListN.{length}
-use borrow.Author.Tests.{eqb-true, ltb-true}
+use borrow.Author.Tests.{eqb-true}
 use Rattle.metric_rules.specs.Lists.{countFrom, total, every, select, distinct}
 use Rattle.metric_rules.specs.Row.{Row, tagOf, profileOf, markOf, isLive}
 use Rattle.metric_rules.specs.Validity.{validTag, validMeasures}
 use Rattle.metric_rules.specs.Distance.{Space, distance}
-use Rattle.metric_rules.proofs.Ranges.{tag-range}
+use Rattle.metric_rules.proofs.Ranges.{tag-below}
 use Rattle.tree_rules.specs.Guided.{All}
 use Rattle.tree_rules.specs.Layout.{isLayout}
 use Rattle.tree_rules.proofs.Lists.{all-of-map}
@@ -42,7 +42,7 @@ unfolding fieldsPass
 tag-fits row h =
     let valid : validTag (tagOf row) ≡ true =
     and-first (validTag (tagOf row)) (validMeasures (profileOf row)) (and-first (validTag (tagOf row) && validMeasures (profileOf row)) (leb (markOf row) 1) h) in
-    omega (arith, ltb-true (tagOf row) (10 ^ 15) (and-second (leb (10 ^ 12) (tagOf row)) (ltb (tagOf row) (10 ^ 15)) (sym (tag-range (tagOf row)) ∙ valid)))
+    omega (arith, tag-below (tagOf row) valid)
 
 module _ (image : List ℕ) (known : orderIn image ≤ mostOrder) (sizes : sizesPass (orderIn image) (builtIn image) (liveIn image) ≡ true)
     (read : every (bucketRead image) (bucketsOf (orderIn image)) ≡ true) where

@@ -115,19 +115,21 @@ pub fn distance_to(header: &Row, row: Row, query: Profile) -> u32
     distance_between(header, row, row_of(0, query, 0, 0))
 }
 
-// The least tag, country 1 with national 0, and the first number past the last, country 999 with the largest national.
-const LEAST_TAG: u64 = 1_000_000_000_000;
+// A tag is country · 10^12 + national: the least of country 1, the first of no country, and the last national, of 38 bits.
+const NATIONALS: u64 = 1_000_000_000_000;
 
 const PAST_TAGS: u64 = 1_000_000_000_000_000;
+
+const LAST_NATIONAL: u64 = 274_877_906_943;
 
 // The largest size of a measure, in hundredths.
 const MEASURE_LIMIT: i32 = 1_000_000;
 
-// Both ends of a range are tested at once, with no branch.
+// All tests are made at once, with no branch.
 pub fn valid_tag(tag: u64) -> bool
     ensures { λ r. ⌜ r ≡ validTag tag ⌝ }
 {
-    (LEAST_TAG <= tag) & (tag < PAST_TAGS)
+    (NATIONALS <= tag) & (tag < PAST_TAGS) & (tag % NATIONALS <= LAST_NATIONAL)
 }
 
 fn valid_measure(measure: i32) -> bool

@@ -7,9 +7,9 @@ use mathlib.Core.List.{List, [], _∷_, map}
 use lib.ListN.{length, getD, set}
 use Rattle.metric_rules.specs.Lists.{countFrom, every}
 
-and-true : (a b : Bool) → a && b ≡ true → (a ≡ true) × (b ≡ true)
-and-true true b e = (refl, e)
-and-true false b e = (e, cc)
+pub both-true : (a b : Bool) → a && b ≡ true → (a ≡ true) × (b ≡ true)
+both-true true b e = (refl, e)
+both-true false b e = (e, cc)
 
 module _ {A : Type 0} where
   -- the numbers from `suc first` on are those from `first` on, each with one more
@@ -51,5 +51,5 @@ module _ {A : Type 0} where
   pub every-at : (test : A → Bool) (d : A) → test d ≡ true → (xs : List A) → every test xs ≡ true → (i : ℕ) → test (getD xs i d) ≡ true
   unfolding every
   every-at test d h [] e i = h
-  every-at test d h (x ∷ xs) e zero = and-true (test x) (every test xs) e .0
-  every-at test d h (x ∷ xs) e (suc i) = every-at test d h xs (and-true (test x) (every test xs) e .1) i
+  every-at test d h (x ∷ xs) e zero = both-true (test x) (every test xs) e .0
+  every-at test d h (x ∷ xs) e (suc i) = every-at test d h xs (both-true (test x) (every test xs) e .1) i

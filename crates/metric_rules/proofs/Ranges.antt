@@ -1,6 +1,6 @@
 -- The ranges of valid tags and measures as plain bounds, for the code's tests.
 -- Two tests agree where what they say is equivalent, which is linear arithmetic.
-use Prim.Native.Nat.{ℕ, suc, _/_, _%_, _^_, _≤_}
+use Prim.Native.Nat.{ℕ, suc, _/_, _%_, _^_, _≤_, _<_}
 use native.Mathlib.Nat.{lt-of-not-le, not-le-of-lt}
 use native.Mathlib.Omega.{arith}
 use mathlib.Core.Path.{_≡_, refl, sym, ap, ap₂, _∙_}
@@ -8,12 +8,12 @@ use mathlib.Core.Bool.{Bool, true, false, _&&_, and-true, and-assoc}
 use lib.Dec.{leb, ltb}
 use lib.IntN.{ℤ, pos, negsuc}
 use lib.Signed.{leZ}
-use borrow.Author.Tests.{leb-true, leb-false, le-leb, lt-leb}
+use borrow.Author.Tests.{leb-true, leb-false, le-leb, lt-leb, ltb-true}
 use Rattle.metric_rules.specs.declared.Profile.{Profile}
 use Rattle.metric_rules.specs.Lists.{countFrom, every}
 use Rattle.metric_rules.specs.Row.{IsProfile, measure}
-use Rattle.metric_rules.specs.Validity.{validTag, validMeasure, validMeasures}
-use Rattle.metric_rules.proofs.Elements.{elements}
+use Rattle.metric_rules.specs.Validity.{nationalOf, lastNational, validTag, validMeasure, validMeasures}
+use Rattle.metric_rules.proofs.Elements.{elements, both-true}
 
 -- two tests of an order that say the same
 same-test : (a b c d : ℕ) → (a ≤ b → c ≤ d) → (c ≤ d → a ≤ b) → leb a b ≡ leb c d
@@ -23,16 +23,20 @@ same-test a b c d f g = go (leb a b) refl
     go true e = e ∙ sym (le-leb c d (f (leb-true a b e)))
     go false e = e ∙ sym (lt-leb c d (lt-of-not-le (λ h. not-le-of-lt (leb-false a b e) (g h))))
 
--- every remainder is a national
-pub tag-range : (tag : ℕ) → validTag tag ≡ leb (10 ^ 12) tag && ltb tag (10 ^ 15)
+-- the country by the tag itself, and the national
+pub tag-range : (tag : ℕ) → validTag tag ≡ leb (10 ^ 12) tag && ltb tag (10 ^ 15) && leb (nationalOf tag) lastNational
 unfolding validTag
 tag-range tag =
-    let national : leb (tag % 10 ^ 12) 999_999_999_999 ≡ true = le-leb (tag % 10 ^ 12) 999_999_999_999 (omega arith) in
-    ap (λ (b : Bool). leb 1 (tag / 10 ^ 12) && leb (tag / 10 ^ 12) 999 && b) national
-    ∙ and-true (leb 1 (tag / 10 ^ 12) && leb (tag / 10 ^ 12) 999)
-    ∙ ap₂ _&&_
+    ap (λ (b : Bool). b && leb (tag % 10 ^ 12) lastNational)
+    (ap₂ _&&_
     (same-test 1 (tag / 10 ^ 12) (10 ^ 12) tag (λ h. omega arith) (λ h. omega arith))
-    (same-test (tag / 10 ^ 12) 999 (suc tag) (10 ^ 15) (λ h. omega arith) (λ h. omega arith))
+    (same-test (tag / 10 ^ 12) 999 (suc tag) (10 ^ 15) (λ h. omega arith) (λ h. omega arith)))
+
+-- a valid tag has 15 digits at most
+pub tag-below : (tag : ℕ) → validTag tag ≡ true → tag < 10 ^ 15
+tag-below tag e =
+    let country = both-true (leb (10 ^ 12) tag && ltb tag (10 ^ 15)) (leb (nationalOf tag) lastNational) (sym (tag-range tag) ∙ e) .0 in
+    ltb-true tag (10 ^ 15) (both-true (leb (10 ^ 12) tag) (ltb tag (10 ^ 15)) country .1)
 
 pub measure-range : (z : ℤ) → validMeasure z ≡ leZ (negsuc 999_999) z && leZ z (pos 1_000_000)
 unfolding validMeasure

@@ -1,4 +1,4 @@
--- 01, "A head and its distance": which tags and which measures are valid.
+-- 01, "A head and its distance", and W2: which tags and which measures are valid.
 use Prim.Native.Nat.{ℕ, _/_, _%_, _^_}
 use mathlib.Core.Bool.{Bool, _&&_}
 use lib.IntN.{ℤ, natAbs}
@@ -18,12 +18,12 @@ unfoldable pub nationalOf : ℕ → ℕ
 unfolding nationals
 nationalOf tag = tag % nationals
 
--- the country is 1 to 999, the national 0 to 999,999,999,999
+-- the country is 1 to 999, the national at most what 38 bits hold (W2)
 unfoldable pub lastCountry : ℕ
 lastCountry = 999
 
 unfoldable pub lastNational : ℕ
-lastNational = 999_999_999_999
+lastNational = 274_877_906_943
 
 unfoldable pub validTag : ℕ → Bool
 unfolding countryOf nationalOf lastCountry lastNational

@@ -4,8 +4,8 @@ use reference::item::Profile;
 
 /// The least valid tag.
 pub const MIN_TAG: u64 = 1_000_000_000_000;
-/// One past the largest valid tag.
-pub const TAG_END: u64 = 1_000_000_000_000_000;
+/// The largest valid national number.
+pub const MAX_NATIONAL: u64 = 274_877_906_943;
 /// The largest valid measure.
 pub const MAX_MEASURE: i32 = 1_000_000;
 
@@ -54,7 +54,12 @@ impl Random {
 
     /// A tag at an end of the valid ones, valid or not.
     pub fn edge_tag(&mut self) -> u64 {
-        self.pick(&[0, MIN_TAG - 1, MIN_TAG, TAG_END - 1, TAG_END, u64::MAX, 1 << 32])
+        let country = self.pick(&[0, 1, 36, 999, 1000]) * MIN_TAG;
+        match self.below(3) {
+            0 => country + self.pick(&[0, MAX_NATIONAL, MAX_NATIONAL + 1, MIN_TAG - 1]),
+            1 => country + MAX_NATIONAL + self.below(2) as u64,
+            _ => self.pick(&[0, MIN_TAG - 1, MIN_TAG, u64::MAX, 1 << 32]),
+        }
     }
 
     /// A valid profile.

@@ -1,7 +1,7 @@
 //! The small herds that the rules work out line by line.
 
 use outside::calls::{Areas, Call, Reply, compare};
-use outside::random::{MIN_TAG, Random};
+use outside::random::{MAX_NATIONAL, MIN_TAG, Random};
 use reference::item::{Profile, Slot};
 use reference::table::{Table, capacity, put_bucket, table_rows};
 use reference::tree::layout;
@@ -132,6 +132,29 @@ fn an_add_over_dead_slots() {
     let reply = yard.add(20, 20);
     assert_eq!((reply.refusal, reply.bucket, reply.distances), (0, 3, 13));
     assert_eq!([0, 1, 2, 3].map(|k| yard.bucket(k).len()), [0, 0, 0, 8]);
+}
+
+// National 274,877,906,943 is the last: each call that takes a tag asks, and a load; a search of a foreign table does not.
+#[test]
+fn nationals_of_38_bits() {
+    for country in [1, 36, 999] {
+        let [last, past] = [MAX_NATIONAL, MAX_NATIONAL + 1].map(|national| country * MIN_TAG + national);
+        for (tag, refusal, in_image) in [(last, 0, 0), (past, 1, 8)] {
+            let mut yard = Yard::new(0);
+            assert_eq!(yard.call(Call::Add { tag, profile: valued(1) }).refusal, refusal);
+            assert_eq!(yard.call(Call::LookUp { tag }).refusal, refusal);
+            assert_eq!(yard.call(Call::Remove { tag }).refusal, refusal);
+            let slot = Slot { tag, profile: valued(1), ..Slot::default() };
+            put_bucket(&mut yard.areas.table, 0, 0, 1, &layout(0, &[slot]));
+            assert_eq!(yard.call(Call::Range { query: valued(1), radius: 0 }).found, 1);
+            assert_eq!(yard.areas.result[0], [tag, 0]);
+            assert_eq!(yard.call(Call::Remove { tag }).refusal, refusal);
+            put_bucket(&mut yard.areas.table, 0, 0, 1, &layout(0, &[slot]));
+            yard.areas.image = vec![0; 56];
+            assert_eq!(yard.call(Call::Write).refusal, 0);
+            assert_eq!(yard.call(Call::Load).refusal, in_image);
+        }
+    }
 }
 
 // Metric 2: from all zeros the differences are 3, 5, 7 and 1, and from the other query 7, 0, 7 and 1.

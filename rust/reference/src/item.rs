@@ -13,6 +13,7 @@ pub const MAX_ORDER: u32 = 12;
 pub const MAX_METRIC: u32 = 2;
 
 const COUNTRY: u64 = 1_000_000_000_000;
+const MAX_NATIONAL: u64 = 274_877_906_943;
 const MAX_MEASURE: u32 = 1_000_000;
 
 /// Four measures and a code of two words.
@@ -79,9 +80,9 @@ fn halves(n: u64) -> [u32; 2] {
     [n as u32, (n >> 32) as u32]
 }
 
-/// The tag's form: country 1 to 999.
+/// The tag's form: country 1 to 999, and a national number of 38 bits.
 pub fn check_tag(tag: u64) -> Result<(), Refused> {
-    ensure((1..=999).contains(&(tag / COUNTRY)), TAG)
+    ensure((1..=999).contains(&(tag / COUNTRY)) && tag % COUNTRY <= MAX_NATIONAL, TAG)
 }
 
 /// The measures' range.

@@ -8,7 +8,7 @@ use std::fmt;
 #[non_exhaustive]
 #[repr(u32)]
 pub enum Refusal {
-    /// The tag's country is not 1 to 999, or its national number has more than 12 digits.
+    /// The tag's country is not 1 to 999, or its national number is above 274,877,906,943.
     BadTag = 1,
     /// A measure is not -1,000,000 to 1,000,000.
     BadMeasure = 2,
@@ -71,7 +71,7 @@ impl Refusal {
 
     fn words(self) -> &'static str {
         match self {
-            BadTag => "the tag's country is not 1 to 999, or its national number has more than 12 digits",
+            BadTag => "the tag's country is not 1 to 999, or its national number is above 274,877,906,943",
             BadMeasure => "a measure is not -1,000,000 to 1,000,000",
             BadOrder => "the order is above 12",
             BadMetric => "there is no metric of this number",

@@ -5,8 +5,9 @@ use std::fmt;
 use crate::{Refusal, ffi};
 
 const COUNTRY: u64 = 1_000_000_000_000;
+const LAST_NATIONAL: u64 = 274_877_906_943;
 
-/// What an item is known by: a country, 1 to 999, and a national number of at most 12 digits.
+/// What an item is known by: a country, 1 to 999, and a national number of 38 bits.
 #[derive(Clone, Copy, Debug, PartialEq, Eq, PartialOrd, Ord, Hash)]
 #[repr(transparent)]
 pub struct Tag(u64);
@@ -14,10 +15,8 @@ pub struct Tag(u64);
 impl Tag {
     /// From its two parts; else [`Refusal::BadTag`].
     pub fn new(country: u32, national: u64) -> Result<Tag, Refusal> {
-        if national >= COUNTRY {
-            return Err(Refusal::BadTag);
-        }
-        Tag::try_from(country as u64 * COUNTRY + national)
+        let is_valid = (1..=999).contains(&country) && national <= LAST_NATIONAL;
+        if is_valid { Ok(Tag(country as u64 * COUNTRY + national)) } else { Err(Refusal::BadTag) }
     }
 
     /// 1 to 999.
@@ -25,7 +24,7 @@ impl Tag {
         (self.0 / COUNTRY) as u32
     }
 
-    /// At most 999,999,999,999.
+    /// At most 274,877,906,943.
     pub fn national(self) -> u64 {
         self.0 % COUNTRY
     }
@@ -40,7 +39,8 @@ impl TryFrom<u64> for Tag {
     type Error = Refusal;
 
     fn try_from(tag: u64) -> Result<Tag, Refusal> {
-        if (COUNTRY..1000 * COUNTRY).contains(&tag) { Ok(Tag(tag)) } else { Err(Refusal::BadTag) }
+        let country = u32::try_from(tag / COUNTRY).map_err(|_| Refusal::BadTag)?;
+        Tag::new(country, tag % COUNTRY)
     }
 }
 

@@ -8,7 +8,14 @@ fn tags() {
     assert_eq!(Tag::new(1000, 5), Err(Refusal::BadTag));
     assert_eq!(Tag::new(36, 1_000_000_000_000), Err(Refusal::BadTag));
     assert_eq!(Tag::try_from(999_999_999_999), Err(Refusal::BadTag));
-    assert_eq!(Tag::new(999, 999_999_999_999).map(u64::from), Ok(999_999_999_999_999));
+    assert_eq!(Tag::try_from(u64::MAX), Err(Refusal::BadTag));
+    for country in [1, 36, 999] {
+        let last = country as u64 * 1_000_000_000_000 + 274_877_906_943;
+        assert_eq!(Tag::new(country, 274_877_906_943).map(u64::from), Ok(last));
+        assert_eq!(Tag::try_from(last).map(u64::from), Ok(last));
+        assert_eq!(Tag::new(country, 274_877_906_944), Err(Refusal::BadTag));
+        assert_eq!(Tag::try_from(last + 1), Err(Refusal::BadTag));
+    }
     let tag = Tag::new(1, 7).expect("valid");
     assert_eq!((tag.country(), tag.national(), tag.to_string().as_str()), (1, 7, "001000000000007"));
 }
