@@ -1,5 +1,6 @@
 //! Measures the calls beside plain Rust programs on the same herds in the same run, and compares what they give on the way.
-//! `bench FOLDER [SEED]` writes calls.md and growth.svg into the folder; bench/run.sh runs it.
+//! `bench FOLDER [SEED]` writes calls.md and growth.svg into the folder; bench/run.sh runs it. `bench nearest SEED..` prints what nearest takes beside
+//! the scan, a line for each herd, metric and seed; bench/nearest.sh runs it.
 
 mod changes;
 mod herd;
@@ -21,16 +22,36 @@ const ORDERS: [u32; 5] = [4, 6, 8, 10, 12];
 const METRICS: [u32; 3] = [0, 1, 2];
 
 fn main() {
-    let mut words = env::args().skip(1);
-    let folder = words.next().expect("usage: bench FOLDER [SEED]");
-    let seed = words
-        .next()
-        .map_or(0x9E37_79B9_7F4A_7C15, |word| u64::from_str_radix(&word, 16).expect("a seed in hexadecimal"));
+    let words: Vec<String> = env::args().skip(1).collect();
+    match words.split_first() {
+        Some((word, seeds)) if word == "nearest" => print_nearest(seeds),
+        Some((folder, seeds)) => write_all(folder, seeds.first().map_or(0x9E37_79B9_7F4A_7C15, |word| seed_of(word))),
+        None => eprintln!("usage: bench FOLDER [SEED], or bench nearest SEED.."),
+    }
+}
+
+fn seed_of(word: &str) -> u64 {
+    u64::from_str_radix(word, 16).expect("a seed in hexadecimal")
+}
+
+fn write_all(folder: &str, seed: u64) {
     let (growth, panels) = growth(seed);
     let tables = format!("{}\n{}\n{growth}", all_searches(seed), all_changes(seed));
     print!("{tables}");
     fs::write(format!("{folder}/calls.md"), tables).expect("calls.md written");
     fs::write(format!("{folder}/growth.svg"), plot::svg(&panels)).expect("growth.svg written");
+}
+
+// Herd, metric, seed, slots met, nanoseconds by the call and by the scan: medians of both, taken in turn.
+fn print_nearest(seeds: &[String]) {
+    for spread in SPREADS {
+        for metric in METRICS {
+            for seed in seeds {
+                let line = Full::new(seed_of(seed), spread, 12, metric).nearest();
+                println!("{}|{metric}|{seed}|{:.0}|{:.0}|{:.0}", spread.name, line.visited, line.calls, line.scan);
+            }
+        }
+    }
 }
 
 fn search_row(line: &searches::Line) -> String {

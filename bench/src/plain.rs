@@ -255,12 +255,20 @@ fn insert(best: &mut Vec<Hit>, k: usize, hit: Hit) {
     best.insert(at, hit);
 }
 
-/// A scan that keeps the k best. The worst one kept is at hand: read from the list at each slot, it made the scan slower.
+/// A scan that keeps the k best. The metric is told before the loop and the worst one kept is at hand: asked at each slot, either made the scan slower.
 pub fn scan_nearest(metric: u32, slots: &[Slot], query: &Profile, k: usize, best: &mut Vec<Hit>) {
+    match metric {
+        0 => keep_best(slots, k, best, |p| distance(0, p, query)),
+        1 => keep_best(slots, k, best, |p| distance(1, p, query)),
+        _ => keep_best(slots, k, best, |p| distance(2, p, query)),
+    }
+}
+
+fn keep_best(slots: &[Slot], k: usize, best: &mut Vec<Hit>, distance_of: impl Fn(&Profile) -> u32) {
     best.clear();
     let mut worst = (u32::MAX, u64::MAX);
     for slot in slots {
-        let hit = (distance(metric, &slot.profile, query), slot.tag);
+        let hit = (distance_of(&slot.profile), slot.tag);
         if hit < worst {
             insert(best, k, hit);
             if best.len() == k {
