@@ -1,4 +1,4 @@
-/* Adds a small herd, asks both questions, removes one, and saves and loads an image.
+/* Adds a small herd, asks both questions, removes one, saves and loads an image, and reads a list of two more.
  * It writes what the Rust example rust/vpindex/examples/herd.rs writes; herd.expected has it. */
 #include <inttypes.h>
 #include <stdio.h>
@@ -16,6 +16,11 @@ static const struct {
     {101, {41250, 12900, 18500, 95}},  {102, {39800, 12700, 18100, 90}},  {103, {55600, 13800, 20700, 120}},
     {104, {40900, 12850, 18450, 102}}, {105, {56100, 13750, 20900, 118}}, {106, {28300, 11400, 15600, 88}},
 };
+
+/* the second is in the table already */
+static const char list[] = VPINDEX_LIST_HEADER
+    "036000000000107;402,50;128,00;183,00;-0,35\n"
+    "036000000000101;412,50;129,00;185,00;0,95\n";
 
 static uint32_t table[VPINDEX_TABLE_ROWS(ORDER)][VPINDEX_ROW_WORDS];
 static uint32_t loaded[VPINDEX_TABLE_ROWS(ORDER)][VPINDEX_ROW_WORDS];
@@ -57,6 +62,16 @@ static void remove_twice(uint64_t national) {
     }
 }
 
+static void read_more(void) {
+    vpindex_list_read read = vpindex_read_list(loaded, VPINDEX_TABLE_ROWS(ORDER), work, VPINDEX_WORK_ROWS(ORDER),
+                                               (const uint8_t *)list, sizeof list - 1);
+    printf("list: %" PRIu32 " added, %" PRIu32 " distances", read.added, read.distances);
+    if (read.refusal != VPINDEX_ACCEPTED) {
+        printf("; line %" PRIu32 ": refusal %" PRIu32, read.line, read.refusal);
+    }
+    printf("\n");
+}
+
 int main(void) {
     const size_t rows = VPINDEX_TABLE_ROWS(ORDER);
     const size_t room = VPINDEX_RESULT_ENTRIES(ORDER);
@@ -75,5 +90,7 @@ int main(void) {
     }
     printf("image: %" PRIu32 " bytes\n", written.length);
     print("nearest 3, loaded", vpindex_nearest(loaded, rows, result, room, query, 3));
+    read_more();
+    print("nearest 3, with the list", vpindex_nearest(loaded, rows, result, room, query, 3));
     return 0;
 }

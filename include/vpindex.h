@@ -53,7 +53,7 @@ extern "C" {
 /* The table: row 0 has the order and the metric, then comes a row for each bucket with its two sizes, then the slots. */
 #define VPINDEX_TABLE_ROWS(order) ((size_t)(order) + 1 + ((size_t)2 << (order)))
 
-/* The work area, lent to vpindex_add and vpindex_remove. */
+/* The work area, lent to vpindex_add, vpindex_remove and vpindex_read_list. */
 #define VPINDEX_WORK_ROWS(order) ((size_t)1 << (order))
 
 /* As many entries as any search of a table that these calls left can find. */
@@ -62,10 +62,14 @@ extern "C" {
 /* As many bytes as any image of this order can have: every slot of every bucket built. */
 #define VPINDEX_IMAGE_BYTES(order) (4 + 4 * ((size_t)(order) + 1) + 48 * (((size_t)2 << (order)) - 1))
 
+/* The first line of a herd list; vpindex_read_list says what follows it. */
+#define VPINDEX_LIST_HEADER "tag;kg;hip;girth;gain\n"
+
 /* ---- Refusals ----------------------------------------------------------------------------------------------------
  * A refused call returns the number of its refusal, with zeros in every other field of the reply, and changes no area.
- * There is one exception: VPINDEX_NO_ROOM from vpindex_range or vpindex_nearest leaves the result area all zero. Where
- * several conditions hold, the first in the order given at the call is returned. */
+ * There are two exceptions: VPINDEX_NO_ROOM from vpindex_range or vpindex_nearest leaves the result area all zero, and
+ * vpindex_read_list keeps what it added before the line that it refuses, and says so. Where several conditions hold, the
+ * first in the order given at the call is returned. */
 
 #define VPINDEX_ACCEPTED 0
 
@@ -85,6 +89,10 @@ extern "C" {
 #define VPINDEX_FULL 22                  /* the table has 2^T items */
 #define VPINDEX_SHORT_AREA 23            /* table or work area shorter than the order needs, or a table of no rows */
 #define VPINDEX_BAD_TABLE 24             /* sizes, order, metric or marks of a table, or sizes of an image, break the rules */
+
+/* by the list */
+#define VPINDEX_BAD_LIST_HEADER 30       /* the list does not begin with VPINDEX_LIST_HEADER */
+#define VPINDEX_BAD_LIST_LINE 31         /* a line of the list is not of the form */
 
 /* ---- Values ---------------------------------------------------------------------------------------------------- */
 
@@ -120,6 +128,13 @@ typedef struct {
     uint32_t refusal;
     uint32_t length;                     /* bytes of the image */
 } vpindex_written;
+
+typedef struct {
+    uint32_t refusal;                    /* of the line that was refused, 0 where none was */
+    uint32_t line;                       /* its number, the header being line 1; 0 where none was refused */
+    uint32_t added;                      /* items added, by the lines before it */
+    uint32_t distances;                  /* distances worked out by their builds, all together */
+} vpindex_list_read;
 
 /* ---- Calls -------------------------------------------------------------------------------------------------------
  * Lengths are in elements: rows, entries, bytes. Rows and bytes past what a call needs keep their content. */
@@ -170,6 +185,19 @@ vpindex_searched vpindex_nearest(VPINDEX_READ uint32_t (*table)[VPINDEX_ROW_WORD
  * Refusals: SHORT_AREA (no rows), BAD_TABLE (order, metric), SHORT_AREA, BAD_TABLE (sizes), NO_ROOM. */
 vpindex_written vpindex_write(VPINDEX_READ uint32_t (*table)[VPINDEX_ROW_WORDS], size_t table_rows, uint8_t *image,
                               size_t image_bytes);
+
+/* Adds the items of a herd list, as a scale head writes it: VPINDEX_LIST_HEADER, then a line for each item, such as
+ *     036000000000101;412,50;129,00;185,00;-0,95
+ * A line is a tag of 15 digits and four measures, parted by single semicolons, and ends in one line feed, the last line
+ * too. A measure is 1 to 5 digits, a comma and 2 digits, so that 412,50 is 41250 hundredths; one minus may stand before
+ * it and covers all digits. The code is zero. Each line is an add, in the order of the list. The first line that is
+ * refused ends the reading: the lines before it stay added, and table and work area are as those adds left them. Where
+ * no line follows the header, nothing more is checked and the reply is all zeros.
+ * Refusals: BAD_LIST_HEADER, before anything of the table is looked at; then line by line BAD_LIST_LINE, also for bytes
+ * after the last line feed, and those of vpindex_add in their order. */
+vpindex_list_read vpindex_read_list(uint32_t (*table)[VPINDEX_ROW_WORDS], size_t table_rows,
+                                    uint32_t (*work)[VPINDEX_ROW_WORDS], size_t work_rows, const uint8_t *list,
+                                    size_t list_bytes);
 
 #ifdef __cplusplus
 }

@@ -1,5 +1,5 @@
 #!/bin/sh
-# The calls as they ship, from outside: the archive, the Rust crate with its tests and its example, the C example.
+# The calls as they ship, from outside: the archive, the Rust crate with its tests and its examples, the C example.
 # VPINDEX_LIB_DIR, a full path, names the folder of another libvpindex.a, which is then not written.
 set -eu
 cd "$(dirname "$0")/.."
@@ -19,21 +19,30 @@ step() {
     fi
 }
 
-# Runs a program and holds what it writes to the expected text. (A step's function goes on after a failure: hence the &&.)
+# Runs a program and holds what it writes to the text of a file. (A step's function goes on after a failure: hence the &&.)
 example() {
-    "$@" > "$out/written" && diff c/herd.expected "$out/written"
+    expected=$1
+    shift
+    "$@" > "$out/written" && diff "$expected" "$out/written"
 }
+
+# A program that has to end with another status than 0.
+refused() { ! "$@"; }
 
 tests() { (cd rust && cargo test --offline); }
 rust_herd() { (cd rust && cargo run --offline --quiet --example herd); }
 c_herd() {
-    cc -std=c11 -O2 -pedantic -Wall -Wextra -Werror -Iinclude -o "$out/herd" c/herd.c "$folder/libvpindex.a" && "$out/herd"
+    cc -std=c11 -O2 -pedantic -Wall -Wextra -Werror -Iinclude -o "$out/herd" c/herd.c "$VPINDEX_LIB_DIR/libvpindex.a" && "$out/herd"
 }
+list() { sh examples/list.sh "$@"; }
 
 if [ -z "${VPINDEX_LIB_DIR:-}" ]; then
     step archive rt staticlib vpindex
+    VPINDEX_LIB_DIR=$PWD/target/staticlib
+    export VPINDEX_LIB_DIR
 fi
-folder=${VPINDEX_LIB_DIR:-target/staticlib}
 step tests tests
-step rust-example example rust_herd
-step c-example example c_herd
+step rust-example example c/herd.expected rust_herd
+step c-example example c/herd.expected c_herd
+step list-example example examples/herd.expected list
+step list-refused example examples/fault.expected refused list examples/fault.list

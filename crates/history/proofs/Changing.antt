@@ -1,5 +1,5 @@
 -- Every accepted change keeps the match of table and model: after fresh, add and remove the table is sound again, and its live items are the model's, with
--- the new one or without the one removed; after load by the laws of images.
+-- the new one or without the one removed; after load by the laws of images; after each accepted line of a herd list as after an add.
 use Prim.Native.Nat.{ℕ, _^_, _<_}
 use mathlib.Core.Path.{_≡_, refl, sym, _∙_, ap, ap₂}
 use mathlib.Core.Bool.{Bool, true, false, not}
@@ -31,8 +31,11 @@ use Rattle.bucket_rules.specs.Remove.{removed}
 use Rattle.bucket_rules.proofs.Views.{same-order, same-space}
 use Rattle.bucket_rules.proofs.Changes.{fresh-order, fresh-space}
 use Rattle.bucket_rules.proofs.Live.{allLive}
+use Rattle.list_rules.specs.Lines.{ListLine, itemLines}
+use Rattle.list_rules.specs.Lines.ListLine.{anItem, malformed}
+use Rattle.list_rules.proofs.Fitting.{LineFits, lines-fit}
 use Rattle.history.specs.Calls.{Call}
-use Rattle.history.specs.Calls.Call.{fresh, load, add, remove, lookUp, range, nearest, write}
+use Rattle.history.specs.Calls.Call.{fresh, load, add, remove, lookUp, range, nearest, write, readList}
 use Rattle.history.specs.History.{IsCall}
 use Rattle.history.specs.Model.{Item, itemOf, Model, withTag, with, without, itemRefusal, tagRefusal}
 use Rattle.history.specs.Represents.{itemsIn}
@@ -42,7 +45,7 @@ use Rattle.history.proofs.SoundRemove.{sound-removed, removed-only, rem
 use Rattle.history.proofs.ScannedLists.{select-no, select-perm}
 use Rattle.history.proofs.ScannedFinding.{rowFound}
 use Rattle.history.proofs.ScannedRepresents.{tags-once}
-use Rattle.history.proofs.ScannedLeft.{Change}
+use Rattle.history.proofs.ScannedChange.{LineAdds, Change}
 use Rattle.history.proofs.ImagesHistory.{load-matches}
 use Rattle.history.proofs.ScannedItems.{Matches, found-items, live-total}
 
@@ -165,6 +168,12 @@ module _ {t : Table} {m : Model} (ok : Matches t m) where
             (Permᴰ·symm (struck tag (itemOf (place .row)) (m .items) (map itemOf (allLive u)) (removed-tag (ok .sound) tag place (there .1)) stay (tags-once ok)));
       }
 
+-- every line of a herd list that is an item, since the form makes it fit
+lines-add : (lines : List ListLine) → All LineFits lines → All LineAdds lines
+lines-add [] fit = tt
+lines-add (malformed ∷ lines) fit = (tt, lines-add lines (fit .1))
+lines-add (anItem tag p ∷ lines) fit = ((λ t m ok h. matches-added ok tag p (fit .0 .0) (fit .0 .1) h), lines-add lines (fit .1))
+
 -- every accepted change
 pub changes : (c : Call) (t : Table) (m : Model) → IsCall c → Change c t m
 changes (fresh order space) t m is = matches-fresh order space t
@@ -175,3 +184,4 @@ changes (lookUp tag) t m is = tt
 changes (range q r) t m is = tt
 changes (nearest q k) t m is = tt
 changes write t m is = tt
+changes (readList list) t m is = lines-add (itemLines list) (lines-fit list)

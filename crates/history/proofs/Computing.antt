@@ -22,6 +22,10 @@ use Rattle.image_rules.specs.Bytes.{bytesOf, numberOf, headerFields, tagFields,
 use Rattle.image_rules.specs.Write.{headerBytesOf, sizesOf, tagsOf, recordsOf, allSlots, imageOf, writeRefusal, writeReply, imageAfterWrite}
 use Rattle.image_rules.specs.Read.{numberAt, fieldsAt, headerNumbers, orderIn, spaceIn, zerosIn, builtIn, liveIn, slotsBefore, slotsIn, rowIn, bucketIn}
 use Rattle.image_rules.specs.Load.{fieldsPass, bucketPasses, liveRows, slotsPass, bodyRefusal, loadRefusal, loadedTable, tableAfterLoad}
+use Rattle.text_rules.specs.Text.{onto, parted, partAt, partsIn, digitOf, isDigit, isNumeral, numeralAfter, numeral}
+use Rattle.text_rules.specs.Fields.{isNegative, unsigned, isMeasure, hundredths, measureIn}
+use Rattle.list_rules.specs.Lines.{listHeader, hasHeader, isItemLine, itemTag, itemProfile, lineOf, linesFrom, linesOf, itemLines}
+use Rattle.list_rules.specs.ReadList.{stopped, oneMore, reading, listReading, readListReply, tableAfterReadList, workAfterReadList}
 use Rattle.history.specs.Calls.{Call, Lent, Outcome, withTable, withWork, withResult, withImage, areasAfter, replyTo, outcome}
 
 unfoldable pub performed : Call → Lent → Outcome
@@ -42,6 +46,8 @@ unfolding
     resultAfterRange nearestReply resultAfterNearest bytesOf numberOf headerFields tagFields recordFields bytesOfFields headerBytes tagBytes
     recordBytes sizeBytes pairBytes sizesEnd tagWords imageLength headerBytesOf sizesOf tagsOf recordsOf allSlots imageOf writeRefusal
     writeReply imageAfterWrite numberAt fieldsAt headerNumbers orderIn spaceIn zerosIn builtIn liveIn slotsBefore slotsIn rowIn bucketIn
-    distinct fieldsPass bucketPasses liveRows slotsPass bodyRefusal loadRefusal loadedTable tableAfterLoad withTable
+    distinct fieldsPass bucketPasses liveRows slotsPass bodyRefusal loadRefusal loadedTable tableAfterLoad onto parted partAt partsIn digitOf isDigit
+    isNumeral numeralAfter numeral isNegative unsigned isMeasure hundredths measureIn listHeader hasHeader isItemLine itemTag itemProfile lineOf
+    linesFrom linesOf itemLines stopped oneMore reading listReading readListReply tableAfterReadList workAfterReadList withTable
     withWork withResult withImage areasAfter replyTo outcome
 performed c lent = outcome c lent

@@ -1,5 +1,5 @@
 -- The rebuild bound at each call: the distances reported so far and the potential of the table are within 4·T·(T+1) for each add and 11·T for each
--- removal. Fresh and load begin with it, add and remove pay for it, and no other call touches it.
+-- removal. Fresh and load begin with it, add, remove and a herd list's lines pay for it, and no other call touches it.
 use Prim.Native.Nat.{ℕ, suc, _+_, _-_, _*_, _≤_, _<_}
 use native.Mathlib.Omega.{arith}
 use native.Mathlib.Decide.{ℕ-discrete}

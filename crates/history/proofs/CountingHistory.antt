@@ -10,14 +10,15 @@ use Rattle.bucket_rules.specs.Table.{Table}
 use Rattle.bucket_rules.specs.Fresh.{freshTable, tableAfterFresh}
 use Rattle.image_rules.specs.Load.{loadedTable, tableAfterLoad}
 use Rattle.history.specs.Calls.{Call, Lent, areasAfter, replyTo, outcome, withTable}
-use Rattle.history.specs.Calls.Call.{fresh, load, add, remove, lookUp, range, nearest, write}
+use Rattle.history.specs.Calls.Call.{fresh, load, add, remove, lookUp, range, nearest, write, readList}
 use Rattle.history.specs.Trace.{Step, State, Sums, showsRefusal, shown, ifAccepted, starting, increment, plus, overlaid, leftBy, stepOutcome, stateAfter, shownAt, stateAfterAll}
 use Rattle.history.specs.Model.{Model, answerAt, modelAfterAll}
 use Rattle.history.specs.History.{IsCall, CanBegin, before, blankModel, History, steps, finalState, finalModel}
 use Rattle.history.specs.Represents.{rebuildBound}
 use Rattle.history.proofs.SoundFresh.{freshable}
 use Rattle.history.proofs.ScannedItems.{Matches}
-use Rattle.history.proofs.ScannedLeft.{Change, step-matches}
+use Rattle.history.proofs.ScannedChange.{Change}
+use Rattle.history.proofs.ScannedLeft.{step-matches}
 use Rattle.history.proofs.ScannedHistory.{history-matches}
 use Rattle.history.proofs.CountingSums.{Paid, paid-bound}
 use Rattle.history.proofs.CountingSteps.{fresh-paid, load-paid, call-paid}
@@ -43,6 +44,7 @@ begun-paid left sums m lent (lookUp tag) h change e = absurd h
 begun-paid left sums m lent (range q r) h change e = absurd h
 begun-paid left sums m lent (nearest q k) h change e = absurd h
 begun-paid left sums m lent write h change e = absurd h
+begun-paid left sums m lent (readList list) h change e = absurd h
 
 module _ (changes : (c : Call) (t : Table) (m : Model) → IsCall c → Change c t m) where
   list-paid : (ss : List Step) (state : State) (m : Model) → Matches (state .table) m → Paid (state .table) (state .sums) → All (λ s. IsCall (s .call)) ss

@@ -1,5 +1,5 @@
 -- One call of a list keeps the sums within what was paid: refused and reading calls leave both as they were, an accepted add or remove pays for what it
--- reports, and an accepted fresh or load starts the sums at what its items hold.
+-- reports, a herd list by its accepted lines, and an accepted fresh or load starts the sums at what its items hold.
 use Prim.Native.Nat.{ℕ, zero, suc, _+_, _-_, _*_, _≤_}
 use native.Mathlib.Omega.{arith}
 use mathlib.Core.Path.{_≡_, refl, sym, _∙_, ap, ap₂, subst}
@@ -7,6 +7,7 @@ use mathlib.Core.Bool.{true}
 use mathlib.Core.List.{List, [], _++_, map}
 use lib.ListN.{length, drop, length-map}
 use lib.Seq.{take-append-le}
+use Rattle.metric_rules.specs.Row.{Row}
 use Rattle.metric_rules.specs.Distance.{Space}
 use Rattle.bucket_rules.specs.Geometry.{bucketsOf, tableRows}
 use Rattle.bucket_rules.specs.Table.{Table, orderOf, builtOf, liveOf, liveTotal}
@@ -20,25 +21,26 @@ use Rattle.bucket_rules.proofs.Puts.{held-built}
 use Rattle.bucket_rules.proofs.Changes.{fresh-order, fresh-holds}
 use Rattle.image_rules.specs.Read.{orderIn, spaceIn, builtIn, slotsBefore, slotsIn}
 use Rattle.image_rules.specs.Load.{loadRefusal, liveRows, loadedTable, tableAfterLoad}
+use Rattle.list_rules.specs.ReadList.{Reading, stopped, oneMore, readListReply, tableAfterReadList}
 use Rattle.image_rules.proofs.Accepting.{accepted}
 use Rattle.image_rules.proofs.Loaded.{length-bucket-in, loaded}
 use Rattle.history.specs.Calls.{Call, Lent, Reply, areasAfter, replyTo, withTable, withWork, withResult, withImage}
-use Rattle.history.specs.Calls.Call.{fresh, load, add, remove, lookUp, range, nearest, write}
+use Rattle.history.specs.Calls.Call.{fresh, load, add, remove, lookUp, range, nearest, write, readList}
 use Rattle.history.specs.Trace.{Sums, noSums, counts, ifAccepted, starting, increment, plus, overlaid, leftBy}
-use Rattle.history.specs.Model.{Model, itemOf, lengthsOf, with, without, canChange, tagRefusal, itemRefusal}
+use Rattle.history.specs.Model.{Model, ListAnswered, itemOf, lengthsOf, with, without, canChange, tagRefusal, itemRefusal}
 use Rattle.history.proofs.Sound.{Sound}
 use Rattle.history.proofs.ScannedItems.{Matches, live-total}
-use Rattle.history.proofs.Standing.{standing-roomy}
-use Rattle.history.proofs.SoundStanding.{sound-standing, sound-lives}
 use Rattle.history.proofs.SoundFresh.{Freshable, freshable}
-use Rattle.history.proofs.SoundAdd.{addable}
-use Rattle.history.proofs.ScannedRefusals.{changeable, add-refusal, remove-refusal}
-use Rattle.history.proofs.ScannedShown.{enough-accepts}
+use Rattle.history.proofs.ScannedRefusals.{changeable, enough-accepts, add-refusal, remove-refusal}
 use Rattle.history.proofs.ScannedStep.{overlaid-own, overlaid-length, overlaid-lendable}
-use Rattle.history.proofs.ScannedLeft.{left-kept, Change}
+use Rattle.history.proofs.ScannedChange.{Change}
+use Rattle.history.proofs.ScannedReading.{Reads, reads, reads-matches, reads-order}
+use Rattle.history.proofs.ScannedReading.Reads.{stops, takesIn}
+use Rattle.history.proofs.ScannedLeft.{left-kept}
 use Rattle.history.proofs.Counting.{below, below-same, below-zero}
 use Rattle.history.proofs.CountingCredit.{begin-pays}
-use Rattle.history.proofs.CountingRebuild.{potentialOf, add-paid}
+use Rattle.history.proofs.CountingRebuild.{potentialOf}
+use Rattle.history.proofs.CountingReading.{accepted-paid, reads-paid}
 use Rattle.history.proofs.CountingCalls.{remove-paid}
 use Rattle.history.proofs.CountingSums.{due, Paid, paid-plus, paid-own}
 
@@ -109,12 +111,25 @@ module _ {left : Table} {m : Model} (ok : Matches left m) {sums : Sums} (paid : 
       let before : Paid (overlaid left area) sums = paid-own paid (overlaid-own (tableRows (orderOf left)) left area (ok .sound .long) long) in
       paid-longer (done .sound .long) (paid-plus a r d before (done .order ∙ order ∙ sym (lent .order)) h) (drop (length u) left)
 
+  -- a herd list: nothing was added, or its accepted lines paid
+  lines-paid : (area : Table) {work : List Row} {r : Reading} {a : ListAnswered} → Reads (overlaid left area) work m r a
+      → Paid (leftBy left (r .table)) (plus sums (counts (r .reply .added) 0 (r .reply .distances)))
+  unfolding stopped oneMore
+  lines-paid area (stops refusal line) = kept-paid area
+  lines-paid area {work} (takesIn {r = r} tag p here accepted next rest) =
+      let whole = takesIn tag p here accepted next rest in
+      let t : Table = overlaid left area in
+      let w : ℕ = 4 * (orderOf t + 1) in
+      let pay : w * suc (r .reply .added) + 11 * 0 ≡ w * suc (r .reply .added) = omega arith in
+      changed-paid area here (reads-matches whole here) (reads-order whole) (suc (r .reply .added)) 0 (addReply t work tag p .distances + r .reply .distances)
+      (omega (arith, reads-paid whole, ap (λ (n : ℕ). orderOf t * n) pay))
+
   pub call-paid : (c : Call) (given : Lent) → Change c (overlaid left (given .table)) m
       → Paid (leftBy left (areasAfter c (withTable (overlaid left (given .table)) given) .table))
       (plus sums (increment c (replyTo c (withTable (overlaid left (given .table)) given))))
   unfolding
       areasAfter replyTo increment withTable withWork withResult withImage tableAfterFresh tableAfterLoad tableAfterAdd tableAfterRemove addReply
-      removeReply ifAccepted with without
+      removeReply tableAfterReadList readListReply ifAccepted with without
   call-paid (fresh order space) given change = go (freshRefusal (length (overlaid left (given .table))) order space) refl
     where
       go : (n : ℕ) → freshRefusal (length (overlaid left (given .table))) order space ≡ n
@@ -147,11 +162,7 @@ module _ {left : Table} {m : Model} (ok : Matches left m) {sums : Sums} (paid : 
           let here : Matches t m = changeable m lent lendable (allowed .0) in
           let pay : 4 * (orderOf t + 1) * 1 + 11 * 0 ≡ 4 * (orderOf t + 1) = omega arith in
           changed-paid (given .table) here (change here (allowed .1)) refl 1 0 (added t tag p .distances)
-          (omega (
-            arith,
-            add-paid t (standing-roomy (sound-standing (here .sound))) (here .sound .sizes) (sound-lives (here .sound)) tag p (addable t (given .work) tag p e .notFull),
-            ap (λ (n : ℕ). orderOf t * n) pay,
-          ))
+          (omega (arith, accepted-paid here (given .work) tag p e, ap (λ (n : ℕ). orderOf t * n) pay))
       go (suc n) e = kept-paid (given .table)
   call-paid (remove tag) given change = go (removeRefusal (overlaid left (given .table)) (given .work) tag) refl
     where
@@ -177,3 +188,5 @@ module _ {left : Table} {m : Model} (ok : Matches left m) {sums : Sums} (paid : 
   call-paid (range q r) given change = kept-paid (given .table)
   call-paid (nearest q k) given change = kept-paid (given .table)
   call-paid write given change = kept-paid (given .table)
+  call-paid (readList list) given change =
+      lines-paid (given .table) (reads m (withTable (overlaid left (given .table)) given) (overlaid-lendable ok (given .table)) list change)

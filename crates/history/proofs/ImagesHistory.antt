@@ -19,7 +19,7 @@ use Rattle.history.specs.Demands.{WrittenLoads}
 use Rattle.history.proofs.ImagesLoaded.{loaded-sound}
 use Rattle.history.proofs.ImagesBack.{loads-back}
 use Rattle.history.proofs.ScannedItems.{Matches}
-use Rattle.history.proofs.ScannedLeft.{Change}
+use Rattle.history.proofs.ScannedChange.{Change}
 
 -- a loaded table matches the model that is fed the image
 pub load-matches : (image : List ℕ) (t : Table) (m : Model) → IsCall (load image) → Change (load image) t m

@@ -14,6 +14,7 @@ mod Counting
 mod CountingCredit
 mod CountingRebuild
 mod CountingCalls
+mod CountingReading
 mod CountingSums
 mod CountingSteps
 mod CountingHistory
@@ -27,6 +28,8 @@ mod ScannedTable
 mod ScannedFinding
 mod ScannedItems
 mod ScannedRefusals
+mod ScannedChange
+mod ScannedReading
 mod ScannedShown
 mod ScannedOwn
 mod ScannedStep

@@ -1,4 +1,4 @@
--- Every refusal number of 01 at least once, with what the areas then hold: a refusal replies its number and zeros and leaves every area as it
+-- Every refusal number of 01 and of herd lists at least once, with what the areas then hold: a refusal replies its number and zeros and leaves every area as it
 -- was, but 6 on range and nearest leaves the result area all zero. Each is a run that antt computes.
 use Prim.Native.Nat.{ℕ, _+_, _^_}
 use mathlib.Core.Path.{_≡_, refl}
@@ -11,10 +11,10 @@ use Rattle.bucket_rules.specs.Geometry.{firstSlot}
 use Rattle.bucket_rules.specs.Table.{Table, rowAt, pairRow, putSizes}
 use Rattle.bucket_rules.specs.LookUp.{notFound}
 use Rattle.history.specs.Calls.{Call, Lent, Reply, Outcome}
-use Rattle.history.specs.Calls.Call.{fresh, load, add, remove, lookUp, range, nearest, write}
-use Rattle.history.specs.Calls.Reply.{number, added, removed, lookedUp, searched, written}
+use Rattle.history.specs.Calls.Call.{fresh, load, add, remove, lookUp, range, nearest, write, readList}
+use Rattle.history.specs.Calls.Reply.{number, added, removed, lookedUp, searched, written, listRead}
 use Rattle.history.proofs.Computing.{performed}
-use Rattle.history.proofs.Running.{by, tag, valued, areas, table}
+use Rattle.history.proofs.Running.{by, tag, valued, areas, herdList, itemLine, table}
 
 -- the herd's table, written out, so that no try works it out again; and that it is the herd's
 laid : Table
@@ -64,6 +64,10 @@ noSearch n = searched (record { refusal = n; found = 0; distances = 0 })
 noImage : ℕ → Reply
 noImage n = written (record { refusal = n; length = 0 })
 
+-- a herd list refused at a line with nothing added
+noList : ℕ → ℕ → Reply
+noList n line = listRead (record { refusal = n; line = line; added = 0; distances = 0 })
+
 below : Profile
 below = record { measures = pos 0 ∷ pos 0 ∷ pos 0 ∷ negsuc 1_000_000 ∷ []; code = 0 ∷ 0 ∷ [] }
 
@@ -85,7 +89,7 @@ unfolding withMark rowAt firstSlot laid
 misMarked = let at = firstSlot 2 2 + 1 in set laid at (withMark 2 (rowAt laid at))
 
 tries : List Try
-unfolding on laid tag valued below shortWork headed sized misMarked
+unfolding on laid tag valued below shortWork headed sized misMarked herdList itemLine
 tries =
     on laid (add (10 ^ 12) (valued 1_000_001))
     ∷ on laid (add 999_999_999_999 (valued 1_000_001))
@@ -121,11 +125,19 @@ tries =
     ∷ on (sized 2 4 1) (lookUp 0)
     ∷ on (sized 0 1 1) write
     ∷ on misMarked (add 0 below)
+    ∷ on [] (readList (take 21 (herdList [])))
+    ∷ on [] (readList (herdList []))
+    ∷ on [] (readList (herdList (take 39 (itemLine 5 0) ∷ [])))
+    ∷ on [] (readList (herdList (itemLine 5 0 ∷ [])))
+    ∷ on laid (readList (herdList (set (set (itemLine 5 0) 1 48) 2 48 ∷ [])))
+    ∷ on laid (readList (herdList (itemLine 4 1_000_001 ∷ [])))
+    ∷ on laid (readList (herdList (itemLine 4 1_000_000 ∷ [])))
+    ∷ on laid (readList (herdList (itemLine 5 0 ∷ [])))
     ∷ []
 
 -- in the order of the tries: the first number that applies
 expected : List Reply
-unfolding noAdd noRemove noProfile noSearch noImage
+unfolding noAdd noRemove noProfile noSearch noImage noList
 expected =
     noAdd 2
     ∷ noAdd 1
@@ -161,6 +173,14 @@ expected =
     ∷ noProfile 24
     ∷ noImage 24
     ∷ noAdd 24
+    ∷ noList 30 1
+    ∷ noList 0 0
+    ∷ noList 31 2
+    ∷ noList 23 2
+    ∷ noList 1 2
+    ∷ noList 2 2
+    ∷ noList 20 2
+    ∷ noList 22 2
     ∷ []
 
 unchanged : outcomes tries ≡ refusals expected tries

@@ -1,6 +1,6 @@
 -- How a worked line is run: calls on one table in roomy areas, each with its reply as numbers, and what a bucket holds afterwards.
-use Prim.Native.Nat.{ℕ, _+_, _*_}
-use mathlib.Core.List.{List, [], _∷_, map, flatten}
+use Prim.Native.Nat.{ℕ, _+_, _*_, _/_, _%_}
+use mathlib.Core.List.{List, [], _∷_, _++_, map, flatten}
 use lib.IntN.{pos}
 use lib.ListN.{replicate, take}
 use Rattle.metric_rules.specs.declared.Profile.{Profile}
@@ -9,10 +9,12 @@ use Rattle.metric_rules.specs.Validity.{nationals}
 use Rattle.metric_rules.specs.Distance.{Space}
 use Rattle.search_rules.specs.Range.{Entry}
 use Rattle.bucket_rules.specs.Table.{Table, slotsOf, builtOf, liveOf}
+use Rattle.text_rules.specs.Text.{lineFeed, digits}
+use Rattle.list_rules.specs.Lines.{semicolon, comma, listHeader}
 use Rattle.history.specs.Calls.{Call, Lent, Reply}
 use Rattle.history.specs.Calls.Call.{fresh, add, remove}
 use Rattle.history.proofs.Computing.{performed}
-use Rattle.history.specs.Calls.Reply.{number, added, removed, lookedUp, searched, written}
+use Rattle.history.specs.Calls.Reply.{number, added, removed, lookedUp, searched, written, listRead}
 
 -- what distances depend on, by a metric's number
 abbrev pub by : ℕ → Space
@@ -41,6 +43,7 @@ replyNumbers (removed r) area = r .refusal ∷ r .distances ∷ []
 replyNumbers (lookedUp l) area = l .refusal ∷ l .bucket ∷ []
 replyNumbers (searched s) area = s .refusal ∷ s .found ∷ s .distances ∷ flatten (take (s .found) area)
 replyNumbers (written w) area = w .refusal ∷ w .length ∷ []
+replyNumbers (listRead r) area = r .refusal ∷ r .line ∷ r .added ∷ r .distances ∷ []
 
 -- the replies of some calls in a row, as numbers, and the table after them
 unfoldable pub replies : Table → List Call → List (List ℕ)
@@ -71,6 +74,17 @@ unfoldable pub removing : List ℕ → List Call
 unfolding tag
 removing [] = []
 removing (n ∷ ns) = remove (tag n) ∷ removing ns
+
+-- a herd list of some lines; a line of a national with a value in hundredths as its first measure
+unfoldable pub herdList : List (List ℕ) → List ℕ
+unfolding listHeader flatten
+herdList lines = listHeader ++ flatten lines
+
+unfoldable pub itemLine : ℕ → ℕ → List ℕ
+unfolding tag digits
+itemLine n v =
+    let none : List ℕ = semicolon ∷ digits 1 0 ++ comma ∷ digits 2 0 in
+    digits 15 (tag n) ++ semicolon ∷ digits 5 (v / 100) ++ comma ∷ digits 2 (v % 100) ++ none ++ none ++ none ++ lineFeed ∷ []
 
 -- 01's herd: order 2, metric 0, nationals 1 to 4 with 10, 13, 13, 20
 unfoldable pub herd : List Call

@@ -9,7 +9,7 @@ use Rattle.bucket_rules.specs.Table.{Table}
 use Rattle.bucket_rules.specs.Fresh.{tableAfterFresh}
 use Rattle.image_rules.specs.Load.{tableAfterLoad}
 use Rattle.history.specs.Calls.{Call, Lent, replyTo, areasAfter, outcome, withTable}
-use Rattle.history.specs.Calls.Call.{fresh, load, add, remove, lookUp, range, nearest, write}
+use Rattle.history.specs.Calls.Call.{fresh, load, add, remove, lookUp, range, nearest, write, readList}
 use Rattle.history.specs.Trace.{Step, State, showsRefusal, shown, overlaid, leftBy, stepOutcome, stateAfter, shownAt, stateAfterAll, trace}
 use Rattle.history.specs.Model.{Model, lengthsOf, becomes, unless, answer, answerAt, modelAfterAll, modelTrace}
 use Rattle.history.specs.History.{IsCall, CanBegin, before, blankModel, History, steps, finalState, finalModel}
@@ -18,7 +18,8 @@ use Rattle.history.proofs.ScannedItems.{Matches}
 use Rattle.history.proofs.ScannedShown.{begin-shown}
 use Rattle.history.proofs.ScannedStep.{overlaid-length, step-shown}
 use Rattle.history.proofs.ScannedRepresents.{represents}
-use Rattle.history.proofs.ScannedLeft.{matches-longer, Change, step-matches}
+use Rattle.history.proofs.ScannedChange.{Change}
+use Rattle.history.proofs.ScannedLeft.{matches-longer, step-matches}
 
 -- the same lengths, by the area as lent and by the table laid over it
 answer-lengths : (left : Table) (m : Model) (s : Step) → answer m (s .call) (lengthsOf (withTable (overlaid left (s .lent .table)) (s .lent))) ≡ answerAt m s
@@ -50,6 +51,7 @@ begin-matches left m lent (lookUp tag) h change e = absurd h
 begin-matches left m lent (range q r) h change e = absurd h
 begin-matches left m lent (nearest q k) h change e = absurd h
 begin-matches left m lent write h change e = absurd h
+begin-matches left m lent (readList list) h change e = absurd h
 
 first-matches : (state : State) (m : Model) (s : Step) → CanBegin (s .call) → Change (s .call) (overlaid (state .table) (s .lent .table)) m → shownAt state s .refusal ≡ 0
     → Matches (stateAfter state s .table) (answerAt m s .model)
@@ -63,7 +65,7 @@ module _ (changes : (c : Call) (t : Table) (m : Model) → IsCall c → Change c
   unfolding trace modelTrace
   list-shown [] state m ok h = refl
   list-shown (s ∷ ss) state m ok h =
-      ap₂ _∷_ (step-shown state m ok s)
+      ap₂ _∷_ (step-shown state m ok s (changes (s .call) _ m (h .0)))
       (list-shown ss (stateAfter state s) (answerAt m s .model) (step-matches state m ok s (changes (s .call) _ m (h .0))) (h .1))
 
   list-matches : (ss : List Step) (state : State) (m : Model) → Matches (state .table) m → All (λ s. IsCall (s .call)) ss

@@ -1,27 +1,31 @@
 -- The table after one call of a list: where the call is refused or only reads, it matches the model as before, and the model is as it was; where it is
--- accepted, it is enough that the changed table matches the changed model. What a call does not reach is kept by the state.
+-- accepted, it is enough that the changed table matches the changed model. A herd list is stopped at once, or it goes
+-- on from a table that matches. What a call does not reach is kept by the state.
 use Prim.Native.Nat.{ℕ, zero, suc}
 use mathlib.Core.Path.{_≡_, refl, sym, _∙_, ap, ap₂, subst}
-use mathlib.Core.List.{[], _++_, map, append-nil}
+use mathlib.Core.List.{List, [], _++_, append-nil}
 use lib.ListN.{length, take, drop, length-append, take-append-drop, drop-of-length-le}
 use lib.Seq.{take-all, take-append-le}
 use native.Mathlib.Nat.{lt-of-not-le}
 use native.Mathlib.Omega.{arith}
 use native.Mathlib.Decide.{decLe}
+use Rattle.metric_rules.specs.Row.{Row}
 use Rattle.bucket_rules.specs.Geometry.{tableRows}
 use Rattle.bucket_rules.specs.Table.{Table, orderOf}
-use Rattle.bucket_rules.specs.Fresh.{freshRefusal, freshTable, tableAfterFresh}
-use Rattle.bucket_rules.specs.Add.{added, tableAfterAdd}
-use Rattle.bucket_rules.specs.Remove.{removed, tableAfterRemove}
-use Rattle.image_rules.specs.Read.{orderIn, spaceIn}
-use Rattle.image_rules.specs.Load.{loadRefusal, liveRows, loadedTable, tableAfterLoad}
+use Rattle.bucket_rules.specs.Fresh.{tableAfterFresh}
+use Rattle.bucket_rules.specs.Add.{tableAfterAdd}
+use Rattle.bucket_rules.specs.Remove.{tableAfterRemove}
+use Rattle.image_rules.specs.Load.{tableAfterLoad}
+use Rattle.list_rules.specs.ReadList.{Reading, stopped, oneMore, tableAfterReadList}
 use Rattle.history.specs.Calls.{Call, Lent, areasAfter, outcome, withTable, withWork, withResult, withImage}
-use Rattle.history.specs.Calls.Call.{fresh, load, add, remove, lookUp, range, nearest, write}
+use Rattle.history.specs.Calls.Call.{fresh, load, add, remove, lookUp, range, nearest, write, readList}
 use Rattle.history.specs.Trace.{Step, State, overlaid, leftBy, stepOutcome, stateAfter}
-use Rattle.history.specs.Model.{itemOf, Model, Answered, lengthsOf, with, without, canChange, tagRefusal, itemRefusal, becomes, finds, unless, answer, answerAt}
+use Rattle.history.specs.Model.{Model, Answered, ListAnswered, lengthsOf, canChange, tagRefusal, itemRefusal, addRefusalOf, becomes, finds, unless, stopsAt, oneMoreAdded, answer, answerAt}
 use Rattle.history.proofs.ScannedItems.{Matches}
-use Rattle.history.proofs.ScannedRefusals.{changeable, add-refusal, remove-refusal}
-use Rattle.history.proofs.ScannedShown.{enough-accepts}
+use Rattle.history.proofs.ScannedRefusals.{changeable, enough-accepts, add-refusal, remove-refusal}
+use Rattle.history.proofs.ScannedChange.{Change}
+use Rattle.history.proofs.ScannedReading.{Reads, reads, reads-matches}
+use Rattle.history.proofs.ScannedReading.Reads.{stops, takesIn}
 use Rattle.history.proofs.ScannedOwn.{matches-own}
 use Rattle.history.proofs.ScannedStep.{overlaid-length, overlaid-lendable}
 
@@ -50,18 +54,6 @@ left-kept left area =
           ap₂ (λ (a b : Table). a ++ past ++ b) (take-all n left (omega arith)) (drop-of-length-le left {i = n} (omega arith)) ∙ append-nil (left ++ past))
     ]
 
--- what is to be shown of an accepted call that changes the table: the changed table matches the changed model
-abbrev pub Change : Call → Table → Model → Type 0
-Change (fresh order space) t m = freshRefusal (length t) order space ≡ 0 → Matches (freshTable order space t) (record { order = order; space = space; items = [] })
-Change (load image) t m =
-    loadRefusal (length t) image ≡ 0 → Matches (loadedTable image t) (record { order = orderIn image; space = spaceIn image; items = map itemOf (liveRows image) })
-Change (add tag p) t m = Matches t m → itemRefusal m tag p ≡ 0 → Matches (added t tag p .table) (with (record { tag = tag; profile = p }) m)
-Change (remove tag) t m = Matches t m → tagRefusal m tag ≡ 0 → Matches (removed t tag .table) (without tag m)
-Change (lookUp tag) t m = Unit {0}
-Change (range q r) t m = Unit {0}
-Change (nearest q k) t m = Unit {0}
-Change write t m = Unit {0}
-
 module _ {left : Table} {m : Model} (ok : Matches left m) where
   pub matches-left : (area : Table) → Matches (leftBy left (overlaid left area)) m
   matches-left area = subst (λ (t : Table). Matches t m) (sym (left-kept left area)) (matches-longer ok (drop (length left) area))
@@ -83,10 +75,16 @@ module _ {left : Table} {m : Model} (ok : Matches left m) where
   by-reading area zero a e = subst (Matches (leftBy left (overlaid left area))) (sym e) (matches-left area)
   by-reading area (suc r) a e = matches-left area
 
+  -- a herd list stops at once, or goes on from a table that matches
+  by-lines : (area : Table) {work : List Row} {r : Reading} {a : ListAnswered} → Reads (overlaid left area) work m r a → Matches (leftBy left (r .table)) (a .model)
+  unfolding leftBy stopped stopsAt oneMore oneMoreAdded
+  by-lines area (stops refusal line) = matches-left area
+  by-lines area (takesIn {r = r} tag p here accepted next rest) = matches-longer (reads-matches rest next) (drop (length (r .table)) left)
+
   after-call : (c : Call) (given : Lent)
       → Change c (overlaid left (given .table)) m
       → Matches (leftBy left (areasAfter c (withTable (overlaid left (given .table)) given) .table)) (answer m c (lengthsOf (withTable (overlaid left (given .table)) given)) .model)
-  unfolding areasAfter answer withTable withWork withResult withImage lengthsOf finds becomes tableAfterFresh tableAfterLoad tableAfterAdd tableAfterRemove
+  unfolding areasAfter answer withTable withWork withResult withImage lengthsOf finds becomes tableAfterFresh tableAfterLoad tableAfterAdd tableAfterRemove tableAfterReadList addRefusalOf
   after-call (fresh order space) given change = by-refusal (given .table) _ _ refl _ _ change
   after-call (load image) given change = by-refusal (given .table) _ _ refl _ _ change
   after-call (add tag p) given change =
@@ -107,6 +105,8 @@ module _ {left : Table} {m : Model} (ok : Matches left m) where
   after-call (range q r) given change = by-reading (given .table) _ _ refl
   after-call (nearest q k) given change = by-reading (given .table) _ _ refl
   after-call write given change = matches-left (given .table)
+  after-call (readList list) given change =
+      by-lines (given .table) (reads m (withTable (overlaid left (given .table)) given) (overlaid-lendable ok (given .table)) list change)
 
 -- one call of a list: the table after it matches the model after it
 pub step-matches : (state : State) (m : Model) → Matches (state .table) m → (s : Step) → Change (s .call) (overlaid (state .table) (s .lent .table)) m

@@ -133,8 +133,13 @@ unfolding enough
 stopped stop true rest model e f = ap (λ (n : ℕ). elim n as (λ _. ℕ) [ suc n ↦ suc n | zero ↦ rest ]) e ∙ f refl
 stopped stop false rest model e f = ap (λ (n : ℕ). elim n as (λ _. ℕ) [ suc n ↦ suc n | zero ↦ rest ]) e
 
+pub enough-accepts : (can : Bool) (rest : ℕ) → enough can rest ≡ 0 → (can ≡ true) × (rest ≡ 0)
+unfolding enough
+enough-accepts true rest e = (refl, e)
+enough-accepts false rest e = absurd (omega arith)
+
 module _ (m : Model) (lent : Lent) where
-  can-read : Matches (lent .table) m → canRead m (lengthsOf lent) ≡ true
+  pub can-read : Matches (lent .table) m → canRead m (lengthsOf lent) ≡ true
   unfolding canRead lengthsOf
   can-read ok = ap (λ (n : ℕ). leb (tableRows n) (length (lent .table))) (sym (ok .order)) ∙ le-leb (tableRows (orderOf (lent .table))) (length (lent .table)) (ok .sound .long)
 

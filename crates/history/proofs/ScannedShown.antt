@@ -1,5 +1,6 @@
--- At every call a table that matches the model, or is too short for its order, shows what the model shows: refusal, profile, number found, entries.
--- Each call by its refusal, which is the model's; an accepted look up has found the item, and an accepted search shows its entries and no zeros.
+-- At every call a table that matches the model, or is too short for its order, shows what the model shows: refusal, profile, number found, entries, and a herd
+-- list's line and number added. Each call by its refusal, which is the model's; an accepted look up has found the item, an accepted search shows its entries and no
+-- zeros, and a herd list goes as the model's.
 use Prim.Native.Nat.{ℕ, zero, suc, _-_}
 use mathlib.Core.Path.{_≡_, refl, sym, _∙_, ap}
 use mathlib.Core.Bool.{Bool, true, false}
@@ -22,15 +23,18 @@ use Rattle.bucket_rules.specs.LookUp.{Place, find, notFound, lookUpReply}
 use Rattle.bucket_rules.specs.Search.{Answer, rangeAnswer, nearestAnswer, rangeRefusal, nearestRefusal, searchReply, zeroEntry, resultAfter, rangeReply, resultAfterRange, nearestReply, resultAfterNearest}
 use Rattle.bucket_rules.specs.Fresh.{freshRefusal}
 use Rattle.image_rules.specs.Load.{loadRefusal}
+use Rattle.list_rules.specs.ReadList.{readListReply}
 use Rattle.history.specs.Calls.{Call, Lent, replyTo, areasAfter, withTable, withWork, withResult, withImage}
-use Rattle.history.specs.Calls.Call.{fresh, load, add, remove, lookUp, range, nearest, write}
+use Rattle.history.specs.Calls.Call.{fresh, load, add, remove, lookUp, range, nearest, write, readList}
 use Rattle.history.specs.Calls.Reply.{searched}
 use Rattle.history.specs.Trace.{showsRefusal, showsProfile, showsEntries, shown}
-use Rattle.history.specs.Model.{Item, itemOf, Model, lengthsOf, withTag, profileIn, modelRange, modelNearest, canRead, canChange, enough, tagRefusal, itemRefusal, becomes, finds, unless, answer}
+use Rattle.history.specs.Model.{Item, itemOf, Model, lengthsOf, withTag, profileIn, modelRange, modelNearest, canRead, canChange, enough, tagRefusal, itemRefusal, addRefusalOf, becomes, finds, unless, answer}
 use Rattle.history.specs.History.{CanBegin}
 use Rattle.history.proofs.ScannedFinding.{rowFound}
 use Rattle.history.proofs.ScannedItems.{Matches, range-alike, nearest-alike, found-items}
-use Rattle.history.proofs.ScannedRefusals.{Lendable, readable, add-refusal, remove-refusal, look-up-refusal, range-refusal, nearest-refusal}
+use Rattle.history.proofs.ScannedRefusals.{Lendable, readable, enough-accepts, add-refusal, remove-refusal, look-up-refusal, range-refusal, nearest-refusal}
+use Rattle.history.proofs.ScannedChange.{Change}
+use Rattle.history.proofs.ScannedReading.{reads, reads-shown}
 
 -- an answer that shows no more than its refusal
 shows-number : (n : ℕ) (m after : Model) → showsRefusal n ≡ unless n m (becomes after) .shows
@@ -66,11 +70,6 @@ tag-there false is e f = omega arith
 tag-there true [] e f = omega arith
 tag-there true (i ∷ is) e f = omega (arith, ap length f)
 
-pub enough-accepts : (can : Bool) (rest : ℕ) → enough can rest ≡ 0 → (can ≡ true) × (rest ≡ 0)
-unfolding enough
-enough-accepts true rest e = (refl, e)
-enough-accepts false rest e = absurd (omega arith)
-
 add-number : (n bucket distances : ℕ)
     → (elim n as (λ _. Added) [
       | zero ↦ record { refusal = 0; bucket = bucket; distances = distances }
@@ -96,6 +95,7 @@ begin-shown m lent (lookUp tag) h = absurd h
 begin-shown m lent (range q r) h = absurd h
 begin-shown m lent (nearest q k) h = absurd h
 begin-shown m lent write h = absurd h
+begin-shown m lent (readList list) h = absurd h
 
 module _ (m : Model) (lent : Lent) (lendable : Lendable (lent .table) m) where
   add-shown : (tag : ℕ) (p : Profile) → addReply (lent .table) (lent .work) tag p .refusal ≡ enough (canChange m (lengthsOf lent)) (itemRefusal m tag p)
@@ -128,17 +128,18 @@ module _ (m : Model) (lent : Lent) (lendable : Lendable (lent .table) m) where
       ∙ ap (λ (x : ℕ). unless x m (finds m es) .shows) e
 
   -- what each call shows
-  pub shown-alike : (c : Call) → shown (replyTo c lent) (areasAfter c lent .result) ≡ answer m c (lengthsOf lent) .shows
-  unfolding replyTo areasAfter shown answer withTable withWork withResult withImage lengthsOf becomes rangeReply resultAfterRange nearestReply resultAfterNearest
-  shown-alike (fresh order space) = begin-shown m lent (fresh order space) tt
-  shown-alike (load image) = begin-shown m lent (load image) tt
-  shown-alike (add tag p) = ap showsRefusal (add-shown tag p) ∙ shows-number (enough (canChange m (lengthsOf lent)) (itemRefusal m tag p)) m _
-  shown-alike (remove tag) = ap showsRefusal (remove-shown tag) ∙ shows-number (enough (canChange m (lengthsOf lent)) (tagRefusal m tag)) m _
-  shown-alike (lookUp tag) = look-up-shown tag
-  shown-alike (range q r) =
+  pub shown-alike : (c : Call) → Change c (lent .table) m → shown (replyTo c lent) (areasAfter c lent .result) ≡ answer m c (lengthsOf lent) .shows
+  unfolding replyTo areasAfter shown answer withTable withWork withResult withImage lengthsOf becomes rangeReply resultAfterRange nearestReply resultAfterNearest readListReply addRefusalOf
+  shown-alike (fresh order space) change = begin-shown m lent (fresh order space) tt
+  shown-alike (load image) change = begin-shown m lent (load image) tt
+  shown-alike (add tag p) change = ap showsRefusal (add-shown tag p) ∙ shows-number (enough (canChange m (lengthsOf lent)) (itemRefusal m tag p)) m _
+  shown-alike (remove tag) change = ap showsRefusal (remove-shown tag) ∙ shows-number (enough (canChange m (lengthsOf lent)) (tagRefusal m tag)) m _
+  shown-alike (lookUp tag) change = look-up-shown tag
+  shown-alike (range q r) change =
       search-shown (rangeRefusal (lent .table) (lent .result) q r) _ (rangeAnswer (lent .table) q r) (modelRange m q r) (range-refusal m lent lendable q r)
       (λ ok. range-alike ok q r)
-  shown-alike (nearest q k) =
+  shown-alike (nearest q k) change =
       search-shown (nearestRefusal (lent .table) (lent .result) q k) _ (nearestAnswer (lent .table) q k) (modelNearest m q k) (nearest-refusal m lent lendable q k)
       (λ ok. nearest-alike ok q k)
-  shown-alike write = refl
+  shown-alike write change = refl
+  shown-alike (readList list) change = reads-shown (reads m lent lendable list change)

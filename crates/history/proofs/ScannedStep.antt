@@ -18,6 +18,7 @@ use Rattle.history.specs.Trace.{Step, State, overlaid, stepOutcome, show
 use Rattle.history.specs.Model.{Model, lengthsOf, answer, answerAt}
 use Rattle.history.proofs.ScannedItems.{Matches}
 use Rattle.history.proofs.ScannedRefusals.{Lendable, rows-some}
+use Rattle.history.proofs.ScannedChange.{Change}
 use Rattle.history.proofs.ScannedShown.{shown-alike}
 use Rattle.history.proofs.ScannedOwn.{matches-own}
 
@@ -58,10 +59,11 @@ overlaid-lendable {left} {m} ok area =
     ]
 
 -- what a call shows
-pub step-shown : (state : State) (m : Model) → Matches (state .table) m → (s : Step) → shownAt state s ≡ answerAt m s .shows
+pub step-shown : (state : State) (m : Model) → Matches (state .table) m → (s : Step) → Change (s .call) (overlaid (state .table) (s .lent .table)) m
+    → shownAt state s ≡ answerAt m s .shows
 unfolding shownAt stepOutcome outcome answerAt withTable lengthsOf
-step-shown state m ok s =
+step-shown state m ok s change =
     let lent = withTable (overlaid (state .table) (s .lent .table)) (s .lent) in
-    shown-alike m lent (overlaid-lendable ok (s .lent .table)) (s .call)
+    shown-alike m lent (overlaid-lendable ok (s .lent .table)) (s .call) change
     ∙ ap (λ (n : ℕ). answer m (s .call) (record { table = n; work = length (s .lent .work); result = length (s .lent .result) }) .shows)
     (overlaid-length (state .table) (s .lent .table))

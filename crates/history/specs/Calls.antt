@@ -20,8 +20,10 @@ use Rattle.bucket_rules.specs.Search.{rangeReply, resultAfterRange, nearestRepl
 use Rattle.image_rules.specs.declared.Written.{Written}
 use Rattle.image_rules.specs.Write.{writeReply, imageAfterWrite}
 use Rattle.image_rules.specs.Load.{loadRefusal, tableAfterLoad}
+use Rattle.list_rules.specs.declared.ListRead.{ListRead}
+use Rattle.list_rules.specs.ReadList.{readListReply, tableAfterReadList, workAfterReadList}
 
--- the eight calls with their arguments, a load's image among them
+-- the nine calls with their arguments, a load's image and a herd list's bytes among them
 pub data Call : Type 0 where
   fresh : (order : ℕ) (space : Space) → Call
   load : (image : List ℕ) → Call
@@ -31,6 +33,7 @@ pub data Call : Type 0 where
   range : (query : Profile) (radius : ℕ) → Call
   nearest : (query : Profile) (k : ℕ) → Call
   write : Call
+  readList : (list : List ℕ) → Call
 
 -- the areas lent to a call: the table, the work area, the result area and the bytes that an image is written to
 pub record Lent : Type 0 where
@@ -47,6 +50,7 @@ pub data Reply : Type 0 where
   lookedUp : LookedUp → Reply
   searched : Searched → Reply
   written : Written → Reply
+  listRead : ListRead → Reply
 
 pub record Outcome : Type 0 where
   pub reply : Reply
@@ -75,6 +79,7 @@ areasAfter (lookUp tag) l = l
 areasAfter (range q r) l = withResult (resultAfterRange (l .table) (l .result) q r) l
 areasAfter (nearest q k) l = withResult (resultAfterNearest (l .table) (l .result) q k) l
 areasAfter write l = withImage (imageAfterWrite (l .table) (l .image)) l
+areasAfter (readList list) l = withTable (tableAfterReadList (l .table) (l .work) list) (withWork (workAfterReadList (l .table) (l .work) list) l)
 
 unfoldable pub replyTo : Call → Lent → Reply
 replyTo (fresh order space) l = number (freshRefusal (length (l .table)) order space)
@@ -85,6 +90,7 @@ replyTo (lookUp tag) l = lookedUp (lookUpReply (l .table) tag)
 replyTo (range q r) l = searched (rangeReply (l .table) (l .result) q r)
 replyTo (nearest q k) l = searched (nearestReply (l .table) (l .result) q k)
 replyTo write l = written (writeReply (l .table) (l .image))
+replyTo (readList list) l = listRead (readListReply (l .table) (l .work) list)
 
 unfoldable pub outcome : Call → Lent → Outcome
 outcome c l = record { reply = replyTo c l; areas = areasAfter c l }

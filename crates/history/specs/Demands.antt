@@ -18,8 +18,8 @@ use Rattle.history.specs.History.{History, finalState, finalModel}
 use Rattle.history.specs.Images.{imageSize, LoadsBack, GivesBack}
 use Rattle.history.specs.Represents.{Holds}
 
--- Demands 2 and 3, one claim over every list of calls on one table, refused ones too, that an accepted fresh or load began (`History`): at each call
--- table and reference model show the same; after the list the buckets and trees are those of the published method, they hold the model's items,
+-- Demands 2 and 3, one claim over every list of calls on one table, refused ones and herd lists read too, that an accepted fresh or load began (`History`):
+-- at each call table and reference model show the same; after the list the buckets and trees are those of the published method, they hold the model's items,
 -- range and nearest answer as a scan of them, and all rebuilds together keep within 4·T·(T+1)·A + 11·T·R distances.
 -- Theorem: `every-list`
 abbrev pub EveryList : Type 0

@@ -6,7 +6,7 @@ use Rattle.metric_rules.specs.Row.{IsProfile}
 use Rattle.tree_rules.specs.Guided.{All}
 use Rattle.bucket_rules.specs.Table.{Table}
 use Rattle.history.specs.Calls.{Call}
-use Rattle.history.specs.Calls.Call.{fresh, load, add, remove, lookUp, range, nearest, write}
+use Rattle.history.specs.Calls.Call.{fresh, load, add, remove, lookUp, range, nearest, write, readList}
 use Rattle.history.specs.Trace.{Step, State, noSums, shownAt, stateAfterAll}
 use Rattle.history.specs.Model.{Model, modelAfterAll}
 
@@ -20,6 +20,7 @@ IsCall (lookUp tag) = tag < 2 ^ 64
 IsCall (range q r) = IsProfile q × (r < 2 ^ 32)
 IsCall (nearest q k) = IsProfile q × (k < 2 ^ 32)
 IsCall write = Unit {0}
+IsCall (readList list) = All (λ b. b < 2 ^ 8) list
 
 -- fresh and load can begin a table
 abbrev pub CanBegin : Call → Type 0
@@ -31,6 +32,7 @@ CanBegin (lookUp tag) = ⊥
 CanBegin (range q r) = ⊥
 CanBegin (nearest q k) = ⊥
 CanBegin write = ⊥
+CanBegin (readList list) = ⊥
 
 -- whatever lay there before, with nothing added up yet; and a model with nothing in it, whose order and metric the first call sets
 unfoldable pub before : Table → State

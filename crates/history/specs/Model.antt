@@ -18,9 +18,12 @@ use Rattle.bucket_rules.specs.LookUp.{noProfile}
 use Rattle.bucket_rules.specs.Fresh.{freshRefusal}
 use Rattle.image_rules.specs.Read.{orderIn, spaceIn}
 use Rattle.image_rules.specs.Load.{loadRefusal, liveRows}
+use Rattle.list_rules.specs.Lines.{ListLine, hasHeader, itemLines}
+use Rattle.list_rules.specs.Lines.ListLine.{anItem, malformed}
+use Rattle.list_rules.specs.ReadList.{badListHeader, badListLine}
 use Rattle.history.specs.Calls.{Call, Lent}
-use Rattle.history.specs.Calls.Call.{fresh, load, add, remove, lookUp, range, nearest, write}
-use Rattle.history.specs.Trace.{Step, Shown, showsRefusal, showsProfile, showsEntries}
+use Rattle.history.specs.Calls.Call.{fresh, load, add, remove, lookUp, range, nearest, write, readList}
+use Rattle.history.specs.Trace.{Step, Shown, showsRefusal, showsProfile, showsEntries, showsList}
 
 -- an item is 01's head, as handed over; and the item of a slot's row
 pub record Item : Type 0 where
@@ -128,12 +131,42 @@ unfoldable pub unless : ℕ → Model → Answered → Answered
 unless zero m a = a
 unless (suc n) m a = record { model = m; shows = showsRefusal (suc n) }
 
+-- an add's refusal: 23 for a short area, then 1, 2, 20, 22
+unfoldable pub addRefusalOf : Model → Lengths → ℕ → Profile → ℕ
+addRefusalOf m n tag p = enough (canChange m n) (itemRefusal m tag p)
+
+-- a herd list (W4): the model after it, the refusal and its line, and the number added
+pub record ListAnswered : Type 0 where
+  pub model : Model
+  pub refusal : ℕ
+  pub line : ℕ
+  pub added : ℕ
+
+unfoldable pub stopsAt : Model → ℕ → ℕ → ListAnswered
+stopsAt m refusal line = record { model = m; refusal = refusal; line = line; added = 0 }
+
+unfoldable pub oneMoreAdded : ListAnswered → ListAnswered
+oneMoreAdded a = record { model = a .model; refusal = a .refusal; line = a .line; added = suc (a .added) }
+
+-- its lines from number i on: "each line accepted .. stays in the plain book, also where a later line is refused"
+unfoldable pub linesAnswered : Model → Lengths → ℕ → List ListLine → ListAnswered
+linesAnswered m n i [] = stopsAt m 0 0
+linesAnswered m n i (malformed ∷ lines) = stopsAt m badListLine i
+linesAnswered m n i (anItem tag p ∷ lines) =
+    elim (addRefusalOf m n tag p) [
+      | suc r ↦ stopsAt m (suc r) i
+      | zero ↦ oneMoreAdded (linesAnswered (with (record { tag = tag; profile = p }) m) n (suc i) lines)
+    ]
+
+unfoldable pub listAnswered : Model → Lengths → List ℕ → ListAnswered
+listAnswered m n list = elim (hasHeader list) [ false ↦ stopsAt m badListHeader 1 | true ↦ linesAnswered m n 2 (itemLines list) ]
+
 unfoldable pub answer : Model → Call → Lengths → Answered
 answer m (fresh order space) n = unless (freshRefusal (n .table) order space) m (becomes (record { order = order; space = space; items = [] }))
 answer m (load image) n =
     unless (loadRefusal (n .table) image) m
     (becomes (record { order = orderIn image; space = spaceIn image; items = map itemOf (liveRows image) }))
-answer m (add tag p) n = unless (enough (canChange m n) (itemRefusal m tag p)) m (becomes (with (record { tag = tag; profile = p }) m))
+answer m (add tag p) n = unless (addRefusalOf m n tag p) m (becomes (with (record { tag = tag; profile = p }) m))
 answer m (remove tag) n = unless (enough (canChange m n) (tagRefusal m tag)) m (becomes (without tag m))
 answer m (lookUp tag) n =
     unless (enough (canRead m n) (tagRefusal m tag)) m
@@ -145,6 +178,9 @@ answer m (nearest q k) n =
     let found = modelNearest m q k in
     unless (enough (canRead m n) (scanRefusal q (countRefusal k (fits (n .result) found)))) m (finds m found)
 answer m write n = becomes m
+answer m (readList list) n =
+    let a = listAnswered m n list in
+    record { model = a .model; shows = showsList (a .refusal) (a .line) (a .added) }
 
 -- the answer to one call of a list, and the whole list: the model after it, and the trace of what it showed
 unfoldable pub answerAt : Model → Step → Answered

@@ -56,7 +56,7 @@ pub record Represents (t : Table) (m : Model) : Type 0 where
   -- 9. nearest likewise, for every query and k
   pub nearest : (q : Profile) (k : ℕ) → IsProfile q → nearestAnswer t q k .entries ≡ modelNearest m q k
 
--- the bound on all rebuilds together, with A adds and R removals at order T: 4·T·(T+1)·A + 11·T·R
+-- the bound on all rebuilds together, with A adds, a herd list's accepted lines among them, and R removals at order T: 4·T·(T+1)·A + 11·T·R
 unfoldable pub rebuildBound : ℕ → Sums → ℕ
 rebuildBound order sums = 4 * order * (order + 1) * sums .adds + 11 * order * sums .removals
 

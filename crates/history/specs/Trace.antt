@@ -10,8 +10,8 @@ use Rattle.bucket_rules.specs.LookUp.{noProfile}
 use Rattle.image_rules.specs.Read.{slotsIn}
 use Rattle.image_rules.specs.Load.{liveRows}
 use Rattle.history.specs.Calls.{Call, Lent, Reply, Outcome, outcome, withTable}
-use Rattle.history.specs.Calls.Call.{fresh, load, add, remove, lookUp, range, nearest, write}
-use Rattle.history.specs.Calls.Reply.{number, added, removed, lookedUp, searched, written}
+use Rattle.history.specs.Calls.Call.{fresh, load, add, remove, lookUp, range, nearest, write, readList}
+use Rattle.history.specs.Calls.Reply.{number, added, removed, lookedUp, searched, written, listRead}
 
 -- one call of a list: "each call may be lent other areas of any length and content"
 pub record Step : Type 0 where
@@ -29,22 +29,27 @@ leftBy left area = area ++ drop (length area) left
 unfoldable pub stepOutcome : Table → Step → Outcome
 stepOutcome left s = outcome (s .call) (withTable (overlaid left (s .lent .table)) (s .lent))
 
--- what table and model are "alike in" at a call: the refusal, look up's profile, the number found and the entries; zeros where a call has none of
--- these. Writing's refusal is excepted
+-- what table and model are "alike in" at a call: the refusal, look up's profile, the number found and the entries, a herd list's line and the number
+-- added; zeros where a call has none of these. Writing's refusal is excepted
 pub record Shown : Type 0 where
   pub refusal : ℕ
   pub profile : Profile
   pub found : ℕ
   pub entries : List Entry
+  pub line : ℕ
+  pub added : ℕ
 
 unfoldable pub showsRefusal : ℕ → Shown
-showsRefusal n = record { refusal = n; profile = noProfile; found = 0; entries = [] }
+showsRefusal n = record { refusal = n; profile = noProfile; found = 0; entries = []; line = 0; added = 0 }
 
 unfoldable pub showsProfile : ℕ → Profile → Shown
-showsProfile n p = record { refusal = n; profile = p; found = 0; entries = [] }
+showsProfile n p = record { refusal = n; profile = p; found = 0; entries = []; line = 0; added = 0 }
 
 unfoldable pub showsEntries : ℕ → ℕ → List Entry → Shown
-showsEntries n found entries = record { refusal = n; profile = noProfile; found = found; entries = entries }
+showsEntries n found entries = record { refusal = n; profile = noProfile; found = found; entries = entries; line = 0; added = 0 }
+
+unfoldable pub showsList : ℕ → ℕ → ℕ → Shown
+showsList n line more = record { refusal = n; profile = noProfile; found = 0; entries = []; line = line; added = more }
 
 -- of a reply, with the result area after the call
 unfoldable pub shown : Reply → List Entry → Shown
@@ -54,8 +59,9 @@ shown (removed r) area = showsRefusal (r .refusal)
 shown (lookedUp l) area = showsProfile (l .refusal) (l .profile)
 shown (searched s) area = showsEntries (s .refusal) (s .found) (take (s .found) area)
 shown (written w) area = showsRefusal 0
+shown (listRead r) area = showsList (r .refusal) (r .line) (r .added)
 
--- demand 3's A, R and "these numbers", the distances that add and remove report, since the last fresh or load
+-- demand 3's A, R and "these numbers", the distances that add, remove and the reading of a herd list report, since the last fresh or load
 pub record Sums : Type 0 where
   pub adds : ℕ
   pub removals : ℕ
@@ -72,7 +78,7 @@ pub record Increment : Type 0 where
 unfoldable pub counts : ℕ → ℕ → ℕ → Increment
 counts adds removals distances = record { afresh = false; more = record { adds = adds; removals = removals; distances = distances } }
 
--- a refused call is in no sum
+-- a refused call is in no sum; a herd list's accepted lines are, also where a later line is refused
 unfoldable pub ifAccepted : ℕ → Increment → Increment
 ifAccepted zero i = i
 ifAccepted (suc n) i = counts 0 0 0
@@ -87,6 +93,7 @@ starting (lookUp tag) = noSums
 starting (range q r) = noSums
 starting (nearest q k) = noSums
 starting write = noSums
+starting (readList list) = noSums
 
 -- by a call and its reply; a reply that is a number alone is fresh's or load's
 unfoldable pub increment : Call → Reply → Increment
@@ -96,6 +103,7 @@ increment c (removed r) = ifAccepted (r .refusal) (counts 0 1 (r .distances))
 increment c (lookedUp l) = counts 0 0 0
 increment c (searched s) = counts 0 0 0
 increment c (written w) = counts 0 0 0
+increment c (listRead r) = counts (r .added) 0 (r .distances)
 
 unfoldable pub plus : Sums → Increment → Sums
 plus sums i =

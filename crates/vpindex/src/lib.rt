@@ -9,11 +9,13 @@ ghost use Rattle.bucket_rules.specs.LookUp.{lookUpReply};
 ghost use Rattle.bucket_rules.specs.Search.{rangeReply, resultAfterRange, nearestReply, resultAfterNearest};
 ghost use Rattle.image_rules.specs.Write.{writeReply, imageAfterWrite};
 ghost use Rattle.image_rules.specs.Load.{loadRefusal, tableAfterLoad};
+ghost use Rattle.list_rules.specs.ReadList.{readListReply, tableAfterReadList, workAfterReadList};
 use bucket_rules::Added;
 use bucket_rules::LookedUp;
 use bucket_rules::Removed;
 use bucket_rules::Searched;
 use image_rules::Written;
+use list_rules::ListRead;
 use metric_rules::Profile;
 use metric_rules::Row;
 use search_rules::Entry;
@@ -104,4 +106,14 @@ pub extern "C" fn vpindex_write(table: &[Row], image: &mut [u8]) -> Written
     ensures image { λ _. ⌜ now (image .exit) ≡ imageAfterWrite (now (table .entry)) (now (image .entry)) ⌝ }
 {
     image_write::write(table, image)
+}
+
+// A herd list: each line an add, up to the first line refused. The reply has that line's refusal and number, the items added and their distances.
+#[no_mangle]
+pub extern "C" fn vpindex_read_list(table: &mut [Row], work: &mut [Row], list: &[u8]) -> ListRead
+    ensures reply { λ r. ⌜ r ≡ readListReply (now (table .entry)) (now (work .entry)) (now (list .entry)) ⌝ }
+    ensures table { λ _. ⌜ now (table .exit) ≡ tableAfterReadList (now (table .entry)) (now (work .entry)) (now (list .entry)) ⌝ }
+    ensures work { λ _. ⌜ now (work .exit) ≡ workAfterReadList (now (table .entry)) (now (work .entry)) (now (list .entry)) ⌝ }
+{
+    read_list::read_list(table, work, list)
 }

@@ -13,8 +13,9 @@ use Rattle.bucket_rules.specs.Remove.{removeReply, tableAfterRemove, workAfterR
 use Rattle.bucket_rules.specs.Search.{rangeReply, resultAfterRange, nearestReply, resultAfterNearest}
 use Rattle.yard_rules.specs.declared.Command.{Command}
 use Rattle.yard_rules.specs.declared.Command.the-variants as command
-use Rattle.yard_rules.specs.Text.{space, partsIn, numeral}
-use Rattle.yard_rules.specs.Line.{letterA, letterN, letterR, letterW, questionMark, field, isTag, isNumber, opens, hasProfile, commandIn, profileIn}
+use Rattle.text_rules.specs.Text.{space, partsIn, numeral}
+use Rattle.text_rules.specs.Fields.{isTag}
+use Rattle.yard_rules.specs.Line.{letterA, letterN, letterR, letterW, questionMark, field, isNumber, opens, hasProfile, commandIn, profileIn}
 use Rattle.yard_rules.specs.Reply.{replyLine, addText, removeText, searchText}
 use Rattle.yard_rules.specs.Spoken.{areasAfter, textAfter, otherText}
 use Rattle.yard_reply.specs.Put.{Puts}

@@ -11,8 +11,8 @@ use lib.ListN.{length, getD, take, drop, length-take, length-drop, take-append-d
 use lib.Seq.{drop-cons, take-suc, drop-drop, getD-drop, take-all, drop-nil}
 use borrow.Author.Tests.{le-leb, lt-leb, eq-eqb, ne-eqb}
 use Rattle.tree_rules.proofs.Lists.{all-append}
-use Rattle.yard_rules.specs.Text.{onto, parted, partAt, partsIn}
-use Rattle.yard_rules.proofs.Parts.{Free, parted-separator, parted-byte, parted-one, parted-first}
+use Rattle.text_rules.specs.Text.{onto, parted, partAt, partsIn}
+use Rattle.text_rules.proofs.Parts.{Free, parted-some, parted-separator, parted-byte, parted-one, parted-first}
 use Rattle.yard_fields.specs.Found.{partsFrom, PartEnd}
 
 -- there is always a part
@@ -22,15 +22,7 @@ some-onto b [] = inr refl
 some-onto b (p ∷ ps) = inl refl
 
 some-part : (separator : ℕ) (text : List ℕ) → 1 ≤ length (parted separator text)
-unfolding parted onto
-some-part separator [] = omega arith
-some-part separator (b ∷ bs) = by (eqb b separator) refl (some-part separator bs) (some-onto b (parted separator bs))
-  where
-    by : (t : Bool) → eqb b separator ≡ t → 1 ≤ length (parted separator bs)
-        → (length (onto b (parted separator bs)) ≡ length (parted separator bs)) ⊎ (length (parted separator bs) ≡ 0)
-        → 1 ≤ length (parted separator (b ∷ bs))
-    by true e h k = omega (arith, ap length (parted-separator separator b bs e))
-    by false e h k = ⊎-elim (λ w. omega (arith, ap length (parted-byte separator b bs e))) (λ w. omega arith) k
+some-part separator text = omega (arith, ap length (parted-some separator text .same))
 
 length-onto : (separator b : ℕ) (bs : List ℕ) → length (onto b (parted separator bs)) ≡ length (parted separator bs)
 length-onto separator b bs = ⊎-elim (λ w. w) (λ w. omega (arith, some-part separator bs)) (some-onto b (parted separator bs))

@@ -5,7 +5,7 @@ use mathlib.Core.Bool.{true, false}
 use mathlib.Core.List.{List, [], _∷_}
 use lib.Dec.{leb}
 use lib.ListN.{length, take, drop}
-use Rattle.yard_rules.specs.Text.{parted}
+use Rattle.text_rules.specs.Text.{parted}
 
 -- the parts from a place on; a place past the end has none
 unfoldable pub partsFrom : ℕ → List ℕ → ℕ → List (List ℕ)

@@ -2,7 +2,7 @@
 ghost use mathlib.Core.Path.{_≡_};
 ghost use Prim.Native.Nat.{_+_, _≤_, _<_, _^_};
 ghost use lib.ListN.{length, drop};
-ghost use Rattle.yard_rules.specs.Text.{parted, partAt, partsIn};
+ghost use Rattle.text_rules.specs.Text.{parted, partAt, partsIn};
 ghost use Rattle.yard_fields.specs.Found.{partsFrom, PartEnd};
 
 // How many parts there are: one more than separators.

@@ -11,9 +11,10 @@ use Rattle.yard_rules.specs.declared.Header.{Header}
 use Rattle.yard_rules.specs.declared.Header.the-variants as header
 use Rattle.yard_rules.specs.declared.Command.{Command}
 use Rattle.yard_rules.specs.declared.Command.the-variants as command
-use Rattle.yard_rules.specs.Text.{space, point, partAt, partsIn, numeral}
-use Rattle.yard_rules.specs.Line.{field, onlyByte, isTag, isNumber, isMeasure, isCode, hasProfile, headerIn, opens, commandIn, letterA, letterN, letterR, letterW}
-use Rattle.yard_rules.proofs.Parts.{part-shorter}
+use Rattle.text_rules.specs.Text.{space, point, partAt, partsIn, numeral}
+use Rattle.text_rules.specs.Fields.{isTag, isMeasure}
+use Rattle.yard_rules.specs.Line.{field, onlyByte, isNumber, isCode, hasProfile, headerIn, opens, commandIn, letterA, letterN, letterR, letterW}
+use Rattle.text_rules.proofs.Parts.{part-shorter}
 
 pub field-shorter : (line : List ℕ) (n : ℕ) → length (field line n) ≤ length line
 unfolding partAt

@@ -12,11 +12,13 @@ use Rattle.metric_rules.specs.Lists.{total}
 use Rattle.tree_rules.proofs.Tests.{and-first, and-second}
 use Rattle.yard_rules.specs.declared.Header.the-variants as header
 use Rattle.yard_rules.specs.declared.Command.the-variants as command
-use Rattle.yard_rules.specs.Text.{space, point, minus, onto, parted, partAt, partsIn, isNumeral, numeral}
-use Rattle.yard_rules.specs.Line.{field, onlyByte, isTag, isNumber, isMeasure, isCode, unsigned, isNegative, hasProfile, headerIn, opens, commandIn, letterA, letterN, letterR, letterW}
-use Rattle.yard_rules.proofs.Parts.{parted-separator, parted-byte}
-use Rattle.yard_numerals.proofs.Digits.{numeral-longest}
-use Rattle.yard_parse.proofs.Forms.{only-other, digits-code, measure-whole, measure-rest, unsigned-minus, unsigned-plain}
+use Rattle.text_rules.specs.Text.{space, point, minus, onto, parted, partAt, partsIn, isNumeral, numeral}
+use Rattle.text_rules.specs.Fields.{isTag, isMeasure, unsigned, isNegative}
+use Rattle.yard_rules.specs.Line.{field, onlyByte, isNumber, isCode, hasProfile, headerIn, opens, commandIn, letterA, letterN, letterR, letterW}
+use Rattle.text_rules.proofs.Parts.{parted-separator, parted-byte}
+use Rattle.text_rules.proofs.Digits.{numeral-longest}
+use Rattle.text_rules.proofs.Signs.{unsigned-minus, unsigned-plain}
+use Rattle.yard_parse.proofs.Forms.{only-other, digits-code, measure-whole, measure-rest}
 use Rattle.yard_line.proofs.Lines.{opens-form, header-by, profile-seven, measure-2, measure-3, measure-4, measure-5, code-6, command-by}
 
 -- the bytes of some parts, each with a separator

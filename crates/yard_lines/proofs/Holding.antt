@@ -7,7 +7,7 @@ use native.Mathlib.Omega.{arith}
 use native.Mathlib.Numerals.{add-one}
 use lib.ListN.{length, getD, take, drop, set, length-append, length-set, length-take, drop-of-length-le}
 use lib.Seq.{take-suc-set, take-all, drop-cons}
-use Rattle.yard_rules.specs.Text.{lineFeed}
+use Rattle.text_rules.specs.Text.{lineFeed}
 use Rattle.yard_lines.specs.declared.Held.{Held}
 use Rattle.yard_lines.specs.Held.{untilFeed, Holds}
 use Rattle.yard_lines.proofs.Pieces.{until-feed, until-byte}

@@ -8,8 +8,8 @@ use lib.Dec.{eqb}
 use lib.ListN.{length, drop}
 use borrow.Author.Tests.{eqb-true, eqb-false, eq-eqb, ne-eqb}
 use Rattle.tree_rules.proofs.Lists.{all-append}
-use Rattle.yard_rules.specs.Text.{lineFeed, parted}
-use Rattle.yard_rules.proofs.Parts.{Free, parted-first}
+use Rattle.text_rules.specs.Text.{lineFeed, parted}
+use Rattle.text_rules.proofs.Parts.{Free, parted-first}
 use Rattle.yard_lines.specs.Held.{untilFeed}
 
 pub until-feed : (b : ℕ) (bs : List ℕ) → b ≡ lineFeed → untilFeed (b ∷ bs) ≡ []

@@ -6,9 +6,9 @@ use mathlib.Core.List.{List, [], _∷_, _++_, append-assoc, append-nil}
 use lib.Dec.{eqb}
 use borrow.Author.Tests.{eqb-true, eqb-false}
 use Rattle.tree_rules.proofs.Lists.{all-append}
-use Rattle.yard_rules.specs.Text.{lineFeed, parted}
+use Rattle.text_rules.specs.Text.{lineFeed, parted}
 use Rattle.yard_rules.specs.Spoken.{lastKept, firstKept, linesIn}
-use Rattle.yard_rules.proofs.Parts.{Free, parted-one, parted-first}
+use Rattle.text_rules.proofs.Parts.{Free, parted-one, parted-first}
 use Rattle.yard_lines.specs.Pieces.{Gathering, gathering, gatherings, whole, someLeft, ended}
 
 -- after a piece: its lines stand first, and what is left of it is pending before what comes later

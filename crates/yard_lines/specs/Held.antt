@@ -7,7 +7,7 @@ use lib.Dec.{eqb}
 use lib.ListN.{length, take, drop}
 use Rattle.yard_lines.specs.declared.Held.{Held}
 use Rattle.yard_lines.specs.declared.Gathered.{Gathered}
-use Rattle.yard_rules.specs.Text.{lineFeed}
+use Rattle.text_rules.specs.Text.{lineFeed}
 
 -- the bytes before the first line feed, and all where there is none
 unfoldable pub untilFeed : List ℕ → List ℕ

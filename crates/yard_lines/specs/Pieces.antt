@@ -3,7 +3,7 @@ use Prim.Native.Nat.{ℕ}
 use mathlib.Core.Bool.{true, false}
 use mathlib.Core.List.{List, [], _∷_, _++_}
 use lib.Dec.{eqb}
-use Rattle.yard_rules.specs.Text.{lineFeed}
+use Rattle.text_rules.specs.Text.{lineFeed}
 
 pub record Gathering : Type 0 where
   pub lines : List (List ℕ)

@@ -4,8 +4,9 @@ ghost use mathlib.Core.Bool.{true};
 ghost use Prim.Native.Nat.{_≤_, _<_, _^_};
 ghost use lib.ListN.{length};
 ghost use Rattle.metric_rules.specs.Lists.{every};
-ghost use Rattle.yard_rules.specs.Text.{digitOf, isDigit, isNumeral, numeral};
-ghost use Rattle.yard_rules.specs.Line.{isNumber, isTag};
+ghost use Rattle.text_rules.specs.Text.{digitOf, isDigit, isNumeral, numeral};
+ghost use Rattle.text_rules.specs.Fields.{isTag};
+ghost use Rattle.yard_rules.specs.Line.{isNumber};
 
 fn is_digit(base: u64, b: u8) -> bool
     ensures { λ r. ⌜ r ≡ isDigit base b ⌝ }

@@ -1,23 +1,21 @@
 -- The forms of a code and of a measure, test by test, and the lengths that they bound.
-use Prim.Native.Nat.{ℕ, zero, suc, _-_, _^_, _≤_, _<_}
-use mathlib.Core.Path.{_≡_, refl, ap, ap₂, sym, subst⁻¹, _∙_}
+use Prim.Native.Nat.{ℕ, _-_, _^_, _≤_, _<_}
+use mathlib.Core.Path.{_≡_, refl, ap, ap₂, sym}
 use mathlib.Core.Bool.{Bool, true, false, _&&_, _||_, false≢true}
 use mathlib.Core.List.{List, [], _∷_}
 use native.Mathlib.Omega.{arith}
-use lib.Dec.{leb, eqb}
+use lib.Dec.{eqb}
 use lib.ListN.{length, getD, take, drop, length-drop}
 use lib.Seq.{take-all}
-use lib.IntN.{pos, negℤ, _-ℤ_, +ℤ-idl}
-use mir.Syntax.{w32}
-use mir.Val.{SFits, toZ}
-use mir.Facts.{toZ-pos}
 use native.Mathlib.Nat.{pow-le-pow-right, lt-of-lt-of-le}
-use borrow.Author.Tests.{eq-eqb, ne-eqb, eqb-true, leb-true}
+use borrow.Author.Tests.{eq-eqb, ne-eqb}
 use Rattle.metric_rules.specs.Lists.{every}
 use Rattle.tree_rules.proofs.Lists.{all-take, all-drop}
 use Rattle.tree_rules.proofs.Tests.{every-all, all-every, and-first, and-second}
-use Rattle.yard_rules.specs.Text.{minus, partAt, partsIn, isDigit, isNumeral, numeral}
-use Rattle.yard_rules.specs.Line.{onlyByte, isCode, codeIn, isNegative, unsigned, isMeasure, hundredths, measureIn}
+use Rattle.text_rules.specs.Text.{minus, partAt, partsIn, isNumeral, numeral}
+use Rattle.text_rules.specs.Fields.{isNegative, unsigned, isMeasure}
+use Rattle.text_rules.proofs.Signs.{unsigned-minus, unsigned-plain}
+use Rattle.yard_rules.specs.Line.{onlyByte, isCode, codeIn}
 
 pub only-one : (text : List ℕ) → length text ≡ 1 → getD text 0 0 ≡ onlyByte text
 unfolding onlyByte
@@ -70,20 +68,12 @@ minus-some [] e = absurd (false≢true e)
 minus-some (b ∷ bs) e = omega arith
 
 module _ (text : List ℕ) where
-  pub unsigned-minus : isNegative text ≡ true → drop 1 text ≡ unsigned text
-  unfolding unsigned
-  unsigned-minus e = ap (λ t. elim t [ true ↦ drop 1 text | false ↦ text ]) (sym e)
-
-  pub unsigned-plain : isNegative text ≡ false → text ≡ unsigned text
-  unfolding unsigned
-  unsigned-plain e = ap (λ t. elim t [ true ↦ drop 1 text | false ↦ text ]) (sym e)
-
   pub unsigned-shorter : length (unsigned text) ≤ length text
   unsigned-shorter = by (isNegative text) refl
     where
       by : (t : Bool) → isNegative text ≡ t → length (unsigned text) ≤ length text
-      by true e = rw (sym (unsigned-minus e)) (omega (arith, length-drop 1 text))
-      by false e = rw (sym (unsigned-plain e)) (omega arith)
+      by true e = rw (sym (unsigned-minus text e)) (omega (arith, length-drop 1 text))
+      by false e = rw (sym (unsigned-plain text e)) (omega arith)
 
 -- a measure is two numerals with the mark between
 module _ (mark : ℕ) (text : List ℕ) where
@@ -115,29 +105,6 @@ module _ (mark : ℕ) (text : List ℕ) where
   measure-rest e =
       and-second (eqb (partsIn mark size) 2 && isNumeral 10 1 5 (partAt mark size 0)) (isNumeral 10 2 2 (partAt mark size 1)) e
 
--- the value of a measure, and its sign
+-- the value of a measure
 pub few-digits : (n k m : ℕ) → n < 16 ^ k → k ≤ m → n < 16 ^ m
 few-digits n k m h l = lt-of-lt-of-le h (pow-le-pow-right {n = 16} (omega arith) l)
-
-pub negated : (n : ℕ) → n < 2 ^ 30 → pos 0 -ℤ toZ w32 n ≡ negℤ (pos n)
-negated n h = ap (λ z. pos 0 -ℤ z) (toZ-pos w32 {n = n} (omega arith)) ∙ +ℤ-idl (negℤ (pos n))
-
-negative-fits : (n : ℕ) → n < 2 ^ 30 → SFits w32 (negℤ (pos n))
-negative-fits zero h = record { sfits = omega arith }
-negative-fits (suc n) h = record { sfits = omega arith }
-
-pub negated-fits : (n : ℕ) → n < 2 ^ 30 → SFits w32 (pos 0 -ℤ toZ w32 n)
-negated-fits n h = subst⁻¹ (SFits w32) (negated n h) (negative-fits n h)
-
-module _ (mark : ℕ) (text : List ℕ) (n : ℕ) (value : n ≡ hundredths mark (unsigned text)) where
-  pub measure-minus : isNegative text ≡ true → negℤ (pos n) ≡ measureIn mark text
-  unfolding measureIn
-  measure-minus e =
-      ap (λ k. negℤ (pos k)) value
-      ∙ ap (λ t. elim t [ true ↦ negℤ (pos (hundredths mark (unsigned text))) | false ↦ pos (hundredths mark (unsigned text)) ]) (sym e)
-
-  pub measure-plain : isNegative text ≡ false → pos n ≡ measureIn mark text
-  unfolding measureIn
-  measure-plain e =
-      ap pos value
-      ∙ ap (λ t. elim t [ true ↦ negℤ (pos (hundredths mark (unsigned text))) | false ↦ pos (hundredths mark (unsigned text)) ]) (sym e)

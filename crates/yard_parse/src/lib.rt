@@ -3,8 +3,9 @@ ghost use mathlib.Core.Path.{_≡_};
 ghost use mathlib.Core.Bool.{true};
 ghost use Prim.Native.Nat.{_≤_, _<_, _^_};
 ghost use lib.ListN.{length};
-ghost use Rattle.yard_rules.specs.Text.{partAt, isNumeral};
-ghost use Rattle.yard_rules.specs.Line.{onlyByte, isCode, codeIn, isNegative, unsigned, isMeasure, hundredths, measureIn};
+ghost use Rattle.text_rules.specs.Text.{partAt, isNumeral};
+ghost use Rattle.text_rules.specs.Fields.{isNegative, unsigned, isMeasure, hundredths, measureIn};
+ghost use Rattle.yard_rules.specs.Line.{onlyByte, isCode, codeIn};
 
 // The only byte of a text, and 0 where it has none or more.
 pub fn only_byte(text: &[u8]) -> u8

@@ -6,7 +6,7 @@ use native.Mathlib.Omega.{arith}
 use native.Mathlib.Numerals.{add-one}
 use lib.ListN.{length, set, getD, take, length-append}
 use lib.Seq.{sets, set-comm, take-suc, take-all}
-use Rattle.yard_rules.specs.Text.{digits, decimal, space, lineFeed}
+use Rattle.text_rules.specs.Text.{digits, decimal, space, lineFeed}
 use Rattle.search_rules.specs.Range.{Entry}
 use Rattle.yard_rules.specs.Reply.{spaced, replyLine, entryText, entriesText}
 use Rattle.yard_print.proofs.Widths.{length-digits}

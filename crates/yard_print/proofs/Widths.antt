@@ -8,7 +8,7 @@ use native.Mathlib.Nat.{div-add-mod, mod-lt}
 use lib.Dec.{ltb}
 use lib.ListN.{length, length-append}
 use borrow.Author.Tests.{lt-ltb, le-ltb, ltb-true, ltb-false}
-use Rattle.yard_rules.specs.Text.{digits, widthWithin, width, decimal}
+use Rattle.text_rules.specs.Text.{digits, widthWithin, width, decimal}
 
 pub length-digits : (w n : ℕ) → length (digits w n) ≡ w
 unfolding digits

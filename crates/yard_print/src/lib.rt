@@ -3,7 +3,7 @@ ghost use mathlib.Core.Path.{_≡_};
 ghost use Prim.Native.Nat.{_+_, _*_, _≤_};
 ghost use lib.ListN.{length, take};
 ghost use lib.Seq.{sets};
-ghost use Rattle.yard_rules.specs.Text.{digits, width, decimal};
+ghost use Rattle.text_rules.specs.Text.{digits, width, decimal};
 ghost use Rattle.yard_rules.specs.Reply.{replyLine, entryText, entriesText};
 use search_rules::Entry;
 

@@ -18,8 +18,9 @@ use Rattle.bucket_rules.specs.Add.{addRefusal, emptyFrom, lowestEmpty, gathered
 use Rattle.bucket_rules.specs.Remove.{removeRefusal, marked, united, thinned, settled, removed, removeReply, tableAfterRemove, workAfterRemove}
 use Rattle.bucket_rules.specs.Search.{bucketsDown, rangeMet, rangeAnswer, nearestTally, nearestAnswer, fitRefusal, rangeRefusal, nearestRefusal, searchReply, zeroEntry, resultAfter, rangeReply, resultAfterRange, nearestReply, resultAfterNearest}
 use Rattle.bucket_rules.specs.LookUp.{placeFrom, placeIn, find, isLiveTag}
-use Rattle.yard_rules.specs.Text.{onto, parted, partAt, partsIn, digitOf, isDigit, isNumeral, numeralAfter, numeral, digits, widthWithin, width, decimal}
-use Rattle.yard_rules.specs.Line.{isNumber, onlyByte, isCode, codeIn, isNegative, unsigned, isMeasure, hundredths, measureIn, hasProfile, profileIn, headerIn, opens, commandIn}
+use Rattle.text_rules.specs.Text.{onto, parted, partAt, partsIn, digitOf, isDigit, isNumeral, numeralAfter, numeral, digits, widthWithin, width, decimal}
+use Rattle.text_rules.specs.Fields.{isNegative, unsigned, isMeasure, hundredths, measureIn}
+use Rattle.yard_rules.specs.Line.{isNumber, onlyByte, isCode, codeIn, hasProfile, profileIn, headerIn, opens, commandIn}
 use Rattle.yard_rules.specs.Reply.{spaced, replyLine, replyNumbers, addText, removeText, entryText, entriesText, searchText}
 use Rattle.yard_rules.specs.Spoken.{otherText, mostYardOrder, headerRefusal, greeted, areasAfter, textAfter, answered, saidAt, spoken, after, printed, lastKept, firstKept, linesIn, conversation, Areas}
 

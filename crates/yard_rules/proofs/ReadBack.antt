@@ -9,11 +9,12 @@ use Rattle.search_rules.specs.Range.{Entry}
 use Rattle.bucket_rules.specs.declared.Searched.{Searched}
 use Rattle.tree_rules.specs.Guided.{All}
 use Rattle.tree_rules.proofs.Lists.{all-append}
-use Rattle.yard_rules.specs.Text.{lineFeed, space, parted, numeral, digits, decimal, width}
+use Rattle.text_rules.specs.Text.{lineFeed, space, parted, numeral, digits, decimal, width}
 use Rattle.yard_rules.specs.Reply.{spaced, replyLine, replyNumbers, entryText, entriesText, searchText}
 use Rattle.yard_rules.specs.Spoken.{lastKept}
-use Rattle.yard_rules.proofs.Numerals.{digits-back, decimal-back}
-use Rattle.yard_rules.proofs.Parts.{Free, parted-one, parted-first, digits-free, reply-back}
+use Rattle.text_rules.proofs.Numerals.{digits-back, decimal-back}
+use Rattle.text_rules.proofs.Parts.{Free, parted-one, parted-first, digits-free}
+use Rattle.yard_rules.proofs.Parts.{reply-back}
 
 -- the numbers of a line of an entry, and of a whole reply: its first line has a letter before them
 unfoldable pub fieldsOf : List ℕ → List ℕ

@@ -5,8 +5,9 @@ use mathlib.Core.Path.{_≡_, refl}
 use mathlib.Core.Bool.{Bool, true, false}
 use mathlib.Core.List.{List, [], _∷_}
 use Rattle.metric_rules.specs.Lists.{every}
-use Rattle.yard_rules.specs.Text.{point, onto, parted, partAt, partsIn, digitOf, isDigit, isNumeral, numeralAfter, numeral}
-use Rattle.yard_rules.specs.Line.{isNumber, onlyByte, isCode, codeIn, isNegative, unsigned, isMeasure}
+use Rattle.text_rules.specs.Text.{point, onto, parted, partAt, partsIn, digitOf, isDigit, isNumeral, numeralAfter, numeral}
+use Rattle.text_rules.specs.Fields.{isNegative, unsigned, isMeasure}
+use Rattle.yard_rules.specs.Line.{isNumber, onlyByte, isCode, codeIn}
 use Rattle.yard_rules.proofs.Computing.{talk}
 use Rattle.yard_rules.proofs.Example.{scratch}
 

@@ -1,8 +1,7 @@
 -- 01, "The program": the form of a line, and what a line of that form says. Every line of bytes is a header or not, and a command or not.
-use Prim.Native.Nat.{ℕ, _+_, _*_, _^_}
+use Prim.Native.Nat.{ℕ, _^_}
 use mathlib.Core.Bool.{Bool, true, false, _&&_, _||_}
 use mathlib.Core.List.{List, [], _∷_}
-use lib.IntN.{ℤ, pos, negℤ}
 use lib.ListN.{length, getD, take, drop}
 use lib.Dec.{ltb, eqb}
 use Rattle.metric_rules.specs.declared.Profile.{Profile}
@@ -10,11 +9,8 @@ use Rattle.yard_rules.specs.declared.Header.{Header}
 use Rattle.yard_rules.specs.declared.Header.the-variants as header
 use Rattle.yard_rules.specs.declared.Command.{Command}
 use Rattle.yard_rules.specs.declared.Command.the-variants as command
-use Rattle.yard_rules.specs.Text.{space, minus, point, partAt, partsIn, isNumeral, numeral}
-
--- "A tag is 15 digits"
-abbrev pub isTag : List ℕ → Bool
-isTag text = isNumeral 10 15 15 text
+use Rattle.text_rules.specs.Text.{space, minus, point, partAt, partsIn, isNumeral, numeral}
+use Rattle.text_rules.specs.Fields.{isTag, isMeasure, measureIn}
 
 -- "T, metric, radius and k are 1 to 10 digits within 32 bits"
 unfoldable pub isNumber : List ℕ → Bool
@@ -31,26 +27,6 @@ isCode text = eqb (onlyByte text) minus || isNumeral 16 32 32 text
 unfoldable pub codeIn : List ℕ → List ℕ
 codeIn text =
     elim (eqb (onlyByte text) minus) [ true ↦ 0 ∷ 0 ∷ [] | false ↦ numeral 16 (take 16 text) ∷ numeral 16 (drop 16 text) ∷ [] ]
-
--- "A measure is an optional minus, 1 to 5 digits, a point, 2 digits; one sign covers all digits". What stands for the point is an argument
-unfoldable pub isNegative : List ℕ → Bool
-isNegative text = eqb (getD text 0 0) minus
-
-unfoldable pub unsigned : List ℕ → List ℕ
-unsigned text = elim (isNegative text) [ true ↦ drop 1 text | false ↦ text ]
-
-unfoldable pub isMeasure : ℕ → List ℕ → Bool
-isMeasure mark text =
-    let size = unsigned text in
-    eqb (partsIn mark size) 2 && isNumeral 10 1 5 (partAt mark size 0) && isNumeral 10 2 2 (partAt mark size 1)
-
-unfoldable pub hundredths : ℕ → List ℕ → ℕ
-hundredths mark size = 100 * numeral 10 (partAt mark size 0) + numeral 10 (partAt mark size 1)
-
-unfoldable pub measureIn : ℕ → List ℕ → ℤ
-measureIn mark text =
-    let n = hundredths mark (unsigned text) in
-    elim (isNegative text) [ true ↦ negℤ (pos n) | false ↦ pos n ]
 
 -- "a profile is `m m m m code`": the last five of a line's seven fields
 abbrev pub field : List ℕ → ℕ → List ℕ

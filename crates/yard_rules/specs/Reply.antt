@@ -6,7 +6,7 @@ use Rattle.search_rules.specs.Range.{Entry}
 use Rattle.bucket_rules.specs.declared.Added.{Added}
 use Rattle.bucket_rules.specs.declared.Removed.{Removed}
 use Rattle.bucket_rules.specs.declared.Searched.{Searched}
-use Rattle.yard_rules.specs.Text.{lineFeed, space, digits, decimal}
+use Rattle.text_rules.specs.Text.{lineFeed, space, digits, decimal}
 use Rattle.yard_rules.specs.Line.{letterA, letterR}
 
 -- numbers, each after a space

@@ -21,7 +21,7 @@ use Rattle.yard_rules.specs.declared.Command.{Command}
 use Rattle.yard_rules.specs.declared.Command.the-variants as command
 use Rattle.yard_rules.specs.declared.Stage.{Stage}
 use Rattle.yard_rules.specs.declared.Stage.the-variants as stage
-use Rattle.yard_rules.specs.Text.{lineFeed, parted}
+use Rattle.text_rules.specs.Text.{lineFeed, parted}
 use Rattle.yard_rules.specs.Line.{letterF, letterN, letterW, questionMark, headerIn, commandIn, profileIn}
 use Rattle.yard_rules.specs.Reply.{replyLine, addText, removeText, searchText}
 

@@ -9,9 +9,9 @@ use lib.Dec.{eqb}
 use lib.ListN.{length, take, drop, length-drop}
 use lib.Seq.{take-all}
 use borrow.Author.Tests.{ne-eqb, eqb-false}
-use Rattle.yard_rules.specs.Text.{lineFeed}
+use Rattle.text_rules.specs.Text.{lineFeed}
 use Rattle.yard_rules.specs.Spoken.{Yard, after, spoken, printed}
-use Rattle.yard_rules.proofs.Parts.{Free}
+use Rattle.text_rules.proofs.Parts.{Free}
 use Rattle.yard_lines.specs.Held.{untilFeed}
 use Rattle.yard_lines.specs.Pieces.{Gathering, gathering}
 use Rattle.yard_lines.proofs.Pieces.{until-free, feed-after, no-feed}

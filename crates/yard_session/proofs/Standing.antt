@@ -12,9 +12,9 @@ use lib.Seq.{sets}
 use borrow.Author.Tests.{eq-eqb, ne-eqb}
 use Rattle.yard_rules.specs.declared.Stage.{Stage}
 use Rattle.yard_rules.specs.declared.Stage.the-variants as stage
-use Rattle.yard_rules.specs.Text.{lineFeed}
+use Rattle.text_rules.specs.Text.{lineFeed}
 use Rattle.yard_rules.specs.Spoken.{Areas, Yard, Said, saidAt, spoken, after, printed}
-use Rattle.yard_rules.proofs.Parts.{Free}
+use Rattle.text_rules.proofs.Parts.{Free}
 use Rattle.yard_lines.specs.declared.Held.{Held}
 use Rattle.yard_lines.specs.declared.Gathered.{Gathered}
 use Rattle.yard_lines.specs.Held.{untilFeed, Holds, Gathers}

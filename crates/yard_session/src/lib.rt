@@ -4,7 +4,7 @@ ghost use mathlib.Core.Bool.{true, false};
 ghost use mathlib.Core.List.{List, [], _∷_};
 ghost use Prim.Native.Nat.{ℕ, suc, _+_, _-_, _*_, _^_, _≤_, _<_};
 ghost use lib.ListN.{length};
-ghost use Rattle.yard_rules.specs.Text.{lineFeed};
+ghost use Rattle.text_rules.specs.Text.{lineFeed};
 ghost use Rattle.yard_rules.specs.Spoken.{Areas};
 ghost use Rattle.yard_lines.specs.Held.{Holds};
 ghost use Rattle.yard_answer.specs.Lent.{lent};

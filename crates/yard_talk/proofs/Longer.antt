@@ -9,7 +9,7 @@ use Rattle.yard_rules.specs.declared.Command.{Command}
 use Rattle.yard_rules.specs.declared.Command.the-variants as command
 use Rattle.yard_rules.specs.declared.Stage.{Stage}
 use Rattle.yard_rules.specs.declared.Stage.the-variants as stage
-use Rattle.yard_rules.specs.Text.{parted, partsIn}
+use Rattle.text_rules.specs.Text.{parted, partsIn}
 use Rattle.yard_rules.specs.Line.{hasProfile, headerIn, commandIn, profileIn}
 use Rattle.yard_rules.specs.Spoken.{Areas, areasAfter, textAfter, greeted, answered, saidAt}
 use Rattle.yard_line.proofs.Longer.{long-command, long-header}

@@ -2,6 +2,7 @@
 
 use reference::calls as plain;
 use reference::item::{Entry, Profile, Row};
+use reference::list::ListRead;
 use vpindex::ffi;
 
 use crate::random::Random;
@@ -15,8 +16,8 @@ pub struct Areas {
     pub work: Vec<Row>,
     /// Entries of the result area.
     pub result: Vec<Entry>,
-    /// Bytes, written by write and read by load.
-    pub image: Vec<u8>,
+    /// Bytes: an image, written by write and read by load, or a herd list.
+    pub bytes: Vec<u8>,
 }
 
 /// A call with its arguments, the areas aside.
@@ -31,6 +32,7 @@ pub enum Call {
     Range { query: Profile, radius: u32 },
     Nearest { query: Profile, k: u32 },
     Write,
+    ReadList,
 }
 
 /// What a call returned; fields that it has not are zero.
@@ -41,6 +43,8 @@ pub struct Reply {
     pub bucket: u32,
     pub found: u32,
     pub length: u32,
+    pub line: u32,
+    pub added: u32,
     pub distances: u32,
     pub profile: Profile,
 }
@@ -58,11 +62,11 @@ fn searched((found, distances): plain::Searched) -> Reply {
 
 /// The call by the reference.
 pub fn by_reference(call: &Call, areas: &mut Areas) -> Reply {
-    let Areas { table, work, result, image } = areas;
+    let Areas { table, work, result, bytes } = areas;
     let nothing = |()| Reply::default();
     match *call {
         Call::Fresh { order, metric } => accepted(plain::fresh(table, order, metric), nothing),
-        Call::Load => accepted(plain::load(table, image), nothing),
+        Call::Load => accepted(plain::load(table, bytes), nothing),
         Call::Add { tag, profile } => accepted(plain::add(table, work, tag, profile), |(bucket, distances)| Reply {
             bucket,
             distances,
@@ -76,7 +80,11 @@ pub fn by_reference(call: &Call, areas: &mut Areas) -> Reply {
         }
         Call::Range { query, radius } => accepted(plain::range(table, result, query, radius), searched),
         Call::Nearest { query, k } => accepted(plain::nearest(table, result, query, k), searched),
-        Call::Write => accepted(plain::write(table, image), |length| Reply { length, ..Reply::default() }),
+        Call::Write => accepted(plain::write(table, bytes), |length| Reply { length, ..Reply::default() }),
+        Call::ReadList => {
+            let ListRead { refusal, line, added, distances } = plain::read_list(table, work, bytes);
+            Reply { refusal, line, added, distances, ..Reply::default() }
+        }
     }
 }
 
@@ -94,10 +102,10 @@ fn hits(reply: ffi::Searched) -> Reply {
 }
 
 /// The call by the archive, on areas as they are.
-pub fn by_archive(call: &Call, table: &mut [Row], work: &mut [Row], result: &mut [Entry], image: &mut [u8]) -> Reply {
+pub fn by_archive(call: &Call, table: &mut [Row], work: &mut [Row], result: &mut [Entry], bytes: &mut [u8]) -> Reply {
     match *call {
         Call::Fresh { order, metric } => Reply { refusal: ffi::fresh(table, order, metric), ..Reply::default() },
-        Call::Load => Reply { refusal: ffi::load(table, image), ..Reply::default() },
+        Call::Load => Reply { refusal: ffi::load(table, bytes), ..Reply::default() },
         Call::Add { tag, profile } => {
             let ffi::Added { refusal, bucket, distances } = ffi::add(table, work, tag, raw(profile));
             Reply { refusal, bucket, distances, ..Reply::default() }
@@ -110,8 +118,12 @@ pub fn by_archive(call: &Call, table: &mut [Row], work: &mut [Row], result: &mut
         Call::Range { query, radius } => hits(ffi::range(table, result, raw(query), radius)),
         Call::Nearest { query, k } => hits(ffi::nearest(table, result, raw(query), k)),
         Call::Write => {
-            let ffi::Written { refusal, length } = ffi::write(table, image);
+            let ffi::Written { refusal, length } = ffi::write(table, bytes);
             Reply { refusal, length, ..Reply::default() }
+        }
+        Call::ReadList => {
+            let ffi::ListRead { refusal, line, added, distances } = ffi::read_list(table, work, bytes);
+            Reply { refusal, line, added, distances, ..Reply::default() }
         }
     }
 }
@@ -149,14 +161,14 @@ pub fn by_archive_guarded(call: &Call, areas: &mut Areas, random: &mut Random) -
     let mut table = Guarded::new(areas.table.as_flattened(), random, |word| word as u32);
     let mut work = Guarded::new(areas.work.as_flattened(), random, |word| word as u32);
     let mut result = Guarded::new(areas.result.as_flattened(), random, |word| word);
-    let mut image = Guarded::new(&areas.image, random, |word| word as u8);
+    let mut bytes = Guarded::new(&areas.bytes, random, |word| word as u8);
     let (rows, working) = (table.lent().as_chunks_mut().0, work.lent().as_chunks_mut().0);
-    let reply = by_archive(call, rows, working, result.lent().as_chunks_mut().0, image.lent());
+    let reply = by_archive(call, rows, working, result.lent().as_chunks_mut().0, bytes.lent());
     *areas = Areas {
         table: table.back().as_chunks().0.to_vec(),
         work: work.back().as_chunks().0.to_vec(),
         result: result.back().as_chunks().0.to_vec(),
-        image: image.back(),
+        bytes: bytes.back(),
     };
     reply
 }
@@ -171,7 +183,7 @@ pub fn compare(call: &Call, areas: &mut Areas, random: &mut Random) -> Reply {
     same("table", call, &areas.table, &expected.table);
     same("work area", call, &areas.work, &expected.work);
     same("result area", call, &areas.result, &expected.result);
-    same("image", call, &areas.image, &expected.image);
+    same("bytes", call, &areas.bytes, &expected.bytes);
     reply
 }
 

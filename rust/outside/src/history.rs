@@ -4,6 +4,7 @@
 use reference::book::Book;
 use reference::image::is_sound;
 use reference::item::{Profile, Row};
+use reference::list::ListRead;
 use reference::table::{Bucket, Table};
 use reference::tree::Hit;
 
@@ -32,11 +33,12 @@ impl Sums {
     }
 
     fn note(&mut self, call: &Call, reply: &Reply, table: &[Row]) {
-        if reply.refusal != 0 {
+        // a list's lines stay added where a later one is refused
+        if reply.refusal != 0 && *call != Call::ReadList {
             return;
         }
         self.distances += match call {
-            Call::Add { .. } | Call::Remove { .. } => reply.distances as u64,
+            Call::Add { .. } | Call::Remove { .. } | Call::ReadList => reply.distances as u64,
             _ => 0,
         };
         match call {
@@ -44,6 +46,7 @@ impl Sums {
             Call::Load => *self = Sums::of(&Table::open(table, |_| true).expect("a loaded table passes")),
             Call::Add { .. } => self.adds += 1,
             Call::Remove { .. } => self.removals += 1,
+            Call::ReadList => self.adds += reply.added as u64,
             _ => (),
         }
     }
@@ -78,17 +81,17 @@ impl History {
         history
     }
 
-    /// One call more, any of the eight.
+    /// One call more, any of the nine.
     pub fn step(&mut self) {
         let mut areas = lent(&mut self.random, &self.left, self.book.order);
         let call = next(&mut self.random, &mut areas, self.book.order, self.book.metric);
         self.call(&call, areas);
     }
 
-    /// One add or removal more.
+    /// One add, removal or herd list more.
     pub fn change(&mut self) {
-        let areas = lent(&mut self.random, &self.left, self.book.order);
-        let call = change(&mut self.random, &areas, self.book.order);
+        let mut areas = lent(&mut self.random, &self.left, self.book.order);
+        let call = change(&mut self.random, &mut areas, self.book.order);
         self.call(&call, areas);
     }
 
@@ -96,7 +99,7 @@ impl History {
         let lengths = [areas.table.len(), areas.work.len(), areas.result.len()];
         let reply = compare(call, &mut areas, &mut self.random);
         let hits = areas.result.iter().take(reply.found as usize).map(|entry| (entry[1] as u32, entry[0])).collect();
-        self.check_shown(call, &areas.image, lengths, &reply, hits);
+        self.check_shown(call, &areas.bytes, lengths, &reply, hits);
         self.sums.note(call, &reply, &areas.table);
         self.tally.note(call, &reply);
         keep(&mut self.left, areas.table);
@@ -104,11 +107,12 @@ impl History {
         reply
     }
 
-    // Table and book are alike in the refusal (writing excepted), look up's profile, the number found and the entries.
+    // Table and book are alike in the refusal (writing excepted), look up's profile, the number found and the entries, and
+    // of a herd list in the line and the number added.
     fn check_shown(
         &mut self,
         call: &Call,
-        image: &[u8],
+        bytes: &[u8],
         [rows, work, room]: [usize; 3],
         reply: &Reply,
         hits: Vec<Hit>,
@@ -117,7 +121,7 @@ impl History {
         let nothing = |()| (Profile::default(), vec![]);
         let expected = match *call {
             Call::Fresh { order, metric } => book.fresh(rows, order, metric).map(nothing),
-            Call::Load => book.load(rows, image).map(nothing),
+            Call::Load => book.load(rows, bytes).map(nothing),
             Call::Add { tag, profile } => book.add(rows, work, tag, profile).map(nothing),
             Call::Remove { tag } => book.remove(rows, work, tag).map(nothing),
             Call::LookUp { tag } => book.look_up(rows, tag).map(|profile| (profile, vec![])),
@@ -126,6 +130,12 @@ impl History {
             }
             Call::Nearest { query, k } => book.nearest(rows, room, &query, k).map(|hits| (Profile::default(), hits)),
             Call::Write => return,
+            Call::ReadList => {
+                let expected = book.read_list(rows, work, bytes);
+                let got = ListRead { refusal: reply.refusal, line: reply.line, added: reply.added, distances: 0 };
+                assert_eq!(got, expected, "table, then book: {call:?}");
+                return;
+            }
         };
         let got = if reply.refusal == 0 { Ok((reply.profile, hits)) } else { Err(reply.refusal) };
         assert_eq!(got, expected, "table, then book: {call:?}");

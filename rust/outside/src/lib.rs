@@ -2,6 +2,7 @@
 
 pub mod calls;
 pub mod foreign;
+pub mod herd;
 pub mod history;
 pub mod images;
 pub mod lists;

@@ -10,19 +10,22 @@ use reference::table::{Table, capacity, first_row, table_rows};
 use crate::calls::{Areas, Call, Reply, compare};
 use crate::foreign::{any_row, rows_of};
 use crate::random::Random;
-use crate::{foreign, images, sound};
+use crate::{foreign, herd, images, sound};
 
-/// How often each call was refused by each number, 0 being accepted, and how many removals built a tree.
+/// How often each call was refused by each number, 0 being accepted, how many removals built a tree, and how many
+/// readings of a herd list were refused with lines added before.
 #[derive(Clone, Debug, Default)]
 pub struct Tally {
     /// By call and number.
     pub met: BTreeMap<(&'static str, u32), usize>,
     /// Removals that worked out distances.
     pub shrunk: usize,
+    /// Readings that stopped after a line that was added.
+    pub stopped: usize,
 }
 
 /// The numbers that each call can be refused by, and 0.
-pub const NUMBERS: [(&str, &[u32]); 8] = [
+pub const NUMBERS: [(&str, &[u32]); 9] = [
     ("fresh", &[0, 3, 4, 23]),
     ("load", &[0, 3, 4, 7, 8, 23, 24]),
     ("add", &[0, 1, 2, 20, 22, 23, 24]),
@@ -31,6 +34,7 @@ pub const NUMBERS: [(&str, &[u32]); 8] = [
     ("range", &[0, 2, 6, 23, 24]),
     ("nearest", &[0, 2, 5, 6, 23, 24]),
     ("write", &[0, 6, 23, 24]),
+    ("read list", &[0, 1, 2, 20, 22, 23, 24, 30, 31]),
 ];
 
 impl Tally {
@@ -38,6 +42,7 @@ impl Tally {
     pub fn note(&mut self, call: &Call, reply: &Reply) {
         *self.met.entry((name(call), reply.refusal)).or_default() += 1;
         self.shrunk += (matches!(call, Call::Remove { .. }) && reply.distances > 0) as usize;
+        self.stopped += (reply.refusal != 0 && reply.added > 0) as usize;
     }
 
     /// How many calls there were.
@@ -51,6 +56,7 @@ impl Tally {
             *self.met.entry(key).or_default() += n;
         }
         self.shrunk += other.shrunk;
+        self.stopped += other.stopped;
     }
 }
 
@@ -64,6 +70,7 @@ fn name(call: &Call) -> &'static str {
         Call::Range { .. } => "range",
         Call::Nearest { .. } => "nearest",
         Call::Write => "write",
+        Call::ReadList => "read list",
     }
 }
 
@@ -124,13 +131,13 @@ pub fn lent(random: &mut Random, left: &[Row], order: u32) -> Areas {
         table,
         work: random.fill(working, any_row),
         result: random.fill(room, |random| [random.word(), random.word()]),
-        image: vec![],
+        bytes: vec![],
     }
 }
 
-/// The next call, with the image that it reads or the bytes that it writes to.
+/// The next call, with the image or the list that it reads or the bytes that it writes to.
 pub fn next(random: &mut Random, areas: &mut Areas, order: u32, metric: u32) -> Call {
-    match random.below(32) {
+    match random.below(36) {
         0 => fresh(random, order, metric),
         1..4 => load(random, areas, order, metric),
         4 | 5 => write(random, areas, order),
@@ -138,13 +145,25 @@ pub fn next(random: &mut Random, areas: &mut Areas, order: u32, metric: u32) -> 
         14..20 => Call::Remove { tag: tag(random, areas, order) },
         20..23 => Call::LookUp { tag: tag(random, areas, order) },
         23..27 => Call::Range { query: query(random, areas, order), radius: random.reach() },
+        27..31 => read_list(random, areas, order),
         _ => Call::Nearest { query: query(random, areas, order), k: count(random, order) },
     }
 }
 
-/// An add or a removal.
-pub fn change(random: &mut Random, areas: &Areas, order: u32) -> Call {
-    if random.one_in(2) { add(random, order) } else { Call::Remove { tag: tag(random, areas, order) } }
+/// An add, a removal or a herd list.
+pub fn change(random: &mut Random, areas: &mut Areas, order: u32) -> Call {
+    match random.below(16) {
+        0..7 => add(random, order),
+        7 => read_list(random, areas, order),
+        _ => Call::Remove { tag: tag(random, areas, order) },
+    }
+}
+
+// Now and then enough lines to fill the table.
+fn read_list(random: &mut Random, areas: &mut Areas, order: u32) -> Call {
+    let most = if order < 6 && random.one_in(3) { 2 * capacity(order) } else { 8 };
+    areas.bytes = herd::list(random, order, most);
+    Call::ReadList
 }
 
 fn fresh(random: &mut Random, order: u32, metric: u32) -> Call {
@@ -157,7 +176,7 @@ fn fresh(random: &mut Random, order: u32, metric: u32) -> Call {
 
 // Sometimes the table is a sound or a foreign one afterwards, whatever it was: a load of an image gives the first.
 fn load(random: &mut Random, areas: &mut Areas, order: u32, metric: u32) -> Call {
-    areas.image = match (random.below(4), Table::open(&areas.table, |_| true)) {
+    areas.bytes = match (random.below(4), Table::open(&areas.table, |_| true)) {
         (0, Ok(table)) => bytes(&table),
         (1, Ok(table)) => images::cut(random, bytes(&table)),
         (2, _) => few_bytes(random),
@@ -168,7 +187,7 @@ fn load(random: &mut Random, areas: &mut Areas, order: u32, metric: u32) -> Call
 
 fn few_bytes(random: &mut Random) -> Vec<u8> {
     let length = random.below(60);
-    let mut bytes = random.fill(length, |random| random.below(3) as u8);
+    let mut bytes = random.fill(length, |random| random.below(4) as u8);
     if let Some(first) = bytes.first_mut() {
         *first = random.pick(&[0, 0, 1, 2, 3, 13, 255]);
     }
@@ -178,7 +197,7 @@ fn few_bytes(random: &mut Random) -> Vec<u8> {
 fn write(random: &mut Random, areas: &mut Areas, order: u32) -> Call {
     let needed = Table::open(&areas.table, |_| true).map_or(8, |table| bytes(&table).len());
     let room = if random.one_in(4) { length(random, 8 * capacity(order)) } else { length(random, needed) };
-    areas.image = random.fill(room, |random| random.word() as u8);
+    areas.bytes = random.fill(room, |random| random.word() as u8);
     Call::Write
 }
 

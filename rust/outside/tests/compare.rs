@@ -23,6 +23,7 @@ fn lists_of_calls() {
     println!("{} calls: {tally:?}", tally.calls());
     assert!(tally.calls() >= 20_000);
     assert!(tally.shrunk >= 100);
+    assert!(tally.stopped >= 100);
     for (call, numbers) in NUMBERS {
         for number in numbers {
             assert!(tally.met.get(&(call, *number)).is_some_and(|&n| n >= 10), "{call} was hardly met with {number}");

@@ -3,7 +3,7 @@
 use outside::calls::{Areas, Call, compare};
 use outside::foreign::{self, any_row, rows_of};
 use outside::random::Random;
-use outside::sound;
+use outside::{herd, sound};
 use reference::image::bytes;
 use reference::item::Row;
 use reference::table::{Table, capacity, table_rows};
@@ -20,7 +20,7 @@ struct Lengths {
     table: usize,
     work: usize,
     result: usize,
-    image: usize,
+    bytes: usize,
 }
 
 fn lent(random: &mut Random, rows: &[Row], lengths: Lengths) -> Areas {
@@ -30,7 +30,7 @@ fn lent(random: &mut Random, rows: &[Row], lengths: Lengths) -> Areas {
         table,
         work: random.fill(lengths.work, any_row),
         result: random.fill(lengths.result, |random| [random.word(), random.word()]),
-        image: random.fill(lengths.image, |random| random.word() as u8),
+        bytes: random.fill(lengths.bytes, |random| random.word() as u8),
     }
 }
 
@@ -50,6 +50,7 @@ fn calls(random: &mut Random, rows: &[Row], order: u32, metric: u32) -> Vec<Call
         Call::Range { query, radius: u32::MAX },
         Call::Nearest { query, k: u32::MAX },
         Call::Write,
+        Call::ReadList,
     ]
 }
 
@@ -59,13 +60,16 @@ fn every_length(random: &mut Random, rows: &[Row], order: u32, metric: u32) -> u
     let image = 4 + 4 * (order as usize + 1) + 48 * result;
     let of = |at: usize, n: usize| {
         let one = |i: usize, needed: usize| if i == at { n } else { needed };
-        Lengths { table: one(0, table), work: one(1, work), result: one(2, result), image: one(3, image) }
+        Lengths { table: one(0, table), work: one(1, work), result: one(2, result), bytes: one(3, image) }
     };
     let mut count = 0;
     for (at, needed) in [table, work, result, image].into_iter().enumerate() {
         for n in 0..=needed + 3 {
             for call in calls(random, rows, order, metric).into_iter().filter(|call| is_lent(call, at)) {
                 let mut areas = lent(random, rows, of(at, n));
+                if call == Call::ReadList {
+                    areas.bytes = herd::list(random, order, 4);
+                }
                 compare(&call, &mut areas, random);
                 count += 1;
             }
@@ -74,10 +78,10 @@ fn every_length(random: &mut Random, rows: &[Row], order: u32, metric: u32) -> u
     count
 }
 
-// Whether the call is lent this area: table, work, result, image.
+// Whether the call is lent this area: table, work, result, bytes.
 fn is_lent(call: &Call, at: usize) -> bool {
     match call {
-        Call::Add { .. } | Call::Remove { .. } => at <= 1,
+        Call::Add { .. } | Call::Remove { .. } | Call::ReadList => at <= 1,
         Call::Range { .. } | Call::Nearest { .. } => at == 0 || at == 2,
         Call::Load | Call::Write => at == 0 || at == 3,
         _ => at == 0,
@@ -104,7 +108,7 @@ fn images_of_every_length() {
         let sound = sound::table(&mut random, order, metric);
         let image = bytes(&sound);
         let mut load = |bytes: &[u8], rows: usize| {
-            let mut areas = Areas { table: random.fill(rows, any_row), image: bytes.to_vec(), ..Areas::default() };
+            let mut areas = Areas { table: random.fill(rows, any_row), bytes: bytes.to_vec(), ..Areas::default() };
             compare(&Call::Load, &mut areas, &mut random).refusal
         };
         for n in 0..image.len() {

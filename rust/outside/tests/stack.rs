@@ -1,6 +1,7 @@
 //! Each call at order 12 in a thread with a 256 KiB stack, and how much of it the call used.
 
 use outside::calls::{Areas, Call, by_archive};
+use outside::herd;
 use outside::random::Random;
 use outside::stack::{STACK, used_by};
 use reference::item::{Row, Slot};
@@ -34,7 +35,7 @@ fn areas(table: &Table) -> Areas {
         table: rows(table),
         work: vec![[0; 12]; capacity(ORDER)],
         result: vec![[0; 2]; capacity(ORDER)],
-        image: reference::image::bytes(table),
+        bytes: reference::image::bytes(table),
     }
 }
 
@@ -42,8 +43,8 @@ fn areas(table: &Table) -> Areas {
 fn measure(name: &str, call: Call, mut areas: Areas) -> usize {
     let mut refusal = u32::MAX;
     let used = used_by(|| {
-        let Areas { table, work, result, image } = &mut areas;
-        refusal = by_archive(&call, table, work, result, image).refusal;
+        let Areas { table, work, result, bytes } = &mut areas;
+        refusal = by_archive(&call, table, work, result, bytes).refusal;
     });
     assert_eq!(refusal, 0, "{name}");
     println!("{name}: {used} bytes of stack");
@@ -70,9 +71,14 @@ fn every_call_in_a_small_stack() {
             ("range", Call::Range { query, radius: u32::MAX }, &full),
             ("nearest", Call::Nearest { query, k: u32::MAX }, &full),
             ("write", Call::Write, &full),
+            ("read list", Call::ReadList, &one_short),
         ];
         for (name, call, table) in calls {
-            assert!(measure(&format!("{name}, metric {metric}"), call, areas(table)) < STACK);
+            let mut areas = areas(table);
+            if call == Call::ReadList {
+                areas.bytes = herd::of(&[herd::line(tag, query.measures)]);
+            }
+            assert!(measure(&format!("{name}, metric {metric}"), call, areas) < STACK);
         }
     }
 }

@@ -1,6 +1,7 @@
 //! The small herds that the rules work out line by line.
 
 use outside::calls::{Areas, Call, Reply, compare};
+use outside::herd;
 use outside::random::{MAX_NATIONAL, MIN_TAG, Random};
 use reference::item::{Profile, Slot};
 use reference::table::{Table, capacity, put_bucket, table_rows};
@@ -29,7 +30,7 @@ impl Yard {
             table: vec![[1; 12]; table_rows(order)],
             work: vec![[1; 12]; capacity(order)],
             result: vec![[1; 2]; capacity(order)],
-            image: vec![],
+            bytes: vec![],
         };
         let mut yard = Yard { areas, random: Random::new(1) };
         assert_eq!(yard.call(Call::Fresh { order, metric: 0 }).refusal, 0);
@@ -150,11 +151,32 @@ fn nationals_of_38_bits() {
             assert_eq!(yard.areas.result[0], [tag, 0]);
             assert_eq!(yard.call(Call::Remove { tag }).refusal, refusal);
             put_bucket(&mut yard.areas.table, 0, 0, 1, &layout(0, &[slot]));
-            yard.areas.image = vec![0; 56];
+            yard.areas.bytes = vec![0; 56];
             assert_eq!(yard.call(Call::Write).refusal, 0);
             assert_eq!(yard.call(Call::Load).refusal, in_image);
         }
     }
+}
+
+// The four as a list: their reports add up to 0 + 1 + 0 + 4. The fifth finds the table full, and no line after it is read.
+#[test]
+fn the_four_as_a_list() {
+    let list = |values: &[(u64, i32)]| {
+        let lines: Vec<String> = values.iter().map(|&(n, value)| herd::line(tag(n), [value, 0, 0, 0])).collect();
+        herd::of(&lines)
+    };
+    let mut yard = Yard::new(2);
+    yard.areas.bytes = list(&[(1, 10), (2, 13), (3, 13), (4, 20), (5, 11), (4, 20)]);
+    let reply = yard.call(Call::ReadList);
+    assert_eq!((reply.refusal, reply.line, reply.added, reply.distances), (22, 6, 4, 5));
+    assert_eq!((yard.bucket(2), yard.thresholds(2)), (vec![1, 2, 3, 4], vec![3, 0, 0, 0]));
+    assert_eq!(yard.areas.work, [[0; 12]; 4]);
+    assert_eq!(yard.range(13, 0), (vec![(2, 0), (3, 0)], 4));
+
+    assert_eq!(yard.remove(4), 0);
+    yard.areas.bytes = list(&[(4, -5)]);
+    assert_eq!(yard.call(Call::ReadList).added, 1);
+    assert_eq!(yard.call(Call::LookUp { tag: tag(4) }).profile, valued(-5));
 }
 
 // Metric 2: from all zeros the differences are 3, 5, 7 and 1, and from the other query 7, 0, 7 and 1.

@@ -3,6 +3,7 @@
 
 use crate::image;
 use crate::item::{MAX_METRIC, MAX_ORDER, Profile, check_measures, check_tag, distance};
+use crate::list::{self, ListRead};
 use crate::refusal::{ABSENT, COUNT, FULL, LIVE, METRIC, ORDER, ROOM, Refused, SHORT, ensure};
 use crate::table::{Bucket, capacity, table_rows};
 use crate::tree::Hit;
@@ -58,6 +59,11 @@ impl Book {
         ensure(self.items.len() < capacity(self.order), FULL)?;
         self.items.push((tag, profile));
         Ok(())
+    }
+
+    /// Puts the items of a herd list in, as far as its lines are accepted. It knows of no distances.
+    pub fn read_list(&mut self, rows: usize, work: usize, bytes: &[u8]) -> ListRead {
+        list::read(bytes, |tag, profile| self.add(rows, work, tag, profile).map(|()| 0))
     }
 
     /// Strikes the item out.

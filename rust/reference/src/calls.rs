@@ -1,7 +1,8 @@
-//! The eight calls, on lent areas.
+//! The nine calls, on lent areas.
 
 use crate::image;
 use crate::item::{Entry, MAX_METRIC, MAX_ORDER, Profile, Row, Slot, check_measures, check_tag};
+use crate::list::{self, ListRead};
 use crate::refusal::{ABSENT, COUNT, FULL, LIVE, METRIC, ORDER, ROOM, Refused, SHORT, ensure};
 use crate::table::{Bucket, Table, capacity, first_row, put_bucket, put_sizes, put_table, table_rows};
 use crate::tree::{Search, Wanted, cost, layout};
@@ -43,6 +44,11 @@ pub fn add(rows: &mut [Row], work: &mut [Row], tag: u64, profile: Profile) -> Re
     let distances = rebuild(rows, &table, &items, target, 0..k);
     work[..capacity(table.order)].fill([0; 12]);
     Ok((target as u32, distances))
+}
+
+/// Adds the lines of a herd list, as far as they are accepted.
+pub fn read_list(rows: &mut [Row], work: &mut [Row], bytes: &[u8]) -> ListRead {
+    list::read(bytes, |tag, profile| add(rows, work, tag, profile).map(|(_, distances)| distances))
 }
 
 /// Removes an item, and gives the distances of the build.

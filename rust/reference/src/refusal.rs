@@ -26,6 +26,10 @@ pub const FULL: u32 = 22;
 pub const SHORT: u32 = 23;
 /// Sizes, order, metric or marks break the rules.
 pub const TABLE: u32 = 24;
+/// A herd list's header differs or lacks its line feed.
+pub const LIST_HEADER: u32 = 30;
+/// A line of a herd list is not of the form.
+pub const LIST_LINE: u32 = 31;
 
 /// A refusal is an error by its number.
 pub type Refused = u32;

@@ -1,8 +1,8 @@
-//! Adds a small herd, asks both questions, removes one, and saves and loads an image.
+//! Adds a small herd, asks both questions, removes one, saves and loads an image, and reads a list of two more.
 //!
 //! It writes what `c/herd.c` writes; `c/herd.expected` has it.
 
-use vpindex::{Hits, Metric, Order, Profile, Refusal, Table, Tag};
+use vpindex::{Hits, ListRefusal, Metric, Order, Profile, Refusal, Table, Tag};
 
 // national number; weight, hip height, girth and daily gain, in hundredths
 const HERD: [(u64, [i32; 4]); 6] = [
@@ -13,6 +13,11 @@ const HERD: [(u64, [i32; 4]); 6] = [
     (105, [56_100, 13_750, 20_900, 118]),
     (106, [28_300, 11_400, 15_600, 88]),
 ];
+
+// the second is in the table already
+const LIST: &str = "tag;kg;hip;girth;gain\n\
+                    036000000000107;402,50;128,00;183,00;-0,35\n\
+                    036000000000101;412,50;129,00;185,00;0,95\n";
 
 fn main() -> Result<(), Refusal> {
     let mut table = Table::new(Order::holding(HERD.len())?, Metric::SumOfDifferences);
@@ -35,6 +40,14 @@ fn main() -> Result<(), Refusal> {
     let mut loaded = Table::load(&image)?;
     println!("image: {} bytes", image.len());
     print("nearest 3, loaded", loaded.nearest(&query, 3)?);
+
+    match loaded.read_list(LIST.as_bytes()) {
+        Ok(read) => println!("list: {} added, {} distances", read.added, read.distances),
+        Err(ListRefusal { line, refusal, added, distances }) => {
+            println!("list: {added} added, {distances} distances; line {line}: refusal {}", refusal.number());
+        }
+    }
+    print("nearest 3, with the list", loaded.nearest(&query, 3)?);
     Ok(())
 }
 

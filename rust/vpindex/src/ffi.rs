@@ -49,6 +49,15 @@ pub struct Written {
     pub length: u32,
 }
 
+#[repr(C)]
+#[derive(Clone, Copy, Debug, PartialEq, Eq)]
+pub struct ListRead {
+    pub refusal: u32,
+    pub line: u32,
+    pub added: u32,
+    pub distances: u32,
+}
+
 mod raw {
     use super::*;
 
@@ -88,6 +97,14 @@ mod raw {
             k: u32,
         ) -> Searched;
         pub fn vpindex_write(table: *const Row, table_rows: usize, image: *mut u8, image_bytes: usize) -> Written;
+        pub fn vpindex_read_list(
+            table: *mut Row,
+            table_rows: usize,
+            work: *mut Row,
+            work_rows: usize,
+            list: *const u8,
+            list_bytes: usize,
+        ) -> ListRead;
     }
 }
 
@@ -124,4 +141,9 @@ pub fn nearest(table: &[Row], result: &mut [Entry], query: Profile, k: u32) -> S
 
 pub fn write(table: &[Row], image: &mut [u8]) -> Written {
     unsafe { raw::vpindex_write(table.as_ptr(), table.len(), image.as_mut_ptr(), image.len()) }
+}
+
+pub fn read_list(table: &mut [Row], work: &mut [Row], list: &[u8]) -> ListRead {
+    let (rows, working) = (table.len(), work.len());
+    unsafe { raw::vpindex_read_list(table.as_mut_ptr(), rows, work.as_mut_ptr(), working, list.as_ptr(), list.len()) }
 }

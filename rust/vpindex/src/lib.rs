@@ -22,11 +22,13 @@
 #[doc(hidden)]
 pub mod ffi;
 mod hits;
+mod list;
 mod refusal;
 mod table;
 mod values;
 
 pub use hits::{Hit, Hits};
+pub use list::{ListRead, ListRefusal};
 pub use refusal::Refusal;
 pub use table::{Added, LookedUp, Table};
 pub use values::{Metric, Order, Profile, Tag};

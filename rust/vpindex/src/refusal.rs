@@ -3,7 +3,7 @@
 use std::error::Error;
 use std::fmt;
 
-/// Why a call was refused. A refused call changes nothing.
+/// Why a call was refused. A refused call changes nothing; of a herd list, the lines before the one refused stay added.
 #[derive(Clone, Copy, Debug, PartialEq, Eq, Hash)]
 #[non_exhaustive]
 #[repr(u32)]
@@ -34,12 +34,16 @@ pub enum Refusal {
     ShortArea = 23,
     /// The sizes of the image, or of a table, break the rules.
     BadTable = 24,
+    /// The list's first line is not `tag;kg;hip;girth;gain` and a line feed.
+    BadListHeader = 30,
+    /// A line of a list is not of the form.
+    BadListLine = 31,
 }
 
 use Refusal::*;
 
 impl Refusal {
-    const ALL: [Refusal; 13] = [
+    const ALL: [Refusal; 15] = [
         BadTag,
         BadMeasure,
         BadOrder,
@@ -53,6 +57,8 @@ impl Refusal {
         Full,
         ShortArea,
         BadTable,
+        BadListHeader,
+        BadListLine,
     ];
 
     /// The number by which the archive's calls say it.
@@ -84,6 +90,11 @@ impl Refusal {
             Full => "the table holds as many items as its order allows",
             ShortArea => "a lent area is shorter than the order needs",
             BadTable => "the sizes of the image or of the table break the rules",
+            BadListHeader => "the header is not `tag;kg;hip;girth;gain` and a line feed",
+            BadListLine => {
+                "not of the form: a tag of 15 digits, then four values, each after one semicolon (a minus or none, 1 to 5 \
+                 digits, a comma, 2 digits), and a line feed"
+            }
         }
     }
 }

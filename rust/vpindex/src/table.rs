@@ -1,5 +1,6 @@
 //! The table, with the areas that its calls are lent.
 
+use crate::list::{self, ListRead, ListRefusal};
 use crate::{Hits, Metric, Order, Profile, Refusal, Tag, ffi};
 
 /// What an add did.
@@ -66,6 +67,32 @@ impl Table {
         let reply = ffi::add(&mut self.rows, &mut self.work, tag.into(), profile.raw());
         Refusal::check(reply.refusal)?;
         Ok(Added { bucket: reply.bucket, distances: reply.distances })
+    }
+
+    /// Adds a herd list as a scale head writes it: the header line, then a line for each item with its tag and its four
+    /// measures in units, not hundredths. The codes are zero. Every line ends in a line feed, the last one too.
+    ///
+    /// ```
+    /// use vpindex::{Metric, Order, Refusal, Table, Tag};
+    ///
+    /// let mut table = Table::new(Order::new(4)?, Metric::SumOfDifferences);
+    /// let list = "tag;kg;hip;girth;gain\n\
+    ///             036000000000101;412,50;129,00;185,00;0,95\n\
+    ///             036000000000102;398,00;127,00;181,00;-0,05\n";
+    /// assert_eq!(table.read_list(list.as_bytes())?.added, 2);
+    /// assert_eq!(table.look_up(Tag::new(36, 102)?)?.profile.measures(), [39_800, 12_700, 18_100, -5]);
+    ///
+    /// let again = table.read_list(list.as_bytes()).unwrap_err();
+    /// assert_eq!((again.line, again.refusal), (2, Refusal::AlreadyLive));
+    /// assert_eq!(again.to_string(), "line 2: the tag is in the table already (0 added before it)");
+    /// # Ok::<(), Box<dyn std::error::Error>>(())
+    /// ```
+    ///
+    /// The reading stops at the first line that is refused, and the lines before it stay added.
+    /// [`Refusal::BadListHeader`] if the list begins with another line, [`Refusal::BadListLine`] for a line not of the
+    /// form; else a line is refused as [`Table::add`] or the making of its tag and profile would be.
+    pub fn read_list(&mut self, list: &[u8]) -> Result<ListRead, ListRefusal> {
+        list::check(ffi::read_list(&mut self.rows, &mut self.work, list))
     }
 
     /// Removes an item, and gives the number of distances that were worked out. [`Refusal::NotLive`] if it is not there.

@@ -1,6 +1,6 @@
 //! What a Rust caller meets: values that are checked when they are made, and refusals.
 
-use vpindex::{Metric, Order, Profile, Refusal, Table, Tag};
+use vpindex::{ListRead, ListRefusal, Metric, Order, Profile, Refusal, Table, Tag};
 
 #[test]
 fn tags() {
@@ -80,8 +80,66 @@ fn images_refused() {
     assert_eq!(refused(&|image| image[4] = 1), Some(Refusal::BadTable));
 }
 
+fn read(table: &mut Table, list: &str) -> Result<u32, String> {
+    table.read_list(list.as_bytes()).map(|read| read.added).map_err(|refused| refused.to_string())
+}
+
+#[test]
+fn a_list_is_read() {
+    let mut table = Table::new(Order::new(2).expect("valid"), Metric::SumOfDifferences);
+    assert_eq!(read(&mut table, "tag;kg;hip;girth;gain\n"), Ok(0));
+    let list = "tag;kg;hip;girth;gain\n036000000000001;0,10;0,00;0,00;0,00\n036000000000002;0,13;-0,07;1,00;10000,00\n";
+    assert_eq!(table.read_list(list.as_bytes()), Ok(ListRead { added: 2, distances: 1 }));
+    let second = table.look_up(Tag::new(36, 2).expect("valid")).expect("live").profile;
+    assert_eq!((second.measures(), second.code()), ([13, -7, 100, 1_000_000], [0, 0]));
+}
+
+#[test]
+fn a_list_stops_at_a_line() {
+    let order = Order::new(2).expect("valid");
+    let first = "tag;kg;hip;girth;gain\n036000000000001;0,10;0,00;0,00;0,00\n036000000000002;0,13;0,00;0,00;0,00\n";
+    let after = |line: &str| {
+        let mut table = Table::new(order, Metric::SumOfDifferences);
+        let refused = table.read_list((first.to_string() + line).as_bytes()).expect_err("the line is refused");
+        assert_eq!((refused.added, refused.distances, table.len()), (2, 1, 2));
+        (refused.line, refused.refusal)
+    };
+    assert_eq!(after("036000000000003;0,1;0,00;0,00;0,00\n"), (4, Refusal::BadListLine));
+    assert_eq!(after("036000000000003;0,10;0,00;0,00;0,00"), (4, Refusal::BadListLine));
+    assert_eq!(after("000000000000003;0,10;0,00;0,00;0,00\n"), (4, Refusal::BadTag));
+    assert_eq!(after("036000000000003;0,10;99999,99;0,00;0,00\n"), (4, Refusal::BadMeasure));
+    assert_eq!(after("036000000000001;0,10;0,00;0,00;0,00\n"), (4, Refusal::AlreadyLive));
+
+    let one = "036000000000001;0,10;0,00;0,00;0,00\n";
+    let mut table = Table::new(Order::MIN, Metric::SumOfDifferences);
+    let whole = "tag;kg;hip;girth;gain\n".to_string() + one + "036000000000002;0,13;0,00;0,00;0,00\n";
+    let full = ListRefusal { line: 3, refusal: Refusal::Full, added: 1, distances: 0 };
+    assert_eq!(table.read_list(whole.as_bytes()), Err(full));
+    assert_eq!(table.read_list(one.as_bytes()).map_err(|refused| refused.refusal), Err(Refusal::BadListHeader));
+    assert_eq!(table.len(), 1);
+}
+
+#[test]
+fn a_stop_is_told_in_words() {
+    let mut table = Table::new(Order::MIN, Metric::SumOfDifferences);
+    let mut said = |list: &str| read(&mut table, list).expect_err("it is refused");
+    assert_eq!(
+        said("tag;kg;hip;girth;gain\r\n"),
+        "line 1: the header is not `tag;kg;hip;girth;gain` and a line feed (0 added before it)"
+    );
+    assert_eq!(
+        said("tag;kg;hip;girth;gain\n\n"),
+        "line 2: not of the form: a tag of 15 digits, then four values, each after one semicolon (a minus or none, 1 to 5 \
+         digits, a comma, 2 digits), and a line feed (0 added before it)"
+    );
+    assert_eq!(
+        said("tag;kg;hip;girth;gain\n036000000000001;0,10;0,00;0,00;0,00\n036000000000001;0,10;0,00;0,00;0,00\n"),
+        "line 3: the tag is in the table already (1 added before it)"
+    );
+}
+
 #[test]
 fn a_refusal_says_what_was_wrong() {
     assert_eq!(Refusal::Full.to_string(), "the table holds as many items as its order allows");
-    assert_eq!((Refusal::BadTag.number(), Refusal::BadTable.number()), (1, 24));
+    assert_eq!((Refusal::BadTag.number(), Refusal::BadTable.number(), Refusal::BadListLine.number()), (1, 24, 31));
 }

@@ -3,7 +3,7 @@ use Prim.Native.Nat.{_+_, _-_, _≤_}
 use mathlib.Core.Path.{_≡_}
 use native.Mathlib.Omega.{arith}
 use lib.ListN.{length, take, drop}
-use Rattle.yard_rules.proofs.Parts.{Free}
+use Rattle.text_rules.proofs.Parts.{Free}
 use Rattle.yard_fields.proofs.Finding.{free-more, ends-at-separator, ends-at-end}
 use Rattle.yard_fields.proofs.part_end.Statement.{statement}
 use Rattle.yard_fields.proofs.part_end.Tie as tie

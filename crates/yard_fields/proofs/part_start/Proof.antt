@@ -3,7 +3,7 @@ use Prim.Native.Nat.{_+_, _-_, _≤_}
 use mathlib.Core.Path.{_≡_, sym}
 use native.Mathlib.Omega.{arith}
 use lib.ListN.{length, drop}
-use Rattle.yard_rules.specs.Text.{parted}
+use Rattle.text_rules.specs.Text.{parted}
 use Rattle.yard_fields.specs.Found.{partsFrom}
 use Rattle.yard_fields.proofs.Finding.{parts-within, next-part, no-part}
 use Rattle.yard_fields.proofs.part_start.Statement.{statement}

@@ -4,7 +4,7 @@ use mathlib.Core.Path.{_≡_}
 use mathlib.Core.Logic.{⊎-elim}
 use native.Mathlib.Omega.{arith}
 use lib.ListN.{length, drop}
-use Rattle.yard_rules.specs.Text.{parted, partsIn}
+use Rattle.text_rules.specs.Text.{parted, partsIn}
 use Rattle.yard_fields.proofs.Finding.{count-separator, count-byte, count-end}
 use Rattle.yard_fields.proofs.parts.Statement.{statement}
 use Rattle.yard_fields.proofs.parts.Tie as tie

@@ -1,8 +1,9 @@
 -- `yard_line::command` meets its contract.
 use mathlib.Core.Path.{refl, sym, ap, ap₂, _∙_}
 use borrow.Author.Tests.{eq-eqb, ne-eqb, not-true, not-false}
-use Rattle.yard_rules.specs.Text.{space, point, numeral, partsIn}
-use Rattle.yard_rules.specs.Line.{isTag, isNumber, isMeasure, letterA, letterN, letterR, letterW}
+use Rattle.text_rules.specs.Text.{space, point, numeral, partsIn}
+use Rattle.text_rules.specs.Fields.{isTag, isMeasure}
+use Rattle.yard_rules.specs.Line.{isNumber, letterA, letterN, letterR, letterW}
 use Rattle.yard_rules.specs.declared.Command.{Command}
 use Rattle.yard_line.proofs.Lines.{opens-form, command-by}
 use borrow.Author.Needs.{needs}

@@ -1,8 +1,9 @@
 -- `yard_line::measure` meets its contract.
 use mathlib.Core.Path.{refl, sym, ap, ap₂, _∙_}
 use native.Mathlib.Omega.{arith}
-use Rattle.yard_rules.specs.Text.{space, point, numeral, partsIn}
-use Rattle.yard_rules.specs.Line.{isTag, isNumber, isMeasure, measureIn, onlyByte}
+use Rattle.text_rules.specs.Text.{space, point, numeral, partsIn}
+use Rattle.text_rules.specs.Fields.{isTag, isMeasure, measureIn}
+use Rattle.yard_rules.specs.Line.{isNumber, onlyByte}
 use Rattle.yard_line.proofs.Lines.{field-shorter}
 use lib.ListN.{length}
 use mir.Syntax.{w32}

@@ -1,7 +1,7 @@
 -- `yard_numerals::digit` meets its contract: a digit lies in one of the two ranges.
 use native.Mathlib.Omega.{arith}
 use mathlib.Core.Path.{sym}
-use Rattle.yard_numerals.proofs.Digits.{low-value, high-value, digit-below, digit-from, letter-from}
+use Rattle.text_rules.proofs.Digits.{low-value, high-value, digit-below, digit-from, letter-from}
 use Rattle.yard_numerals.proofs.digit.Statement.{statement}
 use Rattle.yard_numerals.proofs.digit.Tie as tie
 

@@ -2,7 +2,7 @@
 use native.Mathlib.Omega.{arith}
 use mathlib.Core.Path.{sym}
 use borrow.Author.Needs.{needs}
-use Rattle.yard_numerals.proofs.Digits.{low-digit, high-digit, below-digits, between-digits, above-digits}
+use Rattle.text_rules.proofs.Digits.{low-digit, high-digit, below-digits, between-digits, above-digits}
 use Rattle.yard_numerals.proofs.is_digit.Statement.{statement}
 use Rattle.yard_numerals.proofs.is_digit.Tie as tie
 

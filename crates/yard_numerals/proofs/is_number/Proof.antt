@@ -5,9 +5,9 @@ use mathlib.Core.Path.{sym, ap, _∙_}
 use mathlib.Core.Bool.{_&&_}
 use lib.Dec.{ltb}
 use borrow.Author.Needs.{needs}
-use Rattle.yard_rules.specs.Text.{numeral}
+use Rattle.text_rules.specs.Text.{numeral}
 use Rattle.yard_rules.specs.Line.{isNumber}
-use Rattle.yard_numerals.proofs.Digits.{numeral-digits, numeral-longest}
+use Rattle.text_rules.proofs.Digits.{numeral-digits, numeral-longest}
 use Rattle.yard_numerals.proofs.is_number.Statement.{statement}
 use Rattle.yard_numerals.proofs.is_number.Tie as tie
 

@@ -9,8 +9,8 @@ use borrow.Author.Needs.{needs}
 use borrow.Author.Tests.{le-leb, lt-leb, not-true, not-false}
 use Rattle.metric_rules.specs.Lists.{every}
 use Rattle.tree_rules.proofs.Tests.{scan-fails, scan-passes, scan-ends}
-use Rattle.yard_rules.specs.Text.{isDigit, isNumeral}
-use Rattle.yard_numerals.proofs.Digits.{too-short, too-long, length-passes}
+use Rattle.text_rules.specs.Text.{isDigit, isNumeral}
+use Rattle.text_rules.proofs.Digits.{too-short, too-long, length-passes}
 use Rattle.yard_numerals.proofs.is_numeral.Statement.{statement}
 use Rattle.yard_numerals.proofs.is_numeral.Tie as tie
 

@@ -7,9 +7,9 @@ use lib.Dec.{ltb}
 use borrow.Author.Needs.{needs}
 use borrow.Author.Tests.{ltb-true}
 use Rattle.tree_rules.proofs.Tests.{and-first, and-second}
-use Rattle.yard_rules.specs.Text.{isNumeral, numeral}
+use Rattle.text_rules.specs.Text.{isNumeral, numeral}
 use Rattle.yard_rules.specs.Line.{isNumber}
-use Rattle.yard_numerals.proofs.Digits.{numeral-digits, numeral-longest}
+use Rattle.text_rules.proofs.Digits.{numeral-digits, numeral-longest}
 use Rattle.yard_numerals.proofs.number.Statement.{statement}
 use Rattle.yard_numerals.proofs.number.Tie as tie
 

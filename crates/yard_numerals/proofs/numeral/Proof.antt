@@ -4,8 +4,8 @@ use native.Mathlib.Omega.{arith}
 use mathlib.Core.Path.{_≡_, refl, sym, ap, _∙_}
 use lib.ListN.{length, drop}
 use borrow.Author.Needs.{needs}
-use Rattle.yard_rules.specs.Text.{isDigit, numeralAfter, numeral}
-use Rattle.yard_numerals.proofs.Digits.{digit-fits, product-fits, sixteen-fit, numeral-step, numeral-ends, every-in}
+use Rattle.text_rules.specs.Text.{isDigit, numeralAfter, numeral}
+use Rattle.text_rules.proofs.Digits.{digit-fits, product-fits, sixteen-fit, numeral-step, numeral-ends, every-in}
 use Rattle.yard_numerals.proofs.numeral.Statement.{statement}
 use Rattle.yard_numerals.proofs.numeral.Tie as tie
 

@@ -1,7 +1,7 @@
 -- `yard_numerals::tag` meets its contract: fifteen digits fit.
 use native.Mathlib.Omega.{arith}
 use borrow.Author.Needs.{needs}
-use Rattle.yard_numerals.proofs.Digits.{numeral-digits, numeral-longest}
+use Rattle.text_rules.proofs.Digits.{numeral-digits, numeral-longest}
 use Rattle.yard_numerals.proofs.tag.Statement.{statement}
 use Rattle.yard_numerals.proofs.tag.Tie as tie
 

@@ -4,8 +4,8 @@ use mathlib.Core.List.{[], _∷_}
 use native.Mathlib.Omega.{arith}
 use lib.ListN.{length-take, length-drop}
 use lib.Seq.{length-take-le}
-use Rattle.yard_rules.specs.Text.{isDigit, numeral}
-use Rattle.yard_numerals.proofs.Digits.{numeral-digits, numeral-longest, numeral-shortest}
+use Rattle.text_rules.specs.Text.{isDigit, numeral}
+use Rattle.text_rules.proofs.Digits.{numeral-digits, numeral-longest, numeral-shortest}
 use Rattle.yard_parse.proofs.Forms.{digits-code, dash-words, digit-words, every-take, every-drop, rest-whole}
 use borrow.Author.Needs.{needs}
 use Rattle.yard_parse.proofs.code.Statement.{statement}

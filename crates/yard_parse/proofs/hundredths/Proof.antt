@@ -2,9 +2,9 @@
 use Prim.Native.Nat.{_+_, _*_, _^_, _<_}
 use mathlib.Core.Path.{ap, ap₂, _∙_}
 use native.Mathlib.Omega.{arith}
-use Rattle.yard_rules.specs.Text.{isNumeral, numeral}
-use Rattle.yard_rules.specs.Line.{hundredths}
-use Rattle.yard_numerals.proofs.Digits.{numeral-digits, numeral-longest}
+use Rattle.text_rules.specs.Text.{isNumeral, numeral}
+use Rattle.text_rules.specs.Fields.{hundredths}
+use Rattle.text_rules.proofs.Digits.{numeral-digits, numeral-longest}
 use Rattle.yard_parse.proofs.Forms.{few-digits}
 use borrow.Author.Needs.{needs}
 use Rattle.yard_parse.proofs.hundredths.Statement.{statement}

@@ -1,5 +1,5 @@
 use borrow.Author.Tests.{not-true, not-false}
-use Rattle.yard_rules.specs.Text.{partAt, partsIn, isNumeral}
+use Rattle.text_rules.specs.Text.{partAt, partsIn, isNumeral}
 -- `yard_parse::is_measure` meets its contract, test by test.
 use mathlib.Core.Path.{sym, ap, _∙_}
 use native.Mathlib.Omega.{arith}

@@ -1,6 +1,6 @@
 -- `yard_parse::is_negative` meets its contract.
 use mathlib.Core.Path.{refl}
-use Rattle.yard_rules.specs.Line.{isNegative}
+use Rattle.text_rules.specs.Fields.{isNegative}
 use Rattle.yard_parse.proofs.Forms.{none-plain}
 use borrow.Author.Needs.{needs}
 use Rattle.yard_parse.proofs.is_negative.Statement.{statement}

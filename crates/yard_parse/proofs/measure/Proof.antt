@@ -4,8 +4,9 @@ use mathlib.Core.Path.{sym, ap, _∙_}
 use native.Mathlib.Omega.{arith}
 use mir.Syntax.{w32}
 use mir.Facts.{toZ-ofZ, toZ-pos}
-use Rattle.yard_rules.specs.Line.{hundredths}
-use Rattle.yard_parse.proofs.Forms.{unsigned-shorter, measure-whole, measure-rest, negated, negated-fits, measure-minus, measure-plain}
+use Rattle.text_rules.specs.Fields.{hundredths}
+use Rattle.text_rules.proofs.Signs.{measure-minus, measure-plain, negated, negated-fits}
+use Rattle.yard_parse.proofs.Forms.{unsigned-shorter, measure-whole, measure-rest}
 use borrow.Author.Needs.{needs}
 use Rattle.yard_parse.proofs.measure.Statement.{statement}
 use Rattle.yard_parse.proofs.measure.Tie as tie

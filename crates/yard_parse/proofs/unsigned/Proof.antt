@@ -1,6 +1,7 @@
 -- `yard_parse::unsigned` meets its contract.
 use mathlib.Core.Path.{sym, _∙_}
-use Rattle.yard_parse.proofs.Forms.{minus-some, unsigned-minus, unsigned-plain, rest-whole}
+use Rattle.text_rules.proofs.Signs.{unsigned-minus, unsigned-plain}
+use Rattle.yard_parse.proofs.Forms.{minus-some, rest-whole}
 use borrow.Author.Needs.{needs}
 use Rattle.yard_parse.proofs.unsigned.Statement.{statement}
 use Rattle.yard_parse.proofs.unsigned.Tie as tie

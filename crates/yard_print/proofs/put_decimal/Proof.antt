@@ -3,7 +3,7 @@ use Prim.Native.Nat.{_+_}
 use native.Mathlib.Omega.{arith}
 use mathlib.Core.Path.{sym, ap, _∙_}
 use lib.Seq.{sets}
-use Rattle.yard_rules.specs.Text.{digits, decimal}
+use Rattle.text_rules.specs.Text.{digits, decimal}
 use Rattle.yard_print.proofs.Widths.{length-decimal}
 use borrow.Author.Needs.{needs}
 use Rattle.yard_print.proofs.put_decimal.Statement.{statement}

@@ -6,7 +6,7 @@ use mathlib.Core.Path.{_≡_, refl, sym, ap, _∙_}
 use lib.ListN.{length, length-set}
 use lib.Seq.{sets}
 use borrow.Author.Needs.{needs}
-use Rattle.yard_rules.specs.Text.{digits}
+use Rattle.text_rules.specs.Text.{digits}
 use Rattle.yard_print.proofs.Runs.{digit-first}
 use Rattle.yard_print.proofs.put_digits.Statement.{statement}
 use Rattle.yard_print.proofs.put_digits.Tie as tie

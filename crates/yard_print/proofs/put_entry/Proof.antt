@@ -4,7 +4,7 @@ use native.Mathlib.Omega.{arith}
 use mathlib.Core.Path.{_≡_, refl, sym, ap, _∙_}
 use lib.ListN.{length, set, getD, length-set}
 use lib.Seq.{sets, length-sets}
-use Rattle.yard_rules.specs.Text.{space, lineFeed, digits, decimal}
+use Rattle.text_rules.specs.Text.{space, lineFeed, digits, decimal}
 use Rattle.yard_rules.specs.Reply.{entryText}
 use Rattle.yard_print.proofs.Runs.{entry-put, entry-long}
 use borrow.Author.Needs.{needs}

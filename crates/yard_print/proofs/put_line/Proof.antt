@@ -6,7 +6,7 @@ use mathlib.Core.List.{List, [], _∷_, _++_}
 use lib.ListN.{length, take, set, length-set, length-append}
 use lib.Seq.{sets, length-sets, take-all}
 use borrow.Author.Needs.{needs}
-use Rattle.yard_rules.specs.Text.{space, lineFeed, decimal}
+use Rattle.text_rules.specs.Text.{space, lineFeed, decimal}
 use Rattle.yard_rules.specs.Reply.{spaced, replyLine}
 use Rattle.yard_print.proofs.Runs.{number-put, number-long, line-put, line-long}
 use Rattle.yard_print.proofs.put_line.Statement.{statement}

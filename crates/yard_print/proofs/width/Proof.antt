@@ -4,7 +4,7 @@ use native.Mathlib.Omega.{arith}
 use native.Mathlib.Nat.{div-add-mod}
 use mathlib.Core.Path.{_≡_}
 use borrow.Author.Needs.{needs}
-use Rattle.yard_rules.specs.Text.{width}
+use Rattle.text_rules.specs.Text.{width}
 use Rattle.yard_print.proofs.Widths.{width-one, width-more, width-some, width-twenty}
 use Rattle.yard_print.proofs.width.Statement.{statement}
 use Rattle.yard_print.proofs.width.Tie as tie

@@ -9,9 +9,9 @@ use native.Mathlib.Nat.{pow-succ', pow-le-pow-right, mul-le-mul-right}
 use lib.Dec.{leb, ltb}
 use lib.ListN.{length, getD, drop, drop-of-length-le}
 use lib.Seq.{drop-cons}
-use borrow.Author.Tests.{lt-ltb, le-ltb, le-leb, lt-leb, ltb-true, leb-true, leb-false}
+use borrow.Author.Tests.{lt-ltb, le-ltb, le-leb, lt-leb, ltb-true, ltb-false, leb-true, leb-false}
 use Rattle.tree_rules.proofs.Tests.{and-first, and-second}
-use Rattle.yard_rules.specs.Text.{digitOf, isDigit, isNumeral, numeralAfter, numeral}
+use Rattle.text_rules.specs.Text.{digitOf, isDigit, isNumeral, numeralAfter}
 use Rattle.metric_rules.specs.Lists.{every}
 
 pub low-value : (b : ℕ) → b < 58 → digitOf b ≡ b - 48
@@ -64,6 +64,26 @@ module _ (base b : ℕ) where
       by : (t : Bool) → leb 97 b ≡ t → 97 ≤ b
       by true f = leb-true 97 b f
       by false f = absurd (false≢true (between-digits h (leb-false 97 b f) ∙ e))
+
+-- the decimal digits are one range of bytes
+pub decimal-digit : (b : ℕ) → 48 ≤ b → b < 58 → isDigit 10 b ≡ true
+decimal-digit b h k = low-digit 10 b h k ∙ lt-ltb (b - 48) 10 (omega arith)
+
+pub decimal-below : (b : ℕ) → isDigit 10 b ≡ true → b < 58
+decimal-below b e = by (ltb b 58) refl
+  where
+    by : (t : Bool) → ltb b 58 ≡ t → b < 58
+    by true f = ltb-true b 58 f
+    by false f =
+        let from = ltb-false b 58 f in
+        absurd (omega (arith, digit-below 10 b e, high-value b from, letter-from 10 b e from))
+
+pub above-decimal : (b : ℕ) → 58 ≤ b → isDigit 10 b ≡ false
+above-decimal b h = by (isDigit 10 b) refl
+  where
+    by : (t : Bool) → isDigit 10 b ≡ t → t ≡ false
+    by true f = absurd (omega (arith, decimal-below b f))
+    by false f = refl
 
 -- one digit more of at most sixteen
 pub digit-fits : (base n d i : ℕ) → base ≤ 16 → d < base → n < 16 ^ i → base * n + d < 16 ^ (i + 1)

@@ -9,7 +9,7 @@ use lib.Dec.{leb, ltb, eqb}
 use lib.ListN.{length, length-append}
 use borrow.Author.Tests.{lt-ltb, le-ltb, le-leb, ltb-true, ltb-false, ne-eqb}
 use Rattle.metric_rules.specs.Lists.{every}
-use Rattle.yard_rules.specs.Text.{digitOf, isDigit, numeralAfter, numeral, digits, widthWithin, width, decimal}
+use Rattle.text_rules.specs.Text.{digitOf, isDigit, numeralAfter, numeral, digits, widthWithin, width, decimal}
 
 -- a digit more at the end
 pub numeral-more : (base n : ℕ) (xs : List ℕ) (b : ℕ) → numeralAfter base n (xs ++ (b ∷ [])) ≡ base * numeralAfter base n xs + digitOf b

@@ -1,0 +1,5 @@
+pub mod InTurn
+pub mod Halfway
+pub mod Behind
+pub mod Forms
+pub mod Grammar

@@ -1,0 +1,65 @@
+-- Request W4: the reading of a herd list, "each line is an add". The reply and both areas, by the definitions of an add.
+use Prim.Native.Nat.{ℕ, zero, suc, _+_}
+use mathlib.Core.Bool.{true, false}
+use mathlib.Core.List.{List, [], _∷_}
+use Rattle.metric_rules.specs.Row.{Row}
+use Rattle.bucket_rules.specs.Table.{Table}
+use Rattle.bucket_rules.specs.Add.{addRefusal, addReply, tableAfterAdd, workAfterAdd}
+use Rattle.list_rules.specs.declared.ListRead.{ListRead}
+use Rattle.list_rules.specs.Lines.{ListLine, hasHeader, itemLines}
+use Rattle.list_rules.specs.Lines.ListLine.{anItem, malformed}
+
+-- "30 for a header that differs or lacks its line feed", "31 for a line not of the form"
+abbrev pub badListHeader : ℕ
+badListHeader = 30
+
+abbrev pub badListLine : ℕ
+badListLine = 31
+
+-- the reply and the areas after a reading
+pub record Reading : Type 0 where
+  pub reply : ListRead
+  pub table : Table
+  pub work : List Row
+
+-- "the reply has the refusal, the line number" (0 and 0 where no line was refused); nothing was added
+unfoldable pub stopped : ℕ → ℕ → Table → List Row → Reading
+stopped refusal line t work = record { reply = record { refusal = refusal; line = line; added = 0; distances = 0 }; table = t; work = work }
+
+-- an accepted line before what the later lines lead to: "the count added and the sum of those adds' distances"
+unfoldable pub oneMore : ℕ → Reading → Reading
+oneMore distances r =
+    record {
+      reply =
+          record {
+            refusal = r .reply .refusal;
+            line = r .reply .line;
+            added = suc (r .reply .added);
+            distances = distances + r .reply .distances;
+          };
+      table = r .table;
+      work = r .work;
+    }
+
+-- the lines from number n on: the form first, then the add's own refusals; "at the first line refused the reading stops; earlier lines remain added"
+unfoldable pub reading : Table → List Row → ℕ → List ListLine → Reading
+reading t work n [] = stopped 0 0 t work
+reading t work n (malformed ∷ lines) = stopped badListLine n t work
+reading t work n (anItem tag p ∷ lines) =
+    elim (addRefusal t work tag p) [
+      | suc r ↦ stopped (suc r) n t work
+      | zero ↦ oneMore (addReply t work tag p .distances) (reading (tableAfterAdd t work tag p) (workAfterAdd t work tag p) (suc n) lines)
+    ]
+
+-- the header is line 1, and 30 comes first of all; "where no line follows the header nothing more is checked and the reply is all zeros"
+unfoldable pub listReading : Table → List Row → List ℕ → Reading
+listReading t work list = elim (hasHeader list) [ false ↦ stopped badListHeader 1 t work | true ↦ reading t work 2 (itemLines list) ]
+
+unfoldable pub readListReply : Table → List Row → List ℕ → ListRead
+readListReply t work list = listReading t work list .reply
+
+unfoldable pub tableAfterReadList : Table → List Row → List ℕ → Table
+tableAfterReadList t work list = listReading t work list .table
+
+unfoldable pub workAfterReadList : Table → List Row → List ℕ → List Row
+workAfterReadList t work list = listReading t work list .work

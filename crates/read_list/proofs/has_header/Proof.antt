@@ -1,0 +1,30 @@
+-- `read_list::has_header` meets its contract: the bytes compared are the definition's.
+use mathlib.Core.Path.{sym}
+use native.Mathlib.Omega.{arith}
+use lib.ListN.{length-take}
+use borrow.Author.Needs.{needs}
+use Rattle.list_rules.specs.Lines.{listHeader, hasHeader}
+use Rattle.read_list.proofs.Header.{no-room}
+use Rattle.read_list.proofs.has_header.Statement.{statement}
+use Rattle.read_list.proofs.has_header.Tie as tie
+
+returns : tie.Need-returns
+returns c = sym (no-room _ (c .if1 .taken))
+
+slice-aggregate-same : tie.Need-slice-aggregate-same
+slice-aggregate-same c = simp length-take (omega arith)
+
+slice-aggregate-same-2 : tie.Need-slice-aggregate-same-2
+slice-aggregate-same-2 c = search needs
+
+same-requires : tie.Need-same-requires
+same-requires c κs = search needs
+
+returns-2 : tie.Need-returns-2
+unfolding hasHeader listHeader
+returns-2 c = c .same .ensures
+
+pub has-header-spec : {M : Type 1} → statement M
+has-header-spec =
+    tie.close
+    (tie.spec returns slice-aggregate-same slice-aggregate-same-2 same-requires returns-2)

@@ -1,0 +1,127 @@
+-- `read_list::read_lines` meets its contract: the list so far, line by line.
+use Prim.Native.Nat.{_-_}
+use mathlib.Core.Path.{sym, ap, _∙_}
+use native.Mathlib.Omega.{arith}
+use lib.ListN.{length}
+use borrow.Author.Tests.{not-true, not-false}
+use Rattle.list_line.proofs.Grammar.{item-here, broken-here}
+use Rattle.read_list.proofs.SoFar.{reply-refusal, SoFar, at-first, read-to-end, line-broken-here, add-refused, sums-fit, one-line-more}
+use Rattle.read_list.proofs.read_lines.Statement.{statement}
+use Rattle.read_list.proofs.read_lines.Tie as tie
+
+abbrev Inv-loop : tie.InvT-loop
+Inv-loop table₀ work₀ list at₀ added₀ distances₀ table work at added distances = SoFar table₀ work₀ list table work at added distances
+
+abbrev μ-loop : tie.MeasureT-loop
+μ-loop table₀ work₀ list at₀ added₀ distances₀ table work at added distances = length list - at
+
+loop-holds : tie.Need-loop-holds Inv-loop μ-loop
+loop-holds c = at-first _ _ _ (c .before .pre)
+
+add-number : tie.Need-add-number Inv-loop μ-loop
+add-number c = omega (arith, c .before .loop .inv .most)
+
+line-requires : tie.Need-line-requires Inv-loop μ-loop
+line-requires c κs = tt
+
+same-length : tie.Need-same-length Inv-loop μ-loop
+same-length c = c .before .before .before .before .loop .inv .table-long
+
+same-length-2 : tie.Need-same-length-2 Inv-loop μ-loop
+same-length-2 c = c .before .before .before .before .loop .inv .work-long
+
+returns : tie.Need-returns Inv-loop μ-loop
+returns c =
+    let l = c .before .before .before .before .loop in
+    let f = c .before .before .line in
+    line-broken-here (l .inv) (broken-here _ (l .at) (f .result) (f .ensures) (not-true _ (c .if1 .taken)) (c .before .before .before .loop-test .taken))
+
+add-requires : tie.Need-add-requires Inv-loop μ-loop
+add-requires c κs = tt
+
+same-length-3 : tie.Need-same-length-3 Inv-loop μ-loop
+same-length-3 c = c .before .before .before .before .add .kept .0 ∙ c .before .before .before .before .before .before .before .before .before .before .before .before .loop .inv .table-long
+
+same-length-4 : tie.Need-same-length-4 Inv-loop μ-loop
+same-length-4 c = c .before .before .before .before .add .kept .1 .0 ∙ c .before .before .before .before .before .before .before .before .before .before .before .before .loop .inv .work-long
+
+returns-2 : tie.Need-returns-2 Inv-loop μ-loop
+returns-2 c =
+    let l = c .before .before .before .before .before .before .before .before .before .before .before .before .loop in
+    let f = c .before .before .before .before .before .before .before .before .before .before .line in
+    let list = c .before .before .before .before .before .before .before .before .before .before .before .before .before .before .args .list .now in
+    let here = item-here list (l .at) (f .result) (f .ensures) (not-false _ (c .before .before .before .before .before .before .before .before .if1 .left)) in
+    let a = c .before .before .before .before .add in
+    let told = ap (λ r. r .refusal) (a .ensures .0) ∙ reply-refusal _ _ _ _ in
+    add-refused (l .inv) (f .result .next) (here .0) (a .result .refusal) told (c .if2 .taken) (a .ensures .1 .0) (a .ensures .1 .1)
+
+add-added : tie.Need-add-added Inv-loop μ-loop
+add-added c =
+    let l = c .before .before .before .before .before .before .before .before .before .before .before .before .loop in
+    let f = c .before .before .before .before .before .before .before .before .before .before .line in
+    let list = c .before .before .before .before .before .before .before .before .before .before .before .before .before .before .args .list .now in
+    let here = item-here list (l .at) (f .result) (f .ensures) (not-false _ (c .before .before .before .before .before .before .before .before .if1 .left)) in
+    let a = c .before .before .before .before .add in
+    let told = ap (λ r. r .refusal) (a .ensures .0) ∙ reply-refusal _ _ _ _ in
+    omega (arith, sums-fit (l .inv) (f .result .next) (here .0) (sym told ∙ c .if2 .left) (ap (λ r. r .distances) (a .ensures .0)))
+
+add-distances : tie.Need-add-distances Inv-loop μ-loop
+add-distances c =
+    let l = c .before .before .before .before .before .before .before .before .before .before .before .before .before .loop in
+    let f = c .before .before .before .before .before .before .before .before .before .before .before .line in
+    let list = c .before .before .before .before .before .before .before .before .before .before .before .before .before .before .before .args .list .now in
+    let here = item-here list (l .at) (f .result) (f .ensures) (not-false _ (c .before .before .before .before .before .before .before .before .before .if1 .left)) in
+    let a = c .before .before .before .before .before .add in
+    let told = ap (λ r. r .refusal) (a .ensures .0) ∙ reply-refusal _ _ _ _ in
+    omega (arith, l .inv .sum, sums-fit (l .inv) (f .result .next) (here .0) (sym told ∙ c .before .if2 .left) (ap (λ r. r .distances) (a .ensures .0)))
+
+loop-less : tie.Need-loop-less Inv-loop μ-loop
+loop-less c =
+    let l = c .before .before .before .before .before .before .before .before .before .before .before .before .before .loop in
+    let f = c .before .before .before .before .before .before .before .before .before .before .before .line in
+    let list = c .before .before .before .before .before .before .before .before .before .before .before .before .before .before .before .args .list .now in
+    let here = item-here list (l .at) (f .result) (f .ensures) (not-false _ (c .before .before .before .before .before .before .before .before .before .if1 .left)) in
+    omega (arith, here .1 .later, here .1 .within)
+
+loop-again : tie.Need-loop-again Inv-loop μ-loop
+loop-again c =
+    let l = c .before .before .before .before .before .before .before .before .before .before .before .before .before .loop in
+    let f = c .before .before .before .before .before .before .before .before .before .before .before .line in
+    let list = c .before .before .before .before .before .before .before .before .before .before .before .before .before .before .before .args .list .now in
+    let here = item-here list (l .at) (f .result) (f .ensures) (not-false _ (c .before .before .before .before .before .before .before .before .before .if1 .left)) in
+    let a = c .before .before .before .before .before .add in
+    let told = ap (λ r. r .refusal) (a .ensures .0) ∙ reply-refusal _ _ _ _ in
+    one-line-more (l .inv) (f .result .next) (here .0) (sym told ∙ c .before .if2 .left) (here .1 .within) (a .ensures .1 .0) (a .ensures .1 .1) (a .kept .0) (a .kept .1 .0) (ap (λ r. r .distances) (a .ensures .0))
+
+same-length-5 : tie.Need-same-length-5 Inv-loop μ-loop
+same-length-5 c = c .before .loop .inv .table-long
+
+same-length-6 : tie.Need-same-length-6 Inv-loop μ-loop
+same-length-6 c = c .before .loop .inv .work-long
+
+returns-3 : tie.Need-returns-3 Inv-loop μ-loop
+returns-3 c = read-to-end (c .before .loop .inv) (omega arith)
+
+pub read-lines-spec : {M : Type 1} → statement M
+read-lines-spec =
+    tie.close
+    (tie.spec
+    Inv-loop
+    μ-loop
+    loop-holds
+    add-number
+    line-requires
+    same-length
+    same-length-2
+    returns
+    add-requires
+    same-length-3
+    same-length-4
+    returns-2
+    add-added
+    add-distances
+    loop-less
+    loop-again
+    same-length-5
+    same-length-6
+    returns-3)

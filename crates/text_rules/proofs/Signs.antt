@@ -1,0 +1,44 @@
+-- The sign of a measure: what stands behind it, the value with it, and that a size of up to seven digits fits 32 bits with either sign.
+use Prim.Native.Nat.{ℕ, zero, suc, _^_, _<_}
+use mathlib.Core.Path.{_≡_, ap, sym, subst⁻¹, _∙_}
+use mathlib.Core.Bool.{true, false}
+use mathlib.Core.List.{List}
+use native.Mathlib.Omega.{arith}
+use lib.IntN.{pos, negℤ, _-ℤ_, +ℤ-idl}
+use lib.ListN.{drop}
+use mir.Syntax.{w32}
+use mir.Val.{SFits, toZ}
+use mir.Facts.{toZ-pos}
+use Rattle.text_rules.specs.Fields.{isNegative, unsigned, hundredths, measureIn}
+
+module _ (text : List ℕ) where
+  pub unsigned-minus : isNegative text ≡ true → drop 1 text ≡ unsigned text
+  unfolding unsigned
+  unsigned-minus e = ap (λ t. elim t [ true ↦ drop 1 text | false ↦ text ]) (sym e)
+
+  pub unsigned-plain : isNegative text ≡ false → text ≡ unsigned text
+  unfolding unsigned
+  unsigned-plain e = ap (λ t. elim t [ true ↦ drop 1 text | false ↦ text ]) (sym e)
+
+module _ (mark : ℕ) (text : List ℕ) (n : ℕ) (value : n ≡ hundredths mark (unsigned text)) where
+  pub measure-minus : isNegative text ≡ true → negℤ (pos n) ≡ measureIn mark text
+  unfolding measureIn
+  measure-minus e =
+      ap (λ k. negℤ (pos k)) value
+      ∙ ap (λ t. elim t [ true ↦ negℤ (pos (hundredths mark (unsigned text))) | false ↦ pos (hundredths mark (unsigned text)) ]) (sym e)
+
+  pub measure-plain : isNegative text ≡ false → pos n ≡ measureIn mark text
+  unfolding measureIn
+  measure-plain e =
+      ap pos value
+      ∙ ap (λ t. elim t [ true ↦ negℤ (pos (hundredths mark (unsigned text))) | false ↦ pos (hundredths mark (unsigned text)) ]) (sym e)
+
+pub negated : (n : ℕ) → n < 2 ^ 30 → pos 0 -ℤ toZ w32 n ≡ negℤ (pos n)
+negated n h = ap (λ z. pos 0 -ℤ z) (toZ-pos w32 {n = n} (omega arith)) ∙ +ℤ-idl (negℤ (pos n))
+
+negative-fits : (n : ℕ) → n < 2 ^ 30 → SFits w32 (negℤ (pos n))
+negative-fits zero h = record { sfits = omega arith }
+negative-fits (suc n) h = record { sfits = omega arith }
+
+pub negated-fits : (n : ℕ) → n < 2 ^ 30 → SFits w32 (pos 0 -ℤ toZ w32 n)
+negated-fits n h = subst⁻¹ (SFits w32) (negated n h) (negative-fits n h)

@@ -1,0 +1,1 @@
+// Texts: the parts between separators, numerals, tags and measures. No function.

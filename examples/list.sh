@@ -1,0 +1,13 @@
+#!/bin/sh
+# Proves the calls, builds the archive and reads a herd list: examples/herd.list, or the file that is named. It says how many head were added, or
+# which line is wrong and why (and then ends with status 1), and shows the three nearest to the first.
+# VPINDEX_LIB_DIR, a full path, names the folder of another libvpindex.a.
+set -eu
+list=$(realpath "${1:-$(dirname "$0")/herd.list}")
+cd "$(dirname "$0")/.."
+if [ -z "${VPINDEX_LIB_DIR:-}" ]; then
+    mkdir -p target
+    rt staticlib vpindex > target/list.log 2>&1 || { cat target/list.log; exit 1; }
+fi
+cd rust
+exec cargo run --offline --quiet --example list -- "$list"

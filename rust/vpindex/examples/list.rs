@@ -1,0 +1,36 @@
+//! `list FILE`: reads a herd list as a scale head writes it, says how many head were added or which line is wrong and why,
+//! and shows the three nearest to the first of them.
+
+use std::env;
+use std::error::Error;
+use std::fs;
+use std::process::ExitCode;
+
+use vpindex::{Metric, Order, Table, Tag};
+
+fn main() -> Result<ExitCode, Box<dyn Error>> {
+    let file = env::args_os().nth(1).ok_or("usage: list FILE")?;
+    let list = fs::read(file)?;
+    let mut table = Table::new(Order::MAX, Metric::SumOfDifferences);
+    let read = table.read_list(&list);
+    match &read {
+        Ok(read) => println!("{} added, {} distances", read.added, read.distances),
+        Err(refused) => println!("{refused}"),
+    }
+    if !table.is_empty() {
+        nearest_to_first(&mut table, &list)?;
+    }
+    Ok(if read.is_ok() { ExitCode::SUCCESS } else { ExitCode::FAILURE })
+}
+
+// The first line after the header was added, so it begins with the 15 digits of a valid tag.
+fn nearest_to_first(table: &mut Table, list: &[u8]) -> Result<(), Box<dyn Error>> {
+    let first = str::from_utf8(list)?.lines().nth(1).ok_or("no line")?;
+    let tag = Tag::try_from(first[..15].parse::<u64>()?)?;
+    let profile = table.look_up(tag)?.profile;
+    println!("nearest 3 to {tag}:");
+    for hit in table.nearest(&profile, 3)? {
+        println!("  {} {}", hit.tag(), hit.distance());
+    }
+    Ok(())
+}
