@@ -24,9 +24,6 @@ written-more old new before i d x h same e was =
     ∙ paste-suc old 0 new i d (omega arith) (omega arith)
     ∙ ap (paste old 0 new) (sym (add-one i))
 
-pub written-none : {A : Type 0} (old new : List A) → old ≡ paste old 0 new 0
-written-none old new = refl
-
 pub written-all : {A : Type 0} (old new : List A) (i : ℕ) → length old ≤ i → length new ≤ i → paste old 0 new i ≡ new
 written-all old new i h k =
     ap₂ (λ (a b : List _). a ++ b) (take-all i new k) (drop-of-length-le old {i = 0 + i} (omega arith)) ∙ append-nil new

@@ -21,7 +21,7 @@ use Rattle.nearest_few.specs.Nearby.{tallyOf, Ready, Leaves, takenAt, ne
 use Rattle.tree_rules.proofs.Lists.{pairs-take}
 use Rattle.tree_rules.proofs.Sorting.{NotAfter, sort-sorted, sort-of-sorted}
 use Rattle.search_rules.proofs.NearestLaws.{nearestStep, nearest-none, nearest-step, Counted, lives, nearest-counted, counted-turn, counted-taken}
-use Rattle.tree_rules.proofs.Parts.{left-size, part-to-end}
+use Rattle.tree_rules.proofs.Parts.{left-size, part-rest}
 use Rattle.nearest_few.proofs.Nearing.{leaves-held, leaves-over, leaves-as}
 
 -- what a step over n slots does to a tally whose entries are in order, k at most
@@ -226,7 +226,7 @@ module _ (dist : Profile → Profile → ℕ) (query : Profile) (reports : Row �
   unfolding nearestStep taken takenAt nearInHalves entryOf
   near-first [] t h = absurd (omega arith)
   near-first (s ∷ rest) t h =
-      ap (λ (xs : List Row). nearInHalves dist query reports k (toQuery dist query s) (thresholdOf s) xs (takenAt reports k t s (toQuery dist query s))) (part-to-end 1 (s ∷ rest))
+      ap (λ (xs : List Row). nearInHalves dist query reports k (toQuery dist query s) (thresholdOf s) xs (takenAt reports k t s (toQuery dist query s))) (part-rest 1 (s ∷ rest))
       ∙ sym (nearest-step dist query reports k s rest t)
 
   -- the turns of the two halves, as the code makes them
@@ -246,7 +246,7 @@ module _ (dist : Profile → Profile → ℕ) (query : Profile) (reports : Row �
   unfolding rightTurn entersLeft entersRight
   right-turn d m rest t =
       ap (λ (xs : List Row). turn dist query reports k (entersLeft m d) (λ u. nearestTree dist query reports k u xs) t)
-      (part-to-end (length rest - length rest / 2) rest ∙ ap (λ (l : ℕ). drop l rest) (left-size (length rest)))
+      (part-rest (length rest - length rest / 2) rest ∙ ap (λ (l : ℕ). drop l rest) (left-size (length rest)))
 
   pub halves-near : (d m : ℕ) (rest : List Row) (t : Tally) → d ≤ m → rightTurn d m rest (leftTurn d m rest t) ≡ nearInHalves dist query reports k d m rest t
   unfolding nearInHalves halvesInTurn

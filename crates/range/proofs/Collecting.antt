@@ -15,7 +15,7 @@ use Rattle.search_rules.specs.declared.Found.{Found}
 use Rattle.tree_rules.specs.Layout.{leftSize}
 use Rattle.search_rules.specs.Range.{Entry, entry, toQuery, entryOf, isHit, visited, Met, nothing, both, rangeTree}
 use Rattle.search_rules.specs.Collected.{foundAfter, collected, metAlone, ifEntered, metInHalves}
-use Rattle.tree_rules.proofs.Parts.{part-to-end}
+use Rattle.tree_rules.proofs.Parts.{part-rest}
 use Rattle.search_rules.proofs.RangeLaws.{rangeStep, range-none, range-step}
 
 pub found-eq : {a b c d : ℕ} → a ≡ b → c ≡ d → _≡_ {A = Found} (record { hits = a; count = c }) (record { hits = b; count = d })
@@ -142,7 +142,7 @@ pub tree-visit : (dist : Profile → Profile → ℕ) (query : Profile) (reports
 tree-visit dist query reports radius slots f area z d m dq mt g next p q r last u v =
     let row = getD slots 0 [] in
     let whole : both (metAlone reports row d radius) (metInHalves dist query reports radius d m (take (length slots - 1) (drop 1 slots))) ≡ rangeTree dist query reports radius slots =
-    ap (λ (xs : List Row). both (metAlone reports row d radius) (metInHalves dist query reports radius d m xs)) (part-to-end 1 slots)
+    ap (λ (xs : List Row). both (metAlone reports row d radius) (metInHalves dist query reports radius d m xs)) (part-rest 1 slots)
     ∙ ap₂ (λ (x y : ℕ). both (metAlone reports row x radius) (metInHalves dist query reports radius x y (drop 1 slots))) dq mt
     ∙ sym (tree-first dist query reports radius slots z)
     in

@@ -258,11 +258,7 @@ module _ (dist : Profile → Profile → ℕ) where
       List·Permᴰ·trans (perm-of-eq (ap (map f) (layout-ranked rows)))
       (List·Permᴰ·trans (layout-of-permutes f kept (rankedFrom 0 rows)) (perm-of-eq (ranked-rows f 0 rows)))
 
--- elements are told apart by their ranks, or by their tags
-pub told-by-rank : (x y : Ranked) → (x .rank ≡ y .rank → ⊥) → Told tagKey x y
-unfolding tagKey
-told-by-rank x y n e = absurd (n (ap (λ (k : List ℕ). getD k 1 0) e))
-
+-- elements are told apart by their tags
 pub told-by-tag : (x y : Ranked) → (tagOf (x .row) ≡ tagOf (y .row) → ⊥) → Told tagKey x y
 unfolding tagKey
 told-by-tag x y n e = absurd (n (ap (λ (k : List ℕ). getD k 0 0) e))

@@ -1,4 +1,4 @@
--- Lines of pieces put end to end: what is pending and a piece make a line where the piece has a line feed, and more pending where not.
+-- Lines of pieces put end to end: what is pending and a piece that has a line feed make a line.
 use Prim.Native.Nat.{ℕ, zero, suc, _+_, _≤_, _<_}
 use mathlib.Core.Path.{_≡_, refl, ap, sym, _∙_}
 use mathlib.Core.Bool.{Bool, true, false}
@@ -62,11 +62,3 @@ line-ends pending piece later f h =
     ∙ ap (parted lineFeed) (simp append-assoc)
     ∙ parted-first lineFeed (pending ++ untilFeed piece) (drop (suc (length (untilFeed piece))) piece ++ later)
     (all-append (λ b. b ≡ lineFeed → ⊥) pending (untilFeed piece) f (until-free piece))
-
--- and one without: the piece goes to what is pending
-pub line-goes-on : (pending piece later : List ℕ) → Free lineFeed pending → length (untilFeed piece) ≡ length piece
-    → (pending ++ (piece ++ later) ≡ (pending ++ untilFeed piece) ++ later) × Free lineFeed (pending ++ untilFeed piece)
-line-goes-on pending piece later f h = (
-  ap (λ xs. pending ++ (xs ++ later)) (sym (no-feed piece h)) ∙ sym (append-assoc pending (untilFeed piece) later),
-  all-append (λ b. b ≡ lineFeed → ⊥) pending (untilFeed piece) f (until-free piece),
-)

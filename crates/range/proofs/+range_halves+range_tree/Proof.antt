@@ -6,7 +6,7 @@ use mathlib.Core.List.{List, []}
 use mathlib.Core.Bool.{Bool, true, false, _&&_}
 use borrow.Author.Tests.{ltb-false}
 use lib.Dec.{leb, ltb}
-use Rattle.tree_rules.proofs.Parts.{left-size, part-to-end}
+use Rattle.tree_rules.proofs.Parts.{left-size, part-rest}
 use Rattle.tree_rules.proofs.Tests.{and-second}
 use Rattle.metric_rules.specs.Row.{Row, isLive}
 use Rattle.search_rules.specs.declared.Found.{Found}
@@ -94,7 +94,7 @@ module _ (asked : List Row) (r d m : ℕ) (rest : List Row) (q : r ≡ radiusAsk
       → rangeAsked asked (take (length rest - (length rest - length rest / 2)) (drop (length rest - length rest / 2) rest)) ≡ rightMet asked d m rest
   unfolding entersRight
   right-entered h =
-      ap (rangeAsked asked) (part-to-end (length rest - length rest / 2) rest ∙ ap (λ (l : ℕ). drop l rest) (left-size (length rest)))
+      ap (rangeAsked asked) (part-rest (length rest - length rest / 2) rest ∙ ap (λ (l : ℕ). drop l rest) (left-size (length rest)))
       ∙ sym (entered (leb m (d + radiusAsked asked)) _ (ap (λ (x : ℕ). leb m (d + x)) (sym q) ∙ and-second (ltb (length rest - length rest / 2) (length rest)) (leb m (d + r)) h))
 
   right-skipped : ltb (length rest - length rest / 2) (length rest) && leb m (d + r) ≡ false → nothing ≡ rightMet asked d m rest
