@@ -2,13 +2,17 @@
 use Prim.Native.Nat.{ℕ, suc, _+_, _*_, _≤_, _<_}
 use mathlib.Core.Path.{_≡_, refl, sym, ap, _∙_}
 use mathlib.Core.List.{List, [], _∷_, _++_, map, map-append, append-nil, flatten}
+use native.Mathlib.Numerals.{add-one}
 use native.Mathlib.Omega.{arith}
-use lib.ListN.{length, getD, take, length-take}
-use lib.Seq.{sets, take-suc}
+use lib.ListN.{length, getD, take, drop, length-take}
+use lib.Seq.{sets, take-suc, take-all}
+use Rattle.metric_rules.specs.Lists.{total}
+use Rattle.metric_rules.specs.Row.{Row}
 use Rattle.tree_rules.specs.Guided.{All}
-use Rattle.tree_rules.proofs.Lists.{all-take}
-use Rattle.image_rules.specs.Bytes.{bytesOf, bytesOfFields}
+use Rattle.tree_rules.proofs.Lists.{all-always, all-take}
+use Rattle.image_rules.specs.Bytes.{bytesOf, tagFields, recordFields, bytesOfFields, tagWords}
 use Rattle.image_rules.proofs.Blocks.{length-blocks}
+use Rattle.image_rules.proofs.Bytes.{length-fields}
 use Rattle.image_rules.proofs.Counting.{flatten-append}
 
 pub sets-more : {A : Type 0} (l : List A) (i j : ℕ) (a b : List A) → j ≡ i + length a → sets (sets l i a) j b ≡ sets l i (a ++ b)
@@ -17,7 +21,7 @@ sets-more l i j (x ∷ a) b e = sets-more _ (suc i) j a b (omega arith)
 
 module _ {A : Type 0} (f : A → List ℕ) (w : ℕ) where
   -- a turn of the loop that stores the blocks: block i comes after i of them
-  pub blocks-more : (l before : List ℕ) (at place i : ℕ) (xs : List A) (d : A) → All (λ x. length (f x) ≡ w) xs → i < length xs → place ≡ at + w * i
+  blocks-more : (l before : List ℕ) (at place i : ℕ) (xs : List A) (d : A) → All (λ x. length (f x) ≡ w) xs → i < length xs → place ≡ at + w * i
       → before ≡ sets l at (flatten (map f (take i xs)))
       → sets before place (f (getD xs i d)) ≡ sets l at (flatten (map f (take (suc i) xs)))
   unfolding flatten
@@ -33,6 +37,47 @@ module _ {A : Type 0} (f : A → List ℕ) (w : ℕ) where
       ap (λ (r : List ℕ). sets r place (f (getD xs i d))) was
       ∙ sets-more l at place done (f (getD xs i d)) (e ∙ ap (λ (n : ℕ). at + n) (ap (λ (n : ℕ). w * n) (sym count) ∙ sym long))
       ∙ ap (sets l at) (sym next)
+
+-- the loop that stores the blocks from a place on: the first i of them are stored
+module _ {A : Type 0} (f : A → List ℕ) (at : ℕ) (xs : List A) where
+  pub record Stored (first image : List ℕ) (i : ℕ) : Type 0 where
+    pub within : i ≤ length xs
+    pub same : length image ≡ length first
+    pub area : image ≡ sets first at (flatten (map f (take i xs)))
+
+  pub none-stored : (first : List ℕ) → Stored first first 0
+  unfolding flatten
+  none-stored first = record { within = omega arith; same = refl; area = refl }
+
+module _ {A : Type 0} {f : A → List ℕ} {at : ℕ} {xs : List A} {first image : List ℕ} {i : ℕ} (s : Stored f at xs first image i) where
+  pub all-stored : length xs ≤ i → image ≡ sets first at (flatten (map f xs))
+  all-stored h = s .area ∙ ap (λ (ys : List A). sets first at (flatten (map f ys))) (take-all i xs h)
+
+  pub more-stored : {w : ℕ} → ((x : A) → length (f x) ≡ w) → i < length xs → (d : A) {next : List ℕ} → length next ≡ length image
+      → next ≡ sets image (at + w * i) (f (getD xs i d))
+      → Stored f at xs first next (i + 1)
+  more-stored {w} wide low d same put =
+      rw (add-one i)
+      (record {
+        within = omega arith;
+        same = same ∙ s .same;
+        area = put ∙ blocks-more f w first image at (at + w * i) i xs d (all-always {P = λ x. length (f x) ≡ w} wide xs) low refl (s .area);
+      })
+
+-- what a row's tag and its record are stored as
+abbrev pub tagBlock : Row → List ℕ
+tagBlock row = bytesOfFields tagFields (take tagWords row)
+
+abbrev pub recordBlock : Row → List ℕ
+recordBlock row = bytesOfFields recordFields (drop tagWords row)
+
+pub length-tag : (row : Row) → length (tagBlock row) ≡ 8
+unfolding tagFields total
+length-tag row = length-fields tagFields (take tagWords row)
+
+pub length-record : (row : Row) → length (recordBlock row) ≡ 40
+unfolding recordFields total
+length-record row = length-fields recordFields (drop tagWords row)
 
 -- fields of four bytes each hold words
 pub word-bytes : (ws ns : List ℕ) → length ns ≡ length ws → All (λ w. w ≡ 4) ws → bytesOfFields ws ns ≡ flatten (map (bytesOf 4) ns)

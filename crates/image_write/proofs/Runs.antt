@@ -3,6 +3,7 @@ use Prim.Native.Nat.{ℕ, zero, suc, _+_, _*_, _≤_, _<_}
 use mathlib.Core.Path.{_≡_, refl, sym, ap, _∙_}
 use mathlib.Core.List.{List, [], _∷_, _++_, map, map-append, flatten}
 use native.Mathlib.Nat.{lt-of-not-le, mul-suc}
+use native.Mathlib.Numerals.{add-one}
 use native.Mathlib.Omega.{arith}
 use native.Mathlib.Decide.{decLe}
 use lib.ListN.{length, drop, length-append, length-take, length-drop}
@@ -68,19 +69,62 @@ module _ {t : Table} {order k : ℕ} (e : order ≡ orderOf t) (p : Passed t) (h
   pub sizes-in : sizesRow k < length t
   sizes-in = omega (arith, sizes-inside (orderOf t) k (omega arith), p .framed .long)
 
--- the blocks of w bytes of all slots, bucket by bucket
-module _ (t : Table) (b : Row → List ℕ) (w : ℕ) (wide : (row : Row) → length (b row) ≡ w) where
+-- the blocks of all slots, bucket by bucket
+module _ (t : Table) (b : Row → List ℕ) where
   unfoldable pub blocksOf : ℕ → List ℕ
   blocksOf k = flatten (map b (slotsOf t k))
 
-  pub all-blocks : flatten (map b (allSlots t)) ≡ run blocksOf (suc (orderOf t))
+  all-blocks : flatten (map b (allSlots t)) ≡ run blocksOf (suc (orderOf t))
   unfolding blocksOf allSlots bucketsOf run
   all-blocks = blocks-by-list b (slotsOf t) (countFrom 0 (suc (orderOf t)))
 
-  pub place-more : (k : ℕ) → length (run blocksOf (suc k)) ≡ length (run blocksOf k) + w * length (slotsOf t k)
-  unfolding blocksOf
-  place-more k =
-      omega (arith, length-run blocksOf k, length-blocks b w (slotsOf t k) (all-always {P = λ row. length (b row) ≡ w} wide (slotsOf t k)))
+  -- the loop that stores them from a place on: those of the first k buckets are stored, and the place in hand is behind them
+  pub record Stored (first : List ℕ) (from : ℕ) (image : List ℕ) (at k : ℕ) : Type 0 where
+    pub within : k ≤ suc (orderOf t)
+    pub same : length image ≡ length first
+    pub place : at ≡ from + length (run blocksOf k)
+    pub area : image ≡ sets first from (run blocksOf k)
 
-  pub place-within : (k : ℕ) → k ≤ orderOf t → length (run blocksOf k) + w * length (slotsOf t k) ≤ length (flatten (map b (allSlots t)))
-  place-within k h = rw all-blocks (omega (arith, place-more k, run-within blocksOf (suc k) (suc (orderOf t)) (omega arith)))
+  pub none-stored : (first : List ℕ) (from : ℕ) → Stored first from first from 0
+  unfolding run countFrom flatten
+  none-stored first from = record { within = omega arith; same = refl; place = omega arith; area = refl }
+
+module _ {t : Table} {b : Row → List ℕ} {first : List ℕ} {from : ℕ} {image : List ℕ} {at k : ℕ} (s : Stored t b first from image at k) where
+  pub all-stored : orderOf t < k
+      → (at ≡ from + length (flatten (map b (allSlots t)))) × (image ≡ sets first from (flatten (map b (allSlots t))))
+  all-stored h =
+      let done : k ≡ suc (orderOf t) = omega (arith, s .within) in
+      let all : run (blocksOf t b) k ≡ flatten (map b (allSlots t)) = ap (run (blocksOf t b)) done ∙ sym (all-blocks t b) in
+      (s .place ∙ ap (λ (bs : List ℕ). from + length bs) all, s .area ∙ ap (sets first from) all)
+
+  -- a turn: the slots of bucket k are in hand, and a block has w bytes
+  module _ {w : ℕ} (wide : (row : Row) → length (b row) ≡ w) (h : k ≤ orderOf t) {rows : List Row} (e : rows ≡ slotsOf t k) where
+    place-more : length (run (blocksOf t b) (suc k)) ≡ length (run (blocksOf t b) k) + w * length rows
+    unfolding blocksOf
+    place-more =
+        rw e (omega (arith, length-run (blocksOf t b) k, length-blocks b w (slotsOf t k) (all-always {P = λ row. length (b row) ≡ w} wide (slotsOf t k))))
+
+    pub blocks-fit : from + length (flatten (map b (allSlots t))) ≤ length first → at + w * length rows ≤ length image
+    blocks-fit room =
+        omega (
+          arith,
+          s .same,
+          s .place,
+          place-more,
+          ap length (all-blocks t b),
+          run-within (blocksOf t b) (suc k) (suc (orderOf t)) (omega arith),
+        )
+
+    pub more-stored : {next : List ℕ} → length next ≡ length image → next ≡ sets image at (flatten (map b rows))
+        → Stored t b first from next (at + w * length rows) (k + 1)
+    unfolding blocksOf
+    more-stored {next} same put =
+        rw (add-one k)
+        (record {
+          within = omega arith;
+          same = same ∙ s .same;
+          place = omega (arith, s .place, place-more);
+          area =
+              put ∙ ap (λ (rs : List Row). sets image at (flatten (map b rs))) e
+              ∙ run-more (blocksOf t b) first image from at k (s .place) (s .area);
+        })
