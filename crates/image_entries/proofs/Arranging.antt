@@ -5,7 +5,7 @@ use native.Mathlib.Nat.{add-comm}
 use native.Mathlib.Numerals.{add-one}
 use native.Mathlib.Omega.{arith}
 use mathlib.Core.Path.{_≡_, refl, sym, _∙_, ap, ap₂, subst}
-use mathlib.Core.List.{List, [], _∷_, _++_, map, foldl, foldl-append, List·Permᴰ, List·Permᴰ·cons, List·Permᴰ·swap, List·Permᴰ·trans, Permᴰ·refl, Permᴰ·symm}
+use mathlib.Core.List.{List, [], _∷_, _++_, map, foldl, foldl-append, List·Permᴰ, Permᴰ·symm}
 use lib.ListN.{length, length-drop, getD, set, take, drop}
 use lib.Seq.{take-suc, getD-take, getD-drop}
 use borrow.Rule.Slice.PartMut.{putMid}
@@ -14,6 +14,7 @@ use Rattle.metric_rules.specs.Row.{Row}
 use Rattle.tree_rules.specs.Guided.{All}
 use Rattle.tree_rules.proofs.Lists.{all-append, all-weaken, all-map, all-perm}
 use Rattle.tree_rules.proofs.Parts.{writtenTo, written-next, part-rest, put-rest}
+use Rattle.tree_rules.proofs.Brought.{brought, brought-perm, brought-first}
 use Rattle.search_rules.specs.Range.{Entry, entry, entryDistance, ordered}
 use Rattle.image_entries.specs.Entries.{entryTag, entryPlace, lastOf, IsEntry, measuredIn, laidOut, laidFrom}
 use Rattle.image_entries.proofs.Ranking.{ordered-perm, layout-laid}
@@ -29,28 +30,6 @@ least-with es at i h a k =
 
 pub least-moved : (es : List Entry) (at i : ℕ) → i < length es → Least es at i → getD (getD es i []) 0 0 < getD (getD es at []) 0 0 → Least es i (i + 1)
 least-moved es at i h a k = least-with es i i h (all-weaken (λ e q. omega arith) (take i es) a) (omega arith)
-
--- entries with the first and the one at a place in each other's place
-abbrev pub brought : List Entry → ℕ → List Entry
-brought es at = set (set es 0 (getD es at [])) at (getD es 0 [])
-
--- e takes the place of entry k, which goes first
-exchange-perm : (e : Entry) (es : List Entry) (k : ℕ) → k < length es → List·Permᴰ (getD es k [] ∷ set es k e) (e ∷ es)
-exchange-perm e [] k h = absurd (omega arith)
-exchange-perm e (x ∷ es) zero h = List·Permᴰ·swap refl refl
-exchange-perm e (x ∷ es) (suc k) h =
-    List·Permᴰ·trans (List·Permᴰ·swap refl refl)
-    (List·Permᴰ·trans (List·Permᴰ·cons refl (exchange-perm e es k (omega arith))) (List·Permᴰ·swap refl refl))
-
-pub brought-perm : (es : List Entry) (at : ℕ) → at < length es → List·Permᴰ (getD es at [] ∷ drop 1 (brought es at)) es
-brought-perm [] at h = absurd (omega arith)
-brought-perm (e ∷ es) zero h = Permᴰ·refl (e ∷ es)
-brought-perm (e ∷ es) (suc k) h = exchange-perm e es k (omega arith)
-
-pub brought-first : (es : List Entry) (at : ℕ) → at < length es → take 1 (brought es at) ≡ getD es at [] ∷ []
-brought-first [] at h = absurd (omega arith)
-brought-first (e ∷ es) zero h = refl
-brought-first (e ∷ es) (suc k) h = refl
 
 -- the distance of the last of l entries behind the first is that of entry l
 pub last-entry : (es : List Entry) (l : ℕ) → l < length es → (l ≡ 0 → ⊥) → lastOf (take l (drop 1 es)) ≡ entryDistance (getD es l [])
@@ -75,16 +54,16 @@ module _ (slot : ℕ → Row) (dist : Profile → Profile → ℕ) (n : ℕ) whe
   measured-entry v e s = record { pair = refl; tagged = s .tagged; within = s .within }
 
   module _ (es : List Entry) (at : ℕ) (within : at < length es) (least : All (λ e. getD (getD es at []) 0 0 ≤ getD e 0 0) es) (sound : All (IsEntry slot n) es)
-      (b : List Entry) (is : b ≡ brought es at) where
+      (b : List Entry) (is : b ≡ brought [] es at) where
     first : Entry
     first = getD es at []
 
     rest : List Entry
-    rest = drop 1 (brought es at)
+    rest = drop 1 (brought [] es at)
 
     permuted : List·Permᴰ (first ∷ rest) es
     unfolding first rest
-    permuted = brought-perm es at within
+    permuted = brought-perm [] es at within
 
     all-sound : All (IsEntry slot n) (first ∷ rest)
     all-sound = all-perm (IsEntry slot n) (Permᴰ·symm permuted) sound
@@ -92,8 +71,8 @@ module _ (slot : ℕ → Row) (dist : Profile → Profile → ℕ) (n : ℕ) whe
     pub first-is : getD b 0 [] ≡ getD es at []
     first-is =
         ap (λ (l : List Entry). getD l 0 []) is
-        ∙ sym (getD-take 1 (brought es at) 0 [] (omega arith))
-        ∙ ap (λ (l : List Entry). getD l 0 []) (brought-first es at within)
+        ∙ sym (getD-take 1 (brought [] es at) 0 [] (omega arith))
+        ∙ ap (λ (l : List Entry). getD l 0 []) (brought-first [] es at within)
 
     pub first-within : entryPlace (getD b 0 []) < n
     unfolding first
@@ -115,7 +94,7 @@ module _ (slot : ℕ → Row) (dist : Profile → Profile → ℕ) (n : ℕ) whe
 
       whole-is : putMid 1 (length b - 1) b last ≡ first ∷ ordered (map (measuredIn slot dist (slot (entryPlace first))) rest)
       unfolding first
-      whole-is = put-rest 1 b last ∙ ap₂ _++_ (ap (take 1) is ∙ brought-first es at within) last-is
+      whole-is = put-rest 1 b last ∙ ap₂ _++_ (ap (take 1) is ∙ brought-first [] es at within) last-is
 
       -- the least first and the others in order: they hold the layout, and are entries of the same slots
       pub arranged-laid : laidFrom slot dist (putMid 1 (length b - 1) b last) ≡ laidOut slot dist es

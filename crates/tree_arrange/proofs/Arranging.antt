@@ -5,8 +5,8 @@ use native.Mathlib.Nat.{add-comm}
 use native.Mathlib.Numerals.{add-one}
 use native.Mathlib.Omega.{arith}
 use mathlib.Core.Path.{_≡_, refl, sym, _∙_, ap, ap₂, subst}
-use mathlib.Core.List.{List, [], _∷_, _++_, map, foldl, foldl-append, map-map, List·Permᴰ, List·Permᴰ·cons, List·Permᴰ·swap, List·Permᴰ·trans, Permᴰ·refl, Permᴰ·symm}
-use lib.ListN.{length, length-map, length-drop, length-set, getD, set, take, drop}
+use mathlib.Core.List.{List, [], _∷_, _++_, map, foldl, foldl-append, map-map, List·Permᴰ, Permᴰ·symm}
+use lib.ListN.{length, length-map, length-drop, length-set, getD, take, drop}
 use lib.Seq.{take-suc, getD-drop}
 use Rattle.metric_rules.specs.declared.Profile.{Profile}
 use Rattle.metric_rules.specs.Row.{Row, rowWidth, thresholdAt, markAt, thresholdOf, markOf, withThreshold, withMark}
@@ -247,28 +247,6 @@ ranks-at n (r ∷ rs) zero h =
 ranks-at n (r ∷ rs) (suc i) h =
     let e : suc n + i ≡ n + suc i = omega arith in
     ranks-at (suc n) rs i (omega arith) ∙ ap (λ (k : ℕ). withMark k (getD rs i [])) e
-
--- rows with the first and the row at a place in each other's place
-abbrev pub brought : List Row → ℕ → List Row
-brought rows at = set (set rows 0 (getD rows at [])) at (getD rows 0 [])
-
--- r takes the place of row k, which goes first
-exchange-perm : (r : Row) (rs : List Row) (k : ℕ) → k < length rs → List·Permᴰ (getD rs k [] ∷ set rs k r) (r ∷ rs)
-exchange-perm r [] k h = absurd (omega arith)
-exchange-perm r (s ∷ rs) zero h = List·Permᴰ·swap refl refl
-exchange-perm r (s ∷ rs) (suc k) h =
-    List·Permᴰ·trans (List·Permᴰ·swap refl refl)
-    (List·Permᴰ·trans (List·Permᴰ·cons refl (exchange-perm r rs k (omega arith))) (List·Permᴰ·swap refl refl))
-
-pub brought-perm : (rows : List Row) (at : ℕ) → at < length rows → List·Permᴰ (getD rows at [] ∷ drop 1 (brought rows at)) rows
-brought-perm [] at h = absurd (omega arith)
-brought-perm (r ∷ rs) zero h = Permᴰ·refl (r ∷ rs)
-brought-perm (r ∷ rs) (suc k) h = exchange-perm r rs k (omega arith)
-
-pub brought-first : (rows : List Row) (at : ℕ) → at < length rows → take 1 (brought rows at) ≡ getD rows at [] ∷ []
-brought-first [] at h = absurd (omega arith)
-brought-first (r ∷ rs) zero h = refl
-brought-first (r ∷ rs) (suc k) h = refl
 
 -- the distance written in the last of some rows is that of row l, where they are the l rows behind the first
 pub last-row : (rows : List Row) (l : ℕ) → l < length rows → (l ≡ 0 → ⊥) → lastMeasured (take l (drop 1 rows)) ≡ thresholdOf (getD rows l [])

@@ -17,7 +17,8 @@ use Rattle.tree_rules.proofs.Lists.{all-perm}
 use Rattle.tree_rules.proofs.Tests.{every-all}
 use Rattle.tree_rules.proofs.Sorting.{NotAfter}
 use Rattle.tree_rules.proofs.Parts.{part-rest, put-rest, part-behind, put-behind}
-use Rattle.tree_arrange.proofs.Arranging.{brought, brought-perm, brought-first, arranged-by}
+use Rattle.tree_rules.proofs.Brought.{brought, brought-perm, brought-first}
+use Rattle.tree_arrange.proofs.Arranging.{arranged-by}
 use borrow.Author.Needs.{needs}
 use Rattle.tree_arrange.proofs.arrange.Statement.{statement}
 use Rattle.tree_arrange.proofs.arrange.Tie as tie
@@ -40,18 +41,18 @@ module _ (space : Space) (src : List Row) (at : ℕ) (within : at < length src)
     (least : every (λ x. keyLe (firstKey (getD src at [])) (firstKey x)) src ≡ true) (apart : RanksApart src) where
   -- the least row in front, and the others sorted from it
   in-order :
-      take 1 (brought src at) ++ sortBy workKey (map (measuredFrom (distance space) (getD src at [])) (drop 1 (brought src at)))
+      take 1 (brought [] src at) ++ sortBy workKey (map (measuredFrom (distance space) (getD src at [])) (drop 1 (brought [] src at)))
       ≡ arranged (distance space) src
   unfolding sortedFrom
   in-order =
       let v : Row = getD src at [] in
-      let p : List·Permᴰ (v ∷ drop 1 (brought src at)) src = brought-perm src at within in
-      ap (λ (f : List Row). f ++ sortBy workKey (map (measuredFrom (distance space) v) (drop 1 (brought src at)))) (brought-first src at within)
-      ∙ sym (arranged-by (distance space) v (drop 1 (brought src at)) src p
+      let p : List·Permᴰ (v ∷ drop 1 (brought [] src at)) src = brought-perm [] src at within in
+      ap (λ (f : List Row). f ++ sortBy workKey (map (measuredFrom (distance space) v) (drop 1 (brought [] src at)))) (brought-first [] src at within)
+      ∙ sym (arranged-by (distance space) v (drop 1 (brought [] src at)) src p
       (all-perm (NotAfter firstKey v) (Permᴰ·symm p) (every-all (λ x. keyLe (firstKey v) (firstKey x)) src least) .1) apart)
 
   finished :
-      (first measured last : List Row) → first ≡ brought src at
+      (first measured last : List Row) → first ≡ brought [] src at
       → measured ≡ map (measuredFrom (distance space) (getD first 0 [])) (take (length first - 1) (drop 1 first))
       → last ≡ sortBy workKey (take (length (putMid 1 (length first - 1) first measured) - 1) (drop 1 (putMid 1 (length first - 1) first measured)))
       → putMid 1 (length (putMid 1 (length first - 1) first measured) - 1) (putMid 1 (length first - 1) first measured) last ≡ arranged (distance space) src
@@ -60,7 +61,7 @@ module _ (space : Space) (src : List Row) (at : ℕ) (within : at < length src)
       let v : getD first 0 [] ≡ getD src at [] =
       sym (getD-take 1 first 0 [] (omega arith))
       ∙ ap (λ (f : List Row). getD (take 1 f) 0 []) e
-      ∙ ap (λ (f : List Row). getD f 0 []) (brought-first src at within) in
+      ∙ ap (λ (f : List Row). getD f 0 []) (brought-first [] src at within) in
       twice first measured last (omega arith)
       ∙ ap (λ (q : List Row). take 1 first ++ q)
       (l ∙ ap (sortBy workKey) (again first measured (omega arith) ∙ m ∙ ap₂ (λ (w : Row) (r : List Row). map (measuredFrom (distance space) w) r) v (part-rest 1 first)))
