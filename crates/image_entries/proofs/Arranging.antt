@@ -6,14 +6,14 @@ use native.Mathlib.Numerals.{add-one}
 use native.Mathlib.Omega.{arith}
 use mathlib.Core.Path.{_≡_, refl, sym, _∙_, ap, ap₂, subst}
 use mathlib.Core.List.{List, [], _∷_, _++_, map, foldl, foldl-append, List·Permᴰ, Permᴰ·symm}
-use lib.ListN.{length, length-drop, getD, set, take, drop}
+use lib.ListN.{length, length-drop, getD, take, drop}
 use lib.Seq.{take-suc, getD-take, getD-drop}
 use borrow.Rule.Slice.PartMut.{putMid}
 use Rattle.metric_rules.specs.declared.Profile.{Profile}
 use Rattle.metric_rules.specs.Row.{Row}
 use Rattle.tree_rules.specs.Guided.{All}
 use Rattle.tree_rules.proofs.Lists.{all-append, all-weaken, all-map, all-perm}
-use Rattle.tree_rules.proofs.Parts.{writtenTo, written-next, part-rest, put-rest}
+use Rattle.tree_rules.proofs.Parts.{part-rest, put-rest}
 use Rattle.tree_rules.proofs.Brought.{brought, brought-perm, brought-first}
 use Rattle.search_rules.specs.Range.{Entry, entry, entryDistance, ordered}
 use Rattle.image_entries.specs.Entries.{entryTag, entryPlace, lastOf, IsEntry, measuredIn, laidOut, laidFrom}
@@ -39,13 +39,6 @@ last-entry es (suc k) h n =
     ap (foldl (λ m e. entryDistance e) 0) (take-suc (drop 1 es) k [] (omega (arith, length-drop 1 es)))
     ∙ foldl-append (λ (m : ℕ) (e : Entry). entryDistance e) 0 (take k (drop 1 es)) (getD (drop 1 es) k [] ∷ [])
     ∙ ap entryDistance (getD-drop 1 es k [] ∙ ap (λ (i : ℕ). getD es i []) (add-comm 1 k ∙ add-one k))
-
--- entries written over from the start: the next
-pub written-step :
-    (old new es : List Entry) (i : ℕ) (x : Entry) → length new ≡ length old → i < length old → es ≡ writtenTo old new i → x ≡ getD new i []
-    → set es i x ≡ writtenTo old new (i + 1)
-written-step old new es i x n h e q =
-    ap₂ (λ (l : List Entry) (y : Entry). set l i y) e q ∙ written-next old new n [] i h ∙ ap (writtenTo old new) (sym (add-one i))
 
 module _ (slot : ℕ → Row) (dist : Profile → Profile → ℕ) (n : ℕ) where
   -- an entry with a distance is one of the same slot

@@ -2,6 +2,7 @@
 pub mod Lists
 pub mod Tests
 pub mod Parts
+pub mod Filled
 pub mod Brought
 pub mod Sorting
 pub mod Cost

@@ -6,8 +6,7 @@ use mathlib.Core.List.{[]}
 use Prim.Native.Nat.{ℕ, _-_, _≤_, _<_, _^_}
 use lib.ListN.{length, length-set}
 use Rattle.metric_rules.specs.Row.{Row, tagOf}
-use Rattle.tree_rules.proofs.Parts.{writtenTo, written-all}
-use Rattle.image_entries.proofs.Arranging.{written-step}
+use Rattle.tree_rules.proofs.Parts.{writtenTo, written-step, written-all}
 use Rattle.image_entries.specs.Entries.{tagEntry, slotEntries}
 use Rattle.image_entries.specs.InImage.{slotIn}
 use Rattle.image_entries.proofs.Filling.{slot-entries-length, slot-entry-at}
@@ -59,8 +58,8 @@ loop-again c = let a = c .before .before .before .before .before .before .before
     c .tag-entry .ensures ∙ ap (λ (t : ℕ). tagEntry t (l .i)) (c .before .tag-of .ensures ∙ ap tagOf (c .before .before .slot-in .ensures)) in (
       omega arith,
       simp length-set (l .inv .1),
-      written-step (a .entries .now) (slotEntries slot (a .at .count)) (l .entries) (l .i) (c .tag-entry .result)
-          (slot-entries-length slot (a .at .count) ∙ sym (p .2)) (omega (arith, p .2)) (l .inv .2) (is ∙ sym (slot-entry-at slot (a .at .count) (l .i) h)),
+      written-step (a .entries .now) (slotEntries slot (a .at .count)) (slot-entries-length slot (a .at .count) ∙ sym (p .2)) []
+          (l .entries) (c .tag-entry .result) (l .i) (omega (arith, p .2)) (l .inv .2) (is ∙ sym (slot-entry-at slot (a .at .count) (l .i) h)),
     )
 
 same-length : tie.Need-same-length Inv-loop μ-loop

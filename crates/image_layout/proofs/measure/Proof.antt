@@ -9,8 +9,7 @@ use Rattle.metric_rules.specs.Row.{Row, profileOf}
 use Rattle.metric_rules.specs.Distance.{distance, spaceOf}
 use Rattle.tree_rules.specs.Guided.{All}
 use Rattle.tree_rules.proofs.Lists.{all-at}
-use Rattle.tree_rules.proofs.Parts.{writtenTo, written-at, written-all, getD-mapped}
-use Rattle.image_entries.proofs.Arranging.{written-step}
+use Rattle.tree_rules.proofs.Parts.{writtenTo, written-at, written-step, written-all, getD-mapped}
 use Rattle.metric_rules.specs.declared.Profile.{Profile}
 use Rattle.search_rules.specs.Range.{Entry, entry}
 use Rattle.image_entries.specs.Entries.{places, entryPlace, IsEntry, measuredIn}
@@ -88,8 +87,8 @@ loop-again c = let a = c .before .before .before .before .before .before .args i
     let x : Entry = getD (getD (l .entries) (l .i) []) 0 0 ∷ c .distance-between .result ∷ [] in (
       omega arith,
       simp length-set (l .inv .1),
-      written-step (a .entries .now) (map (measuredIn slot dist (a .v)) (a .entries .now)) (l .entries) (l .i) x
-          (length-map (a .entries .now) (measuredIn slot dist (a .v))) h (l .inv .2)
+      written-step (a .entries .now) (map (measuredIn slot dist (a .v)) (a .entries .now)) (length-map (a .entries .now) (measuredIn slot dist (a .v))) []
+          (l .entries) x (l .i) h (l .inv .2)
           (measured-at slot dist (a .v) (a .at .count) (a .entries .now) (l .entries) (l .i) (c .distance-between .result) h (l .inv .2)
           (c .distance-between .ensures ∙ ap (λ (r : Row). dist (profileOf (a .v)) (profileOf r)) (c .before .slot-in .ensures))),
     )
