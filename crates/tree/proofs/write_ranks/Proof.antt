@@ -3,7 +3,6 @@
 use borrow.Author.Needs.{needs}
 use native.Mathlib.Omega.{arith}
 use native.Mathlib.Nat.{zero-add}
-use native.Mathlib.Numerals.{add-one}
 use mathlib.Core.Path.{_≡_, refl, sym, _∙_, ap, subst}
 use mathlib.Core.List.{List, []}
 use Prim.Native.Nat.{ℕ, _+_, _-_, _≤_, _<_}
@@ -12,7 +11,7 @@ use lib.ListN.{length, take, getD, set, length-set}
 use Rattle.metric_rules.specs.Row.{Row, withMark}
 use Rattle.working_rows.specs.Working.{ranksWritten}
 use Rattle.tree_rules.specs.Guided.{Whole}
-use Rattle.tree_rules.proofs.Parts.{writtenTo, written-at, written-next, written-all}
+use Rattle.tree_rules.proofs.Parts.{writtenTo, written-at, written-step, written-all}
 use Rattle.tree_arrange.proofs.Arranging.{whole-next, ranks-length, ranks-at}
 use Rattle.tree.proofs.write_ranks.Statement.{statement}
 use Rattle.tree.proofs.write_ranks.Tie as tie
@@ -21,14 +20,12 @@ use Rattle.tree.proofs.write_ranks.Tie as tie
 rank-step :
     (old rows : List Row) (i : ℕ) → i < length old → rows ≡ writtenTo old (ranksWritten 0 old) i
     → set rows i (withMark i (getD rows i [])) ≡ writtenTo old (ranksWritten 0 old) (i + 1)
-unfolding withMark
 rank-step old rows i h e =
-    ap (λ (r : List Row). set r i (set (getD r i []) 11 i)) e
-    ∙ ap (λ (x : Row). set (writtenTo old (ranksWritten 0 old) i) i (set x 11 i)) (written-at old (ranksWritten 0 old) (ranks-length 0 old) [] i h)
-    ∙ ap (λ (n : ℕ). set (writtenTo old (ranksWritten 0 old) i) i (withMark n (getD old i []))) (sym (zero-add i))
-    ∙ ap (set (writtenTo old (ranksWritten 0 old) i) i) (sym (ranks-at 0 old i h))
-    ∙ written-next old (ranksWritten 0 old) (ranks-length 0 old) [] i h
-    ∙ ap (writtenTo old (ranksWritten 0 old)) (sym (add-one i))
+    written-step old (ranksWritten 0 old) (ranks-length 0 old) [] rows (withMark i (getD rows i [])) i h e
+    (ap (λ (r : List Row). withMark i (getD r i [])) e
+    ∙ ap (withMark i) (written-at old (ranksWritten 0 old) (ranks-length 0 old) [] i h)
+    ∙ ap (λ (n : ℕ). withMark n (getD old i [])) (sym (zero-add i))
+    ∙ sym (ranks-at 0 old i h))
 
 abbrev Inv-loop : tie.InvT-loop
 Inv-loop rows₀ i₀ rows i =

@@ -2,7 +2,6 @@
 -- Assumes nothing.
 use borrow.Author.Needs.{needs}
 use native.Mathlib.Omega.{arith}
-use native.Mathlib.Numerals.{add-one}
 use mathlib.Core.Path.{_≡_, refl, sym, _∙_, ap, ap₂}
 use mathlib.Core.List.{List, [], map}
 use Prim.Native.Nat.{ℕ, _+_, _-_, _≤_, _<_}
@@ -11,7 +10,7 @@ use Rattle.metric_rules.specs.Row.{Row, profileOf}
 use Rattle.metric_rules.specs.Distance.{Space, distance, spaceOf}
 use Rattle.tree_rules.specs.Guided.{fromSlot}
 use Rattle.working_rows.specs.Working.{measuredFrom}
-use Rattle.tree_rules.proofs.Parts.{writtenTo, written-at, written-next, written-all, getD-mapped}
+use Rattle.tree_rules.proofs.Parts.{writtenTo, written-at, written-step, written-all, getD-mapped}
 use Rattle.tree_arrange.proofs.measure.Statement.{statement}
 use Rattle.tree_arrange.proofs.measure.Tie as tie
 
@@ -32,10 +31,7 @@ module _ (space : Space) (v : Row) (old : List Row) where
       ∙ sym (getD-mapped (measuredFrom (distance space) v) old i [] [] h)
 
   measure-step : (whole rows : List Row) (i : ℕ) (x : Row) → length whole ≡ length old → i < length old → rows ≡ writtenTo whole new i → x ≡ getD new i [] → set rows i x ≡ writtenTo whole new (i + 1)
-  measure-step whole rows i x n h e q =
-      ap₂ (λ (r : List Row) (y : Row). set r i y) e q
-      ∙ written-next whole new (new-length ∙ sym n) [] i (omega arith)
-      ∙ ap (writtenTo whole new) (sym (add-one i))
+  measure-step whole rows i x n h e q = written-step whole new (new-length ∙ sym n) [] rows x i (omega arith) e q
 
 abbrev Inv-loop : tie.InvT-loop
 Inv-loop dst₀ src₀ v header count₀ i₀ dst src count i =
