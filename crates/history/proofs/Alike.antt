@@ -12,7 +12,7 @@ use Rattle.history.specs.Trace.{Step, Shown, overlaid, leftBy, stepOutco
 use Rattle.history.specs.Model.{itemOf, lengthsOf, withTag, with, without, profileIn, scanned, modelRange, modelNearest, canRead, canChange, enough, tagRefusal, itemRefusal, addRefusalOf, fits, scanRefusal, countRefusal, becomes, finds, unless, stopsAt, oneMoreAdded, linesAnswered, listAnswered, answer, answerAt, modelAfterAll, modelTrace}
 use Rattle.history.specs.History.{before, blankModel}
 use Rattle.history.proofs.Computing.{performed}
-use Rattle.history.proofs.Running.{by, tag, valued, areas, scratch, adding, removing, herdList, itemLine}
+use Rattle.history.proofs.Running.{by, tag, valued, areas, scratch, adding, removing, listOf, itemLine}
 use Rattle.history.proofs.Imaged.{deadImage}
 
 -- calls in roomy areas, each lent its own; and one in areas of these lengths
@@ -29,7 +29,7 @@ lentOnly rows work entries c =
     }
 
 steps : List Step
-unfolding roomy lentOnly tag valued adding removing deadImage herdList itemLine
+unfolding roomy lentOnly tag valued adding removing deadImage listOf itemLine
 steps =
     roomy (fresh 2 (by 0) ∷ adding 7 (1 ∷ 2 ∷ 3 ∷ 4 ∷ 5 ∷ 4 ∷ []) ++ (lookUp (tag 2) ∷ lookUp (tag 9) ∷ lookUp 9 ∷ []))
     ++ (lentOnly 11 4 2 (range (valued 14) 7)
@@ -41,11 +41,11 @@ steps =
     ∷ [])
     ++ roomy (removing (1 ∷ 1 ∷ 2 ∷ 3 ∷ []) ++ (write ∷ range (valued 14) 99 ∷ fresh 13 (by 0) ∷ load deadImage ∷ load [] ∷ []))
     ++ roomy (nearest (valued 13) 2 ∷ lookUp (tag 4) ∷ remove (tag 3) ∷ adding 7 (8 ∷ []) ++ (range (valued 0) 99 ∷ nearest (valued 90) 2 ∷ []))
-    ++ roomy (remove (tag 1) ∷ readList (herdList (itemLine 5 35 ∷ itemLine 6 42 ∷ itemLine 2 14 ∷ itemLine 7 49 ∷ [])) ∷ range (valued 0) 99 ∷ [])
+    ++ roomy (remove (tag 1) ∷ readList (listOf (itemLine 5 35 ∷ itemLine 6 42 ∷ itemLine 2 14 ∷ itemLine 7 49 ∷ [])) ∷ range (valued 0) 99 ∷ [])
     ++ (lentOnly 0 0 0 (readList [])
-    ∷ lentOnly 0 0 0 (readList (herdList []))
-    ∷ lentOnly 10 4 0 (readList (herdList ((lineFeed ∷ []) ∷ [])))
-    ∷ lentOnly 10 4 0 (readList (herdList (itemLine 7 49 ∷ [])))
+    ∷ lentOnly 0 0 0 (readList (listOf []))
+    ∷ lentOnly 10 4 0 (readList (listOf ((lineFeed ∷ []) ∷ [])))
+    ∷ lentOnly 10 4 0 (readList (listOf (itemLine 7 49 ∷ [])))
     ∷ [])
 
 -- worked out by hand: what each call shows

@@ -12,13 +12,11 @@ use borrow.Author.Tests.{ltb-false, eqb-false}
 use Rattle.metric_rules.specs.declared.Profile.{Profile}
 use Rattle.metric_rules.specs.Lists.{countFrom, total}
 use Rattle.metric_rules.specs.Row.{Row}
-use Rattle.metric_rules.specs.Distance.{distance}
 use Rattle.tree_rules.specs.Guided.{All}
 use Rattle.tree_rules.specs.Layout.{cost}
-use Rattle.tree_rules.proofs.Lists.{Pairs, all-weaken}
-use Rattle.tree_rules.proofs.Layouts.{layout-length}
+use Rattle.tree_rules.proofs.Lists.{Pairs}
 use Rattle.bucket_rules.specs.Geometry.{room, tableRows}
-use Rattle.bucket_rules.specs.Table.{Table, orderOf, tableSpace, builtOf, liveOf, inUse, liveSlots, liveTotal, emptied}
+use Rattle.bucket_rules.specs.Table.{Table, orderOf, builtOf, liveOf, inUse, liveSlots, liveTotal, emptied}
 use Rattle.bucket_rules.specs.Rebuild.{Rebuilt, liveItems, rebuilt}
 use Rattle.bucket_rules.specs.Checks.{sizePasses, sizesPass}
 use Rattle.bucket_rules.specs.Add.{lowestEmpty, gathered, addTarget, added}
@@ -26,11 +24,12 @@ use Rattle.bucket_rules.specs.Remove.{united, thinned, settled}
 use Rattle.bucket_rules.proofs.Views.{same-order, kept-built, kept-live}
 use Rattle.bucket_rules.proofs.Puts.{held-built, held-live, emptied-only, emptied-holds}
 use Rattle.bucket_rules.proofs.ByNumber.{count-apart, length-flatten}
-use Rattle.bucket_rules.proofs.Live.{Roomy, rebuilt-holds, rebuilt-only, rebuilt-empties}
+use Rattle.bucket_rules.proofs.Live.{Roomy, rebuilt-only}
 use Rattle.bucket_rules.proofs.Sizes.{Used, size-cases, size-in-use, sizes-at}
 use Rattle.bucket_rules.proofs.Adding.{Target, lowest-within, lowest-used, add-target, gathered-buckets, not-in-use, in-use}
 use Rattle.bucket_rules.proofs.Removing.{Thin, deep, room-one, room-two, exactly, used}
-use Rattle.history.proofs.Counting.{below, Moved}
+use Rattle.history.proofs.Counting.{below}
+use Rattle.history.proofs.CountingMoved.{built-moved, live-moved}
 use Rattle.history.proofs.CountingCredit.{credit, potential, rebuild-pays, add-credit, same-credit, next-credit, second-credit, alone-credit}
 
 unfoldable pub potentialOf : Table → ℕ
@@ -49,22 +48,6 @@ live-number t ks lives inOrder = length-flatten (liveSlots t) ks ∙ go ks inOrd
 
 -- a rebuild of some rows in bucket g, which is one of those listed or empty
 module _ (t : Table) (roomy : Roomy t) (ks : List ℕ) (inOrder : All (λ k. k ≤ orderOf t) ks) (apart : Pairs (λ i j. i ≡ j → ⊥) ks) (g : ℕ) (reached : g ≤ orderOf t) (rows : List Row) (fits : length rows ≤ room g) (vacant : All (λ j. g ≡ j → ⊥) ks → (builtOf t g ≡ 0) × (liveOf t g ≡ 0)) where
-  built-moved : Moved (orderOf t) ks g (length rows) (builtOf t) (builtOf (rebuilt t ks g rows .table))
-  built-moved =
-      record {
-        here = held-built (rebuilt-holds t roomy ks inOrder g reached rows fits) ∙ layout-length (distance (tableSpace t)) rows;
-        gone = all-weaken (λ j h ne. held-built (h ne)) ks (rebuilt-empties t roomy ks inOrder g reached rows fits);
-        kept = λ j h a. kept-built (rebuilt-only t roomy ks inOrder g reached rows fits .others j h a);
-      }
-
-  live-moved : Moved (orderOf t) ks g (length rows) (liveOf t) (liveOf (rebuilt t ks g rows .table))
-  live-moved =
-      record {
-        here = held-live (rebuilt-holds t roomy ks inOrder g reached rows fits);
-        gone = all-weaken (λ j h ne. held-live (h ne)) ks (rebuilt-empties t roomy ks inOrder g reached rows fits);
-        kept = λ j h a. kept-live (rebuilt-only t roomy ks inOrder g reached rows fits .others j h a);
-      }
-
   pub rebuilt-paid :
       (pay : ℕ) → length rows + 4 * (orderOf t - g) * length rows ≤ total (map (credit (orderOf t) (builtOf t) (liveOf t)) ks) + pay
       → rebuilt t ks g rows .distances + potentialOf (rebuilt t ks g rows .table) ≤ potentialOf t + orderOf t * pay
@@ -73,7 +56,7 @@ module _ (t : Table) (roomy : Roomy t) (ks : List ℕ) (inOrder : All (λ k. k �
       subst
       (λ (o : ℕ). cost (length rows) + potential o (builtOf (rebuilt t ks g rows .table)) (liveOf (rebuilt t ks g rows .table)) ≤ potentialOf t + orderOf t * pay)
       (sym (same-order (rebuilt-only t roomy ks inOrder g reached rows fits .header)))
-      (rebuild-pays inOrder apart reached vacant built-moved live-moved fits pay covered)
+      (rebuild-pays inOrder apart reached vacant (built-moved t (roomy .long) ks inOrder g reached rows) (live-moved t (roomy .long) ks inOrder g reached rows) fits pay covered)
 
 -- sizes that pass, and no live slot
 vacant-sizes :

@@ -28,7 +28,7 @@ oneImage : List ℕ
 unfolding tagBytes recordBytes
 oneImage = (0 ∷ 0 ∷ 0 ∷ 0 ∷ []) ++ (1 ∷ 0 ∷ 1 ∷ 0 ∷ []) ++ tagBytes 1 ++ recordBytes 10 0 0
 
--- the herd with 4 dead
+-- the four items' table with 4 dead
 dead : Table
 unfolding after table removing
 dead = after table (removing (4 ∷ []))

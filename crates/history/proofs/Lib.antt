@@ -11,6 +11,7 @@ pub mod Nationals
 pub mod Alike
 mod Sound
 mod Counting
+mod CountingMoved
 mod CountingCredit
 mod CountingRebuild
 mod CountingCalls
@@ -18,6 +19,8 @@ mod CountingReading
 mod CountingSums
 mod CountingSteps
 mod CountingHistory
+mod ReportingBuilds
+mod Reporting
 mod ImagesFit
 mod ImagesLoaded
 mod ImagesWritten

@@ -14,9 +14,9 @@ use Rattle.history.specs.Calls.{Call, Lent, Reply, Outcome}
 use Rattle.history.specs.Calls.Call.{fresh, load, add, remove, lookUp, range, nearest, write, readList}
 use Rattle.history.specs.Calls.Reply.{number, added, removed, lookedUp, searched, written, listRead}
 use Rattle.history.proofs.Computing.{performed}
-use Rattle.history.proofs.Running.{by, tag, valued, areas, herdList, itemLine, table}
+use Rattle.history.proofs.Running.{by, tag, valued, areas, listOf, itemLine, table}
 
--- the herd's table, written out, so that no try works it out again; and that it is the herd's
+-- the table of the four items, written out, so that no try works it out again; and that it is theirs
 laid : Table
 unfolding rowOf tag valued zeroRow pairRow
 laid =
@@ -24,9 +24,9 @@ laid =
     ++ (rowOf (tag 1) (valued 10) 3 0 ∷ rowOf (tag 2) (valued 13) 0 0 ∷ rowOf (tag 3) (valued 13) 0 0 ∷ rowOf (tag 4) (valued 20) 0 0 ∷ [])
     ++ replicate 10 (replicate 12 6)
 
-herds : table ≡ laid
+table-laid : table ≡ laid
 unfolding table laid
-herds = refl
+table-laid = refl
 
 -- a call with the areas lent to it
 record Try : Type 0 where
@@ -75,7 +75,7 @@ shortWork : Lent
 unfolding laid
 shortWork = record { table = laid; work = replicate 3 (replicate 12 7); result = []; image = [] }
 
--- the herd with another header; other sizes in bucket 2, or a fifth live item in bucket 0; and a mark that is neither 0 nor 1
+-- that table with another header; other sizes in bucket 2, or a fifth live item in bucket 0; and a mark that is neither 0 nor 1
 headed : ℕ → ℕ → Table
 unfolding pairRow laid
 headed order metric = set laid 0 (pairRow order metric)
@@ -89,7 +89,7 @@ unfolding withMark rowAt firstSlot laid
 misMarked = let at = firstSlot 2 2 + 1 in set laid at (withMark 2 (rowAt laid at))
 
 tries : List Try
-unfolding on laid tag valued below shortWork headed sized misMarked herdList itemLine
+unfolding on laid tag valued below shortWork headed sized misMarked listOf itemLine
 tries =
     on laid (add (10 ^ 12) (valued 1_000_001))
     ∷ on laid (add 999_999_999_999 (valued 1_000_001))
@@ -125,14 +125,14 @@ tries =
     ∷ on (sized 2 4 1) (lookUp 0)
     ∷ on (sized 0 1 1) write
     ∷ on misMarked (add 0 below)
-    ∷ on [] (readList (take 21 (herdList [])))
-    ∷ on [] (readList (herdList []))
-    ∷ on [] (readList (herdList (take 39 (itemLine 5 0) ∷ [])))
-    ∷ on [] (readList (herdList (itemLine 5 0 ∷ [])))
-    ∷ on laid (readList (herdList (set (set (itemLine 5 0) 1 48) 2 48 ∷ [])))
-    ∷ on laid (readList (herdList (itemLine 4 1_000_001 ∷ [])))
-    ∷ on laid (readList (herdList (itemLine 4 1_000_000 ∷ [])))
-    ∷ on laid (readList (herdList (itemLine 5 0 ∷ [])))
+    ∷ on [] (readList (take 21 (listOf [])))
+    ∷ on [] (readList (listOf []))
+    ∷ on [] (readList (listOf (take 39 (itemLine 5 0) ∷ [])))
+    ∷ on [] (readList (listOf (itemLine 5 0 ∷ [])))
+    ∷ on laid (readList (listOf (set (set (itemLine 5 0) 1 48) 2 48 ∷ [])))
+    ∷ on laid (readList (listOf (itemLine 4 1_000_001 ∷ [])))
+    ∷ on laid (readList (listOf (itemLine 4 1_000_000 ∷ [])))
+    ∷ on laid (readList (listOf (itemLine 5 0 ∷ [])))
     ∷ []
 
 -- in the order of the tries: the first number that applies

@@ -7,7 +7,7 @@ use Rattle.bucket_rules.specs.Table.{Table}
 use Rattle.history.specs.Calls.Call.{fresh}
 use Rattle.history.proofs.Running.{by, tag, scratch, replies, after, contents, adding, removing, table}
 
--- order 2, the herd less 3 and 4, and then 5 and 6 (values 5 and 6) in bucket 1
+-- order 2, the four items less 3 and 4, and then 5 and 6 (values 5 and 6) in bucket 1
 paired : Table
 unfolding after table adding removing
 paired = after table (removing (4 ∷ 3 ∷ []) ++ adding 1 (5 ∷ 6 ∷ []))

@@ -76,9 +76,9 @@ removing [] = []
 removing (n ∷ ns) = remove (tag n) ∷ removing ns
 
 -- a herd list of some lines; a line of a national with a value in hundredths as its first measure
-unfoldable pub herdList : List (List ℕ) → List ℕ
+unfoldable pub listOf : List (List ℕ) → List ℕ
 unfolding listHeader flatten
-herdList lines = listHeader ++ flatten lines
+listOf lines = listHeader ++ flatten lines
 
 unfoldable pub itemLine : ℕ → ℕ → List ℕ
 unfolding tag digits
@@ -86,11 +86,11 @@ itemLine n v =
     let none : List ℕ = semicolon ∷ digits 1 0 ++ comma ∷ digits 2 0 in
     digits 15 (tag n) ++ semicolon ∷ digits 5 (v / 100) ++ comma ∷ digits 2 (v % 100) ++ none ++ none ++ none ++ lineFeed ∷ []
 
--- 01's herd: order 2, metric 0, nationals 1 to 4 with 10, 13, 13, 20
-unfoldable pub herd : List Call
+-- 01's four items: order 2, metric 0, nationals 1 to 4 with 10, 13, 13, 20
+unfoldable pub fourItems : List Call
 unfolding tag valued
-herd = fresh 2 (by 0) ∷ add (tag 1) (valued 10) ∷ add (tag 2) (valued 13) ∷ add (tag 3) (valued 13) ∷ add (tag 4) (valued 20) ∷ []
+fourItems = fresh 2 (by 0) ∷ add (tag 1) (valued 10) ∷ add (tag 2) (valued 13) ∷ add (tag 3) (valued 13) ∷ add (tag 4) (valued 20) ∷ []
 
 unfoldable pub table : Table
-unfolding after scratch herd
-table = after scratch herd
+unfolding after scratch fourItems
+table = after scratch fourItems

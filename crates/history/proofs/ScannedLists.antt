@@ -1,11 +1,11 @@
 -- Lists under a scan: selecting, flattening and what they permute, for lists of anything.
 -- Where a number occurs once among the elements, at most one is selected by it, and a permutation of at most one element is the same list.
-use Prim.Native.Nat.{ℕ, _≤_}
+use Prim.Native.Nat.{ℕ, zero, suc, _≤_}
 use mathlib.Core.Path.{_≡_, refl, sym, _∙_, ap, ap₂, subst}
 use mathlib.Core.Bool.{Bool, true, false, not, _&&_}
 use mathlib.Core.List.{List, [], _∷_, map, flatten, List·Permᴰ, List·Permᴰ·nil, List·Permᴰ·cons, List·Permᴰ·swap, List·Permᴰ·trans, List·Permᴰ·append-comm, Permᴰ·refl, Permᴰ·append-right, append-assoc}
 use lib.Dec.{eqb}
-use lib.ListN.{length}
+use lib.ListN.{length, set}
 use native.Mathlib.Omega.{arith}
 use borrow.Author.Tests.{eqb-true, not-true}
 use Rattle.metric_rules.specs.Lists.{select, every, distinct}
@@ -63,6 +63,29 @@ module _ {A : Type 0} (test : A → Bool) where
       subst (λ (z : A). List·Permᴰ (select test (a ∷ b ∷ l)) (select test (a′ ∷ z ∷ l))) e
       (subst (λ (z : A). List·Permᴰ (select test (a ∷ b ∷ l)) (select test (z ∷ a ∷ l))) f (select-swap a b l))
   select-perm (List·Permᴰ·trans p q) = List·Permᴰ·trans (select-perm p) (select-perm q)
+
+  -- one element set takes at most one away
+  pub select-set : (xs : List A) (i : ℕ) (a : A) → length (select test xs) ≤ suc (length (select test (set xs i a)))
+  unfolding select
+  select-set [] i a = omega arith
+  select-set (x ∷ xs) zero a = go (test x) (test a)
+    where
+      go :
+          (b c : Bool)
+          → length {A = A} (elim b [ true ↦ x ∷ select test xs | false ↦ select test xs ])
+          ≤ suc (length {A = A} (elim c [ true ↦ a ∷ select test xs | false ↦ select test xs ]))
+      go true true = omega arith
+      go true false = omega arith
+      go false true = omega arith
+      go false false = omega arith
+  select-set (x ∷ xs) (suc i) a = go (test x) (select-set xs i a)
+    where
+      go :
+          (b : Bool) → length (select test xs) ≤ suc (length (select test (set xs i a)))
+          → length {A = A} (elim b [ true ↦ x ∷ select test xs | false ↦ select test xs ])
+          ≤ suc (length {A = A} (elim b [ true ↦ x ∷ select test (set xs i a) | false ↦ select test (set xs i a) ]))
+      go true h = omega (arith, h)
+      go false h = h
 
   -- one test after another is both
   pub select-both : (first : A → Bool) (xs : List A) → select test (select first xs) ≡ select (λ x. first x && test x) xs

@@ -21,7 +21,7 @@ four a va b vb c vc d vd =
     after scratch
     (fresh 2 (by 0) ∷ add (tag a) (valued va) ∷ add (tag b) (valued vb) ∷ add (tag c) (valued vc) ∷ add (tag d) (valued vd) ∷ [])
 
--- the herd with another threshold in the first slot, or another mark in the second
+-- the four items' table with another threshold in the first slot, or another mark in the second
 foreign : (Row → Row) → ℕ → Table
 unfolding rowAt firstSlot table
 foreign f i = let at = firstSlot 2 2 + i in set table at (f (rowAt table at))

@@ -5,10 +5,10 @@ use mathlib.Core.List.{List, [], _∷_, _++_, map}
 use Rattle.bucket_rules.specs.Table.{Table, builtOf, liveOf}
 use Rattle.tree_rules.specs.Layout.{cost}
 use Rattle.history.specs.Calls.Call.{fresh, add, remove, range, nearest}
-use Rattle.history.proofs.Running.{by, tag, valued, scratch, replies, after, contents, adding, removing, herd, table}
+use Rattle.history.proofs.Running.{by, tag, valued, scratch, replies, after, contents, adding, removing, fourItems, table}
 
 -- a table of order 3 with live sizes 1, 1, 2, 3
-unfoldable pub thin : Table
+thin : Table
 unfolding after scratch adding removing
 thin =
     after scratch
@@ -22,9 +22,9 @@ thin =
     ++ adding 5 (15 ∷ []))
 
 lines : List (List (List ℕ))
-unfolding replies after contents scratch herd table tag valued adding removing thin cost builtOf liveOf
+unfolding replies after contents scratch fourItems table tag valued adding removing thin cost builtOf liveOf
 lines =
-    replies scratch herd
+    replies scratch fourItems
     ∷ contents table 2
     ∷ replies table (add (tag 5) (valued 11) ∷ add (tag 4) (valued 20) ∷ [])
     ∷ replies table (range (valued 13) 0 ∷ range (valued 30) 5 ∷ nearest (valued 13) 1 ∷ nearest (valued 30) 1 ∷ [])
@@ -34,6 +34,7 @@ lines =
     ∷ contents (after table (remove (tag 4) ∷ add (tag 5) (valued 11) ∷ removing (3 ∷ 2 ∷ []))) 1
     ∷ map (λ k. builtOf thin k ∷ liveOf thin k ∷ []) (0 ∷ 1 ∷ 2 ∷ 3 ∷ [])
     ∷ replies thin (adding 5 (16 ∷ []))
+    ∷ (let u = after thin (adding 5 (16 ∷ [])) in map (λ k. builtOf u k ∷ liveOf u k ∷ []) (0 ∷ 1 ∷ 2 ∷ 3 ∷ []))
     ∷ ((cost 4 ∷ cost 8 ∷ []) ∷ [])
     ∷ []
 
@@ -58,6 +59,8 @@ starred :
     -- order 3, live sizes 1, 1, 2, 3 (built 1, 2, 4, 8): an add builds 8 in bucket 3, report 13
     ∷ ((1 ∷ 1 ∷ []) ∷ (2 ∷ 1 ∷ []) ∷ (4 ∷ 2 ∷ []) ∷ (8 ∷ 3 ∷ []) ∷ [])
     ∷ ((0 ∷ 3 ∷ 13 ∷ []) ∷ [])
+    -- and after it 8 are built and live in bucket 3, none elsewhere
+    ∷ ((0 ∷ 0 ∷ []) ∷ (0 ∷ 0 ∷ []) ∷ (0 ∷ 0 ∷ []) ∷ (8 ∷ 8 ∷ []) ∷ [])
     -- c(4) and c(8)
     ∷ ((4 ∷ 13 ∷ []) ∷ [])
     ∷ [])

@@ -1,13 +1,17 @@
--- The demands of `specs/Demands`, proved for every list of calls and every image. Nothing is assumed.
-use Rattle.history.specs.Demands.{EveryList, WrittenLoads}
+-- The demands of `specs/Demands`, proved for every list of calls, every lent area and every image. Nothing is assumed.
+use Rattle.history.specs.Demands.{EveryList, EveryReport, WrittenLoads}
 use Rattle.history.proofs.Changing.{changes}
 use Rattle.history.proofs.ScannedHistory.{history-traces, history-matches, history-represents}
 use Rattle.history.proofs.CountingHistory.{history-bound}
+use Rattle.history.proofs.Reporting.{reports}
 use Rattle.history.proofs.ImagesHistory.{written-loads-where}
 pub use Rattle.history.proofs.ImagesBack.{accepted-gives-back}
 
 pub every-list : EveryList
 every-list h = record { traces = history-traces changes h; represents = history-represents changes h; bound = history-bound changes h }
+
+pub every-report : EveryReport
+every-report lent = reports (lent .table) (lent .work)
 
 pub written-loads : WrittenLoads
 written-loads = written-loads-where (history-matches changes)

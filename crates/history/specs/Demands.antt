@@ -17,13 +17,21 @@ use Rattle.history.specs.Calls.Reply.{number}
 use Rattle.history.specs.History.{History, finalState, finalModel}
 use Rattle.history.specs.Images.{imageSize, LoadsBack, GivesBack}
 use Rattle.history.specs.Represents.{Holds}
+use Rattle.history.specs.Reports.{ReportsBuilds}
 
 -- Demands 2 and 3, one claim over every list of calls on one table, refused ones and herd lists read too, that an accepted fresh or load began (`History`):
--- at each call table and reference model show the same; after the list the buckets and trees are those of the published method, they hold the model's items,
--- range and nearest answer as a scan of them, and all rebuilds together keep within 4·T·(T+1)·A + 11·T·R distances.
+-- at each call table and reference model show the same; after the list the table is a valid one of the published method (which buckets a call builds is
+-- settled by the definitions that `areasAfter` joins), it holds the model's items, range and nearest answer as a scan of them, and all rebuilds together
+-- keep within 4·T·(T+1)·A + 11·T·R distances.
 -- Theorem: `every-list`
 abbrev pub EveryList : Type 0
 EveryList = (h : History) → Holds h
+
+-- Demand 3, the numbers that are added up: whatever they are lent, accepted or refused, add and remove report c(n) for the n items that they built, and
+-- 0 where they built none. The reading of a herd list reports the sum of its adds' by definition (`reading`).
+-- Theorem: `every-report`
+abbrev pub EveryReport : Type 0
+EveryReport = (lent : Lent) → ReportsBuilds (lent .table) (lent .work)
 
 -- Demand 2, images. After every such list, writing is accepted wherever table area and byte area are long enough, and what it wrote loads, into any
 -- table area that is long enough, as the table it came from.

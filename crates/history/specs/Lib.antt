@@ -4,4 +4,5 @@ pub mod Model
 pub mod History
 pub mod Images
 pub mod Represents
+pub mod Reports
 pub mod Demands

@@ -1,0 +1,260 @@
+-- What add and remove report, of whatever they are lent: c(n) for the n items that they built. By the sizes alone, for they are read and written whatever
+-- the slots hold: a row too short to be marked dead is gathered again, and a rebuild may then be of more rows than its bucket has room for.
+use Prim.Native.Nat.{ℕ, zero, suc, _+_, _-_, _*_, _≤_, _<_}
+use native.Mathlib.Omega.{arith}
+use native.Mathlib.Decide.{ℕ-discrete}
+use mathlib.Core.Path.{_≡_, refl, _∙_, ap}
+use mathlib.Core.Bool.{Bool, true, false}
+use mathlib.Core.Logic.{inl, inr}
+use mathlib.Core.List.{List, [], _∷_, flatten}
+use mathlib.Core.Option.{Option, none, some}
+use lib.Dec.{ltb, eqb}
+use lib.ListN.{length, length-append}
+use borrow.Author.Tests.{ltb-true, ltb-false, eqb-false}
+use Rattle.metric_rules.specs.declared.Profile.{Profile}
+use Rattle.metric_rules.specs.Lists.{countFrom, select}
+use Rattle.metric_rules.specs.Row.{Row, isLive, withMark}
+use Rattle.tree_rules.specs.Guided.{All}
+use Rattle.tree_rules.proofs.Lists.{all-weaken}
+use Rattle.bucket_rules.specs.declared.Added.{Added}
+use Rattle.bucket_rules.specs.declared.Removed.{Removed}
+use Rattle.bucket_rules.specs.Geometry.{room, tableRows}
+use Rattle.bucket_rules.specs.Table.{Table, orderOf, builtOf, liveOf, inUse, slotsOf, liveSlots, emptied}
+use Rattle.bucket_rules.specs.Rebuild.{Rebuilt, liveItems}
+use Rattle.bucket_rules.specs.Checks.{changeRefusal}
+use Rattle.bucket_rules.specs.LookUp.{Place, find}
+use Rattle.bucket_rules.specs.Add.{addRefusal, lowestEmpty, gathered, addTarget, added, addReply, tableAfterAdd}
+use Rattle.bucket_rules.specs.Remove.{removeRefusal, marked, united, thinned, settled, removed, removeReply, tableAfterRemove}
+use Rattle.bucket_rules.proofs.Views.{Only, only-own, only-fewer, same-order, kept-built, kept-live, kept-live-slots}
+use Rattle.bucket_rules.proofs.Puts.{held-built, apart-or, emptied-only, emptied-holds}
+use Rattle.bucket_rules.proofs.Passing.{bucket-within}
+use Rattle.bucket_rules.proofs.Changes.{marked-only, marked-built, marked-live, marked-slots}
+use Rattle.bucket_rules.proofs.Live.{slots-length}
+use Rattle.bucket_rules.proofs.Finding.{Found, found}
+use Rattle.bucket_rules.proofs.Sizes.{Used, size-in-use, sizes-at, room-zero, room-positive}
+use Rattle.bucket_rules.proofs.Adding.{Target, gathered-buckets, not-in-use}
+use Rattle.bucket_rules.proofs.Fill.{Changeable, changeable, add-accepted, add-fits}
+use Rattle.history.specs.Reports.{builtIn, buildCost, ReportsBuilds}
+use Rattle.history.proofs.ScannedLists.{select-set}
+use Rattle.history.proofs.ReportingBuilds.{dead-not-built, kept-not-built, none-built, no-build, kept-reports, rebuild-reports}
+
+-- of the live items of some buckets each bucket has a part
+parts : (t : Table) (ks : List ℕ) → All (λ j. length (liveSlots t j) ≤ length (liveItems t ks)) ks
+unfolding liveItems flatten
+parts t [] = tt
+parts t (k ∷ ks) =
+    let sum = length-append (liveSlots t k) (liveItems t ks) in
+    (omega (arith, sum), all-weaken (λ j h. omega (arith, sum, h)) ks (parts t ks))
+
+-- an accepted add
+module _ (t : Table) (work : List Row) (tag : ℕ) (p : Profile) (accepted : addRefusal t work tag p ≡ 0) where
+  allowed : Changeable work t
+  allowed = changeable work t (add-accepted t work tag p accepted .0)
+
+  target : Target t (countFrom 0 (lowestEmpty t)) (addTarget t tag p) (length (gathered t tag p))
+  target = add-fits t work tag p accepted
+
+  -- the new item is one more than any of the buckets gathered had
+  one-more : liveOf t (addTarget t tag p) < length (gathered t tag p)
+  unfolding gathered
+  one-more =
+      let ks : List ℕ = countFrom 0 (lowestEmpty t) in
+      let lives = allowed .lives (addTarget t tag p) (target .reached) in
+      elim (apart-or (λ j. length (liveSlots t j) ≤ length (liveItems t ks)) (addTarget t tag p) ks (parts t ks)) [
+        | inl a ↦ omega (arith, lives, ap length (target .vacant a))
+        | inr part ↦ omega (arith, lives, part)
+      ]
+
+  added-reports : added t tag p .distances ≡ buildCost t (added t tag p .table)
+  unfolding added
+  added-reports = rebuild-reports (countFrom 0 (lowestEmpty t)) only-own (allowed .passed .framed .long) (gathered-buckets t) (addTarget t tag p) (target .reached) (gathered t tag p) one-more
+
+-- an item found, and its slot marked dead
+module _ {work : List Row} {t : Table} (c : Changeable work t) (tag : ℕ) (place : Place) (here : find t tag ≡ some place) where
+  abbrev k : ℕ
+  k = place .bucket
+
+  abbrev v : Table
+  v = marked t place
+
+  at : Found t tag place
+  at = found t tag place here
+
+  long : tableRows (orderOf t) ≤ length t
+  long = c .passed .framed .long
+
+  within : (j : ℕ) → j ≤ orderOf t → (liveOf t j ≤ builtOf t j) × (builtOf t j ≤ room j)
+  within = bucket-within (c .passed)
+
+  slot-built : place .slot < builtOf t k
+  slot-built = omega (arith, at .within, slots-length (record { long = long; within = λ j h. within j h .1 }) k (at .inOrder))
+
+  slot-room : place .slot < room k
+  slot-room = omega (arith, slot-built, within k (at .inOrder) .1)
+
+  used : Used k (builtOf t k) (liveOf t k)
+  used =
+      size-in-use k (builtOf t k) (liveOf t k) (sizes-at (orderOf t) (builtOf t) (liveOf t) (c .passed .sizes) k (at .inOrder))
+      (λ e. absurd (omega (arith, e, slot-built)))
+
+  only : Only (λ j. j ≡ k → ⊥) t v
+  only = marked-only t place (at .inOrder) long slot-room
+
+  built-same : builtOf v k ≡ builtOf t k
+  built-same = marked-built t place (at .inOrder) long slot-room
+
+  one-less : liveOf t k ≡ suc (liveOf v k)
+  one-less = omega (arith, marked-live t place (at .inOrder) long slot-room, used .quarter)
+
+  -- the bucket still has as many live slots as its live size says, and more only where a row is too short to be marked
+  enough : liveOf v k ≤ length (liveSlots v k)
+  unfolding liveSlots
+  enough =
+      omega (
+        arith,
+        one-less,
+        c .lives k (at .inOrder),
+        select-set isLive (slotsOf t k) (place .slot) (withMark 1 (place .row)),
+        ap (λ (rs : List Row). length (select isLive rs)) (marked-slots t place (at .inOrder) long slot-room slot-built (within k (at .inOrder) .1)),
+      )
+
+  left-reports : 0 ≡ buildCost t v
+  left-reports =
+      no-build t v
+      (λ j h. elim (ℕ-discrete j k) [
+        | yes e ↦ ap (builtIn t v) e ∙ dead-not-built t v k (omega (arith, built-same, one-less, used .live-built))
+        | no ne ↦ kept-not-built t v j (kept-built (only .others j h ne)) (kept-live (only .others j h ne))
+      ])
+
+  emptied-reports : 0 ≡ buildCost t (emptied (k ∷ []) v)
+  emptied-reports =
+      let order : orderOf v ≡ orderOf t = same-order (only .header) in
+      let long′ : tableRows (orderOf v) ≤ length v = rw order (omega (arith, long, only .long)) in
+      let inOrder : All (λ j. j ≤ orderOf v) (k ∷ []) = (rw order (at .inOrder), tt) in
+      let u : Table = emptied (k ∷ []) v in
+      no-build t u
+      (λ j h. elim (ℕ-discrete j k) [
+        | yes e ↦ ap (builtIn t u) e ∙ none-built t u k (held-built (emptied-holds (k ∷ []) v inOrder long′ .0))
+        | no ne ↦
+            (let last = emptied-only (k ∷ []) v inOrder long′ .others j (rw order h) (ne, tt) in
+            let first = only .others j h ne in
+            kept-not-built t u j (kept-built last ∙ kept-built first) (kept-live last ∙ kept-live first))
+      ])
+
+  -- too thin: its items and those of other buckets are more than the bucket built had
+  module _ (some-left : 0 < liveOf v k) (thin : 4 * liveOf v k ≤ room k) where
+    positive : 0 < k
+    positive = elim (ℕ-discrete k 0) [ yes e ↦ absurd (omega (arith, some-left, thin, ap room e ∙ room-zero)) | no ne ↦ omega (arith, ne) ]
+
+    united-reports :
+        (rest : List ℕ) → All (λ j. j ≤ orderOf t) rest → (g : ℕ) → g ≤ orderOf t → liveOf t g < length (liveItems v (k ∷ rest))
+        → united v (k ∷ rest) g .distances ≡ buildCost t (united v (k ∷ rest) g .table)
+    unfolding united
+    united-reports rest inOrder g reached more =
+        rebuild-reports (k ∷ rest) (only-fewer (λ j a. a .0) only) long (at .inOrder, inOrder) g reached (liveItems v (k ∷ rest)) more
+
+    -- with the items of the next lower bucket
+    pair-number : liveOf v k + liveOf t (k - 1) ≤ length (liveItems v (k ∷ (k - 1) ∷ []))
+    unfolding liveItems flatten
+    pair-number =
+        let low : k - 1 ≤ orderOf t = omega (arith, at .inOrder) in
+        omega (
+          arith,
+          enough,
+          length-append (liveSlots v k) (liveItems v ((k - 1) ∷ [])),
+          length-append (liveSlots v (k - 1)) [],
+          ap length (kept-live-slots (only .others (k - 1) low (λ e. absurd (omega (arith, e, positive)))) (within (k - 1) low .1)),
+          c .lives (k - 1) low,
+        )
+
+    -- in a bucket that was empty
+    vacant-more : (rest : List ℕ) (j : ℕ) → j < k → inUse v j ≡ false → liveOf t j < length (liveItems v (k ∷ rest))
+    vacant-more rest j low e =
+        let inOrder : j ≤ orderOf t = omega (arith, low, at .inOrder) in
+        omega (
+          arith,
+          some-left,
+          enough,
+          parts v (k ∷ rest) .0,
+          not-in-use v j e,
+          kept-built (only .others j inOrder (λ q. absurd (omega (arith, q, low)))),
+          within j inOrder .0,
+        )
+
+    thinned-reports : thinned v k .distances ≡ buildCost t (thinned v k .table)
+    unfolding thinned
+    thinned-reports = go (inUse v (k - 1)) refl (ltb (room (k - 2)) (liveOf v (k - 1))) refl (inUse v (k - 2)) refl
+      where
+        result : Bool → Bool → Bool → Rebuilt
+        result a b d =
+            elim a [
+              | true ↦ united v (k ∷ (k - 1) ∷ []) (elim b [ true ↦ k | false ↦ k - 1 ])
+              | false ↦ elim d [ true ↦ united v (k ∷ (k - 2) ∷ []) (k - 1) | false ↦ united v (k ∷ []) (k - 2) ]
+            ]
+
+        one : All (λ j. j ≤ orderOf t) ((k - 1) ∷ [])
+        one = (omega (arith, at .inOrder), tt)
+
+        go :
+            (a : Bool) → inUse v (k - 1) ≡ a → (b : Bool) → ltb (room (k - 2)) (liveOf v (k - 1)) ≡ b → (d : Bool) → inUse v (k - 2) ≡ d
+            → result a b d .distances ≡ buildCost t (result a b d .table)
+        go true e true f d q =
+            let same : liveOf v (k - 1) ≡ liveOf t (k - 1) = kept-live (only .others (k - 1) (one .0) (λ z. absurd (omega (arith, z, positive)))) in
+            united-reports ((k - 1) ∷ []) one k (at .inOrder)
+            (omega (arith, pair-number, one-less, same, ltb-true (room (k - 2)) (liveOf v (k - 1)) f, room-positive (k - 2)))
+        go true e false f d q = united-reports ((k - 1) ∷ []) one (k - 1) (one .0) (omega (arith, pair-number, some-left))
+        go false e b f true q =
+            united-reports ((k - 2) ∷ []) (omega (arith, at .inOrder), tt) (k - 1) (one .0) (vacant-more ((k - 2) ∷ []) (k - 1) (omega (arith, positive)) e)
+        go false e b f false q = united-reports [] tt (k - 2) (omega (arith, at .inOrder)) (vacant-more [] (k - 2) (omega (arith, positive)) q)
+
+  settled-reports : settled v k .distances ≡ buildCost t (settled v k .table)
+  unfolding settled
+  settled-reports = go (eqb (liveOf v k) 0) refl (ltb (room k) (4 * liveOf v k)) refl
+    where
+      result : Bool → Bool → Rebuilt
+      result a b =
+          elim a [
+            | true ↦ record { table = emptied (k ∷ []) v; distances = 0 }
+            | false ↦ elim b [ true ↦ record { table = v; distances = 0 } | false ↦ thinned v k ]
+          ]
+
+      go :
+          (a : Bool) → eqb (liveOf v k) 0 ≡ a → (b : Bool) → ltb (room k) (4 * liveOf v k) ≡ b → result a b .distances ≡ buildCost t (result a b .table)
+      go true e b f = emptied-reports
+      go false e true f = left-reports
+      go false e false f = thinned-reports (omega (arith, eqb-false (liveOf v k) 0 e)) (ltb-false (room k) (4 * liveOf v k) f)
+
+-- an accepted removal
+first-zero : (n rest : ℕ) → _≡_ {A = ℕ} (elim n [ suc m ↦ suc m | zero ↦ rest ]) 0 → n ≡ 0
+first-zero zero rest e = refl
+first-zero (suc n) rest e = absurd (omega arith)
+
+removed-reports : (t : Table) (work : List Row) (tag : ℕ) → removeRefusal t work tag ≡ 0 → removed t tag .distances ≡ buildCost t (removed t tag .table)
+unfolding removed removeRefusal
+removed-reports t work tag accepted = go (find t tag) refl
+  where
+    result : Option Place → Rebuilt
+    result o = elim o [ some place ↦ settled (marked t place) (place .bucket) | none ↦ record { table = t; distances = 0 } ]
+
+    go : (o : Option Place) → find t tag ≡ o → result o .distances ≡ buildCost t (result o .table)
+    go (some place) e = settled-reports (changeable work t (first-zero (changeRefusal work t) _ accepted)) tag place e
+    go none e = kept-reports t
+
+pub reports : (t : Table) (work : List Row) → ReportsBuilds t work
+unfolding addReply tableAfterAdd removeReply tableAfterRemove
+reports t work = record { adds = λ tag p. adds tag p (addRefusal t work tag p) refl; removes = λ tag. removes tag (removeRefusal t work tag) refl }
+  where
+    adds : (tag : ℕ) (p : Profile) (n : ℕ) → addRefusal t work tag p ≡ n
+        → (elim n as (λ _. Added) [
+          | zero ↦ record { refusal = 0; bucket = addTarget t tag p; distances = added t tag p .distances }
+          | suc j ↦ record { refusal = suc j; bucket = 0; distances = 0 }
+        ]) .distances
+        ≡ buildCost t (elim n as (λ _. Table) [ zero ↦ added t tag p .table | suc j ↦ t ])
+    adds tag p zero e = added-reports t work tag p e
+    adds tag p (suc n) e = kept-reports t
+
+    removes : (tag n : ℕ) → removeRefusal t work tag ≡ n
+        → (elim n as (λ _. Removed) [ zero ↦ record { refusal = 0; distances = removed t tag .distances } | suc j ↦ record { refusal = suc j; distances = 0 } ]) .distances
+        ≡ buildCost t (elim n as (λ _. Table) [ zero ↦ removed t tag .table | suc j ↦ t ])
+    removes tag zero e = removed-reports t work tag e
+    removes tag (suc n) e = kept-reports t
