@@ -15,7 +15,7 @@ use Rattle.nearest_few.specs.Nearby.{Leaves}
 use Rattle.nearest_few.proofs.NearSteps.{Sound, held, not-held, numbers, front}
 use Rattle.bucket_rules.specs.declared.Searched.{Searched}
 use Rattle.bucket_rules.specs.Refusals.{badMeasure, noneAsked, resultShort}
-use Rattle.bucket_rules.specs.Geometry.{headerRow}
+use Rattle.bucket_rules.specs.Geometry.{room, headerRow}
 use Rattle.bucket_rules.specs.Table.{Table, rowAt, orderOf}
 use Rattle.bucket_rules.specs.Checks.{readRefusal}
 use Rattle.bucket_rules.specs.Passed.{Passed}
@@ -50,7 +50,7 @@ module _ (t : Table) (area : List Entry) (query : Profile) (k : ℕ) where
 
     -- its numbers fit the reply
     pub fits : Passed t → IsProfile query → k < 2 ^ 32 → near .over ≡ false → (near .kept ≤ length mid) × (near .kept < 2 ^ 32) × (near .count < 2 ^ 32)
-    unfolding ordered sortBy
+    unfolding ordered sortBy room
     fits p is few e =
         let sound : Sound k (mostSlots * suc (orderOf t)) noneKept (nearestTally t query k) =
         subst (Sound k (mostSlots * suc (orderOf t)) noneKept) (tally-all t query k is)

@@ -17,7 +17,7 @@ use Rattle.nearest_few.specs.declared.Nearby.{Nearby}
 use Rattle.nearest_few.specs.Nearby.{tallyOf, Ready, Leaves}
 use Rattle.nearest_few.proofs.Nearing.{leaves-as}
 use Rattle.nearest_few.proofs.NearSteps.{Sound, sound-then, sound-tree, ready-less, leaves-same, both-stop, second-ready, both-leave}
-use Rattle.bucket_rules.specs.Geometry.{bucketsOf, headerRow}
+use Rattle.bucket_rules.specs.Geometry.{room, bucketsOf, headerRow}
 use Rattle.bucket_rules.specs.Table.{Table, rowAt, orderOf, tableSpace, slotsOf}
 use Rattle.bucket_rules.specs.Search.{bucketsDown, nearestTally}
 use Rattle.bucket_rules.specs.Passed.{Passed}
@@ -57,6 +57,7 @@ module _ (header query : Row) (k : ℕ) (t : Table) where
 
   -- a bucket can start
   pub bucket-ready : {m n : ℕ} {whole : Tally} {start area : List Entry} {near : Nearby} → m ≡ suc n → Awaits m whole start area near → Ready k mostSlots area near
+  unfolding room
   bucket-ready e a = ready-less (omega (arith, e)) (a .ready)
 
   -- none is to come
@@ -67,12 +68,13 @@ module _ (header query : Row) (k : ℕ) (t : Table) where
 
   module _ (p : Passed t) where
     sound-bucket : (b : ℕ) → b ≤ orderOf t → (u : Tally) → ordered (u .kept) ≡ u .kept → length (u .kept) ≤ k → Sound k mostSlots u (bucketTally header query k t b u)
-    unfolding bucketTally
+    unfolding bucketTally room
     sound-bucket b h u e few =
         let s = sound-tree (distance (spaceOf header)) (profileOf query) isLive k (slotsOf t b) u e few in
         record { in-order = s .in-order; few = s .few; grows = s .grows; most = omega (arith, s .most, few-slots p b h) }
 
     pub sound-below : (n : ℕ) → n ≤ suc (orderOf t) → (u : Tally) → ordered (u .kept) ≡ u .kept → length (u .kept) ≤ k → Sound k (mostSlots * n) u (tallyBelow header query k t n u)
+    unfolding room
     sound-below zero h u e few =
         subst (Sound k 0 u) (sym (tally-none u)) (record { in-order = e; few = few; grows = omega arith; most = omega arith })
     sound-below (suc n) h u e few =
@@ -84,6 +86,7 @@ module _ (header query : Row) (k : ℕ) (t : Table) where
 
     -- all are to come
     pub awaits-all : (n m : ℕ) → n ≡ m → n ≤ suc (orderOf t) → (area : List Entry) → Awaits n (tallyBelow header query k t m noneKept) area area (record { kept = 0; count = 0; over = false })
+    unfolding room
     awaits-all n m e h area =
         record {
           least = h;
@@ -95,6 +98,7 @@ module _ (header query : Row) (k : ℕ) (t : Table) where
     module _ {m n : ℕ} {whole : Tally} {start area : List Entry} {near : Nearby} (e : m ≡ suc n) (a : Awaits m whole start area near) (mid : List Entry) (r : Nearby)
         (l : Leaves (bucketTally header query k t n (tallyOf area near)) area mid r) where
       both-ready : Ready k (mostSlots + mostSlots * n) area near
+      unfolding room
       both-ready = ready-less (omega (arith, e)) (a .ready)
 
       in-table : n ≤ orderOf t

@@ -5,6 +5,7 @@ use Rattle.metric_rules.specs.Lists.{countFrom}
 use Rattle.metric_rules.specs.Row.{Row, profileOf, isLive}
 use Rattle.metric_rules.specs.Distance.{distance, spaceOf}
 use Rattle.search_rules.specs.Nearest.{Tally, nearestTree}
+use Rattle.bucket_rules.specs.Geometry.{mostOrder, room}
 use Rattle.bucket_rules.specs.Table.{Table, slotsOf}
 
 -- what a search starts from
@@ -13,7 +14,7 @@ noneKept = record { kept = []; count = 0 }
 
 -- no bucket has more slots
 abbrev pub mostSlots : ℕ
-mostSlots = 4096
+mostSlots = room mostOrder
 
 module _ (header query : Row) (k : ℕ) (t : Table) where
   -- bucket b's turn

@@ -11,10 +11,10 @@ use Rattle.metric_rules.specs.Distance.{distance}
 use Rattle.metric_rules.proofs.Codec.{profile-of-row, threshold-of-row}
 use Rattle.tree_rules.specs.Guided.{All}
 use Rattle.tree_rules.proofs.Lists.{all-append}
-use Rattle.search_rules.specs.declared.Found.{Found}
+use Rattle.range.specs.declared.Found.{Found}
 use Rattle.search_rules.specs.Range.{Entry, Pair, Met, nothing, both, rangeTree}
-use Rattle.search_rules.specs.Asked.{distanceAsked, queryAsked, radiusAsked, rangeAsked}
-use Rattle.search_rules.specs.Collected.{foundAfter, collected}
+use Rattle.range.specs.Asked.{distanceAsked, queryAsked, radiusAsked, rangeAsked}
+use Rattle.range.specs.Collected.{foundAfter, collected}
 use Rattle.search_rules.proofs.RangeLaws.{range-pairs, range-count-le, range-hits-le}
 use Rattle.range.proofs.Collecting.{two-turns, found-nothing, collected-nothing}
 use Rattle.bucket_rules.specs.Geometry.{bucketsOf}

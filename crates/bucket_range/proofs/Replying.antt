@@ -12,9 +12,9 @@ use Rattle.metric_rules.specs.Validity.{validMeasures}
 use Rattle.tree_rules.specs.Guided.{All}
 use Rattle.tree_rules.proofs.Sorting.{sort-perm}
 use Rattle.tree_rules.proofs.Lists.{perm-length}
-use Rattle.search_rules.specs.declared.Found.{Found}
+use Rattle.range.specs.declared.Found.{Found}
 use Rattle.search_rules.specs.Range.{Entry, Pair, Met, entryKey, ordered}
-use Rattle.search_rules.specs.Collected.{foundAfter, collected}
+use Rattle.range.specs.Collected.{foundAfter, collected}
 use Rattle.range.proofs.Collecting.{collected-front, collected-length}
 use Rattle.bucket_rules.specs.declared.Searched.{Searched}
 use Rattle.bucket_rules.specs.Refusals.{badMeasure, resultShort}

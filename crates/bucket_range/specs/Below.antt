@@ -4,9 +4,9 @@ use mathlib.Core.List.{List, [], _∷_, foldr, reverse}
 use Rattle.metric_rules.specs.declared.Profile.{Profile}
 use Rattle.metric_rules.specs.Lists.{countFrom}
 use Rattle.metric_rules.specs.Row.{Row, rowOf}
-use Rattle.search_rules.specs.declared.Found.{Found}
+use Rattle.range.specs.declared.Found.{Found}
 use Rattle.search_rules.specs.Range.{Met, nothing, both}
-use Rattle.search_rules.specs.Asked.{rangeAsked}
+use Rattle.range.specs.Asked.{rangeAsked}
 use Rattle.bucket_rules.specs.Geometry.{headerRow}
 use Rattle.bucket_rules.specs.Table.{Table, rowAt, slotsOf}
 

@@ -13,18 +13,18 @@ use Rattle.metric_rules.specs.Lists.{countFrom, every}
 use Rattle.tree_rules.proofs.Tests.{and-first, and-second}
 use Rattle.bucket_rules.specs.Geometry.{leastOrder, mostOrder, validOrder, bucketsOf}
 
-pub order-valid : (n : ℕ) → n ≤ 12 → validOrder n ≡ true
-unfolding validOrder leastOrder mostOrder
-order-valid n h = rw (le-leb 0 n (omega arith)) (le-leb n 12 h)
+pub order-valid : (n : ℕ) → n ≤ mostOrder → validOrder n ≡ true
+unfolding validOrder
+order-valid n h = rw (le-leb leastOrder n (omega arith)) (le-leb n mostOrder h)
 
-pub order-above : (n : ℕ) → 12 < n → validOrder n ≡ false
-unfolding validOrder leastOrder mostOrder
-order-above n h = rw (le-leb 0 n (omega arith)) (lt-leb n 12 h)
+pub order-above : (n : ℕ) → mostOrder < n → validOrder n ≡ false
+unfolding validOrder
+order-above n h = rw (le-leb leastOrder n (omega arith)) (lt-leb n mostOrder h)
 
 -- an order is at most 12
-pub order-most : (n : ℕ) → validOrder n ≡ true → n ≤ 12
-unfolding validOrder mostOrder
-order-most n e = leb-true n 12 (and-second (leb leastOrder n) (leb n mostOrder) e)
+pub order-most : (n : ℕ) → validOrder n ≡ true → n ≤ mostOrder
+unfolding validOrder
+order-most n e = leb-true n mostOrder (and-second (leb leastOrder n) (leb n mostOrder) e)
 
 unfoldable pub bucketsFrom : ℕ → ℕ → List ℕ
 bucketsFrom order k = countFrom k (order + 1 - k)

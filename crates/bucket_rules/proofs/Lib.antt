@@ -17,3 +17,5 @@ pub mod Owned
 pub mod RowsFit
 pub mod Fill
 pub mod Replies
+pub mod Visits
+pub mod Keeping

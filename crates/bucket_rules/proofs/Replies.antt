@@ -2,18 +2,16 @@
 use Prim.Native.Nat.{ℕ, zero, suc, _-_, _≤_, _<_}
 use native.Mathlib.Omega.{arith}
 use mathlib.Core.Path.{_≡_, refl, sym, ap, _∙_}
-use mathlib.Core.Bool.{Bool, true, false, _&&_}
+use mathlib.Core.Bool.{Bool, true, false}
 use mathlib.Core.List.{List, [], _∷_, _++_}
 use lib.ListN.{length, replicate}
-use lib.Dec.{leb, eqb}
 use borrow.Author.Tests.{le-leb, lt-leb, ne-eqb}
 use Rattle.metric_rules.specs.declared.Profile.{Profile}
 use Rattle.metric_rules.specs.Validity.{validMeasures}
 use Rattle.search_rules.specs.Range.{Entry}
-use Rattle.bucket_rules.specs.declared.Searched.{Searched}
-use Rattle.bucket_rules.specs.Refusals.{badMeasure, noneAsked, resultShort, areaShort, tableBroken}
+use Rattle.bucket_rules.specs.Refusals.{badMeasure, noneAsked, resultShort, areaShort}
 use Rattle.bucket_rules.specs.Table.{Table}
-use Rattle.bucket_rules.specs.Checks.{readRefusal, tableRefusal}
+use Rattle.bucket_rules.specs.Checks.{readRefusal}
 use Rattle.bucket_rules.specs.Search.{Answer, fitRefusal, rangeAnswer, nearestAnswer, rangeRefusal, nearestRefusal, searchReply, resultAfter, zeroEntry}
 use Rattle.bucket_rules.proofs.Passing.{stopBy, table-stop, none-stop}
 

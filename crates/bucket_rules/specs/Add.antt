@@ -53,9 +53,11 @@ gathered t tag p = rowOf tag p 0 0 ∷ liveItems t (countFrom 0 (lowestEmpty t))
 unfoldable pub addBucket : ℕ → ℕ → ℕ
 addBucket k n = elim (ltb (room k) (2 * n)) [ true ↦ k | false ↦ k - 1 ]
 
+-- the bucket that the add of this head builds
 unfoldable pub addTarget : Table → ℕ → Profile → ℕ
 addTarget t tag p = addBucket (lowestEmpty t) (length (gathered t tag p))
 
+-- the head gathered are built there, and the other gathered buckets become empty
 unfoldable pub added : Table → ℕ → Profile → Rebuilt
 added t tag p = rebuilt t (countFrom 0 (lowestEmpty t)) (addTarget t tag p) (gathered t tag p)
 

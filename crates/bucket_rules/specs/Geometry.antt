@@ -6,10 +6,10 @@ use lib.Dec.{leb}
 use Rattle.metric_rules.specs.Lists.{countFrom}
 
 -- an order is 0 to 12
-unfoldable pub leastOrder : ℕ
+abbrev pub leastOrder : ℕ
 leastOrder = 0
 
-unfoldable pub mostOrder : ℕ
+abbrev pub mostOrder : ℕ
 mostOrder = 12
 
 unfoldable pub validOrder : ℕ → Bool

@@ -4,13 +4,13 @@ use mathlib.Core.Path.{_≡_}
 use mathlib.Core.Bool.{true}
 use lib.ListN.{length}
 use Rattle.metric_rules.specs.Distance.{validSpace}
-use Rattle.bucket_rules.specs.Geometry.{tableRows}
+use Rattle.bucket_rules.specs.Geometry.{mostOrder, tableRows}
 use Rattle.bucket_rules.specs.Table.{Table, orderOf, tableSpace, builtOf, liveOf}
 use Rattle.bucket_rules.specs.Checks.{sizesPass}
 
 -- a table with its order, its metric and its length, whatever its sizes
 pub record Framed (t : Table) : Type 0 where
-  pub order : orderOf t ≤ 12
+  pub order : orderOf t ≤ mostOrder
   pub space : validSpace (tableSpace t) ≡ true
   pub long : tableRows (orderOf t) ≤ length t
 

@@ -1,15 +1,19 @@
 -- 01, "Stopped by the input" and "Stopped by the state": the number of each refusal, written once. 0 is an accepted call.
 use Prim.Native.Nat.{ℕ}
 
+-- tag outside its form (add, remove, look up)
 abbrev pub badTag : ℕ
 badTag = 1
 
+-- a measure outside its range (add, range, nearest)
 abbrev pub badMeasure : ℕ
 badMeasure = 2
 
+-- order above 12 (fresh, load)
 abbrev pub badOrder : ℕ
 badOrder = 3
 
+-- metric above the last one (fresh, load)
 abbrev pub badMetric : ℕ
 badMetric = 4
 
@@ -17,26 +21,34 @@ badMetric = 4
 abbrev pub noneAsked : ℕ
 noneAsked = 5
 
+-- result area too short: fewer entries than the reply, or fewer bytes than the image
 abbrev pub resultShort : ℕ
 resultShort = 6
 
+-- image length wrong
 abbrev pub imageLengthWrong : ℕ
 imageLengthWrong = 7
 
+-- image sound in sizes, but its fields or trees break a rule
 abbrev pub imageUnsound : ℕ
 imageUnsound = 8
 
+-- tag already live (add)
 abbrev pub tagLive : ℕ
 tagLive = 20
 
+-- tag not live (remove, look up)
 abbrev pub tagNotLive : ℕ
 tagNotLive = 21
 
+-- 2^T head live (add)
 abbrev pub tableFull : ℕ
 tableFull = 22
 
+-- a lent table or work area shorter than its order needs, or a table too short to hold an order
 abbrev pub areaShort : ℕ
 areaShort = 23
 
+-- sizes, order or metric in a lent table, or sizes in an image, break the rules; in add and remove also the marks of a lent bucket
 abbrev pub tableBroken : ℕ
 tableBroken = 24

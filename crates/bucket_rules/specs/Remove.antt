@@ -54,6 +54,7 @@ settled t k =
       | false ↦ elim (ltb (room k) (4 * liveOf t k)) [ true ↦ record { table = t; distances = 0 } | false ↦ thinned t k ]
     ]
 
+-- the live head with the tag is marked dead and its bucket settled; without one nothing changes, and the call is refused (21)
 unfoldable pub removed : Table → ℕ → Rebuilt
 removed t tag = elim (find t tag) [ some place ↦ settled (marked t place) (place .bucket) | none ↦ record { table = t; distances = 0 } ]
 

@@ -21,13 +21,16 @@ pub record Answer : Type 0 where
   pub entries : List Entry
   pub count : ℕ
 
+-- "Buckets are searched from T down to 0"
 unfoldable pub bucketsDown : Table → List ℕ
 bucketsDown t = reverse (bucketsOf (orderOf t))
 
+-- range with one radius over all buckets: what each meets, joined
 unfoldable pub rangeMet : Table → Profile → ℕ → Met
 rangeMet t query radius =
     foldr (λ k met. both (rangeTree (distance (tableSpace t)) query isLive radius (slotsOf t k)) met) nothing (bucketsDown t)
 
+-- the hits by distance, then tag. The count is the number of slots all of whose ancestors let their side be entered (`range-visits`)
 unfoldable pub rangeAnswer : Table → Profile → ℕ → Answer
 rangeAnswer t query radius = let met = rangeMet t query radius in record { entries = ordered (met .hits); count = met .count }
 
@@ -36,6 +39,7 @@ unfoldable pub nearestTally : Table → Profile → ℕ → Tally
 nearestTally t query k =
     foldl (λ tally b. nearestTree (distance (tableSpace t)) query isLive k tally (slotsOf t b)) (record { kept = []; count = 0 }) (bucketsDown t)
 
+-- the reply is what is kept: over any table min(k, Z) entries, Z being the number of built slots with mark 0 (`nearest-size`; the interface's point 9)
 unfoldable pub nearestAnswer : Table → Profile → ℕ → Answer
 nearestAnswer t query k = let tally = nearestTally t query k in record { entries = tally .kept; count = tally .count }
 
@@ -68,6 +72,7 @@ unfoldable pub searchReply : ℕ → Answer → Searched
 searchReply zero a = record { refusal = 0; found = length (a .entries); distances = a .count }
 searchReply (suc n) a = record { refusal = suc n; found = 0; distances = 0 }
 
+-- "the rest of the area is zero after an accepted search"
 unfoldable pub zeroEntry : Entry
 zeroEntry = entry 0 0
 
@@ -76,6 +81,7 @@ unfoldable pub resultAfter : ℕ → List Entry → Answer → List Entry
 resultAfter zero area a = a .entries ++ replicate (length area - length (a .entries)) zeroEntry
 resultAfter (suc n) area a = elim (eqb (suc n) resultShort) [ true ↦ replicate (length area) zeroEntry | false ↦ area ]
 
+-- each search's reply, and the result area after the call
 unfoldable pub rangeReply : Table → List Entry → Profile → ℕ → Searched
 rangeReply t area query radius = let a = rangeAnswer t query radius in searchReply (rangeRefusal t area query radius) a
 

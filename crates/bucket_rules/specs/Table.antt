@@ -18,6 +18,7 @@ Table = List Row
 unfoldable pub rowAt : Table → ℕ → Row
 rowAt t i = getD t i []
 
+-- the order T, word 0 of the header row
 unfoldable pub orderOf : Table → ℕ
 orderOf t = word (rowAt t headerRow) 0
 
@@ -36,6 +37,7 @@ liveOf t k = word (rowAt t (sizesRow k)) 1
 unfoldable pub inUse : Table → ℕ → Bool
 inUse t k = not (eqb (builtOf t k) 0)
 
+-- the live head in all: "At most 2^T head are live"
 unfoldable pub liveTotal : Table → ℕ
 liveTotal t = total (map (liveOf t) (bucketsOf (orderOf t)))
 

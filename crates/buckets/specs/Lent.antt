@@ -2,12 +2,12 @@
 use Prim.Native.Nat.{ℕ, _≤_}
 use mathlib.Core.Path.{_≡_}
 use lib.ListN.{length}
-use Rattle.bucket_rules.specs.Geometry.{room, tableRows}
+use Rattle.bucket_rules.specs.Geometry.{mostOrder, room, tableRows}
 use Rattle.bucket_rules.specs.Table.{Table, orderOf, builtOf}
 
 pub record Lent (t : Table) (order : ℕ) : Type 0 where
   pub told : orderOf t ≡ order
-  pub most : order ≤ 12
+  pub most : order ≤ mostOrder
   pub long : tableRows order ≤ length t
 
 -- and the slots that each bucket's build filled lie in its room

@@ -9,7 +9,7 @@ use Rattle.tree_rules.specs.Sorting.{keyLe, insertBy, sortBy}
 use Rattle.tree_rules.specs.Layout.{leftSize, costWithin, cost, rankedFrom, tagKey, placed, fromPivot, nearKey, lastDistance, split, node, layoutWithin, layout, isLayout}
 use Rattle.search_rules.specs.Range.{entry, entryDistance, entryKey, ordered, entersLeft, entersRight, nothing, both, toQuery, entryOf, isHit, visited, rangeWithin, rangeTree}
 use Rattle.search_rules.specs.Nearest.{keep, worst, opens, taken, turn, halvesInTurn, nearestWithin, nearestTree}
-use Rattle.bucket_rules.specs.Geometry.{leastOrder, mostOrder, validOrder, room, bucketsOf, headerRow, sizesRow, firstSlot, tableRows, workRows}
+use Rattle.bucket_rules.specs.Geometry.{validOrder, room, bucketsOf, headerRow, sizesRow, firstSlot, tableRows, workRows}
 use Rattle.bucket_rules.specs.Table.{rowAt, orderOf, tableSpace, builtOf, liveOf, inUse, liveTotal, slotsOf, liveSlots, pairRow, headerOf, putSizes, putBucket, emptied, cleared}
 use Rattle.bucket_rules.specs.Checks.{sizePasses, sizesPass, marksPass, tableRefusal, readRefusal, changeRefusal}
 use Rattle.bucket_rules.specs.Fresh.{freshRefusal, freshTable, tableAfterFresh}
@@ -36,7 +36,7 @@ unfolding
     metricAt spaceOf lastMetric validSpace keyLe insertBy sortBy leftSize costWithin cost rankedFrom tagKey placed fromPivot nearKey lastDistance
     split node layoutWithin layout isLayout entry entryDistance entryKey ordered isLive entersLeft entersRight nothing
     both toQuery entryOf isHit visited rangeWithin rangeTree keep worst opens taken turn halvesInTurn nearestWithin
-    nearestTree leastOrder mostOrder validOrder room bucketsOf headerRow sizesRow firstSlot tableRows workRows rowAt
+    nearestTree validOrder room bucketsOf headerRow sizesRow firstSlot tableRows workRows rowAt
     orderOf tableSpace builtOf liveOf inUse liveTotal slotsOf liveSlots pairRow headerOf putSizes putBucket emptied cleared
     sizePasses sizesPass marksPass tableRefusal readRefusal changeRefusal freshRefusal freshTable tableAfterFresh
     liveItems rebuilt addRefusal emptyFrom lowestEmpty gathered addBucket addTarget added addReply tableAfterAdd

@@ -1,5 +1,5 @@
 -- Range and nearest over some buckets, each bucket's slots a layout, are a scan of the buckets' live slots, in whatever order the buckets are searched.
--- Each tree gives its own scan (OnLayout); the hits are joined and sorted, the kept ones are absorbed by the next tree's.
+-- Each tree guides and gives its own scan; the hits are joined and sorted, the kept ones are absorbed by the next tree's.
 use Prim.Native.Nat.{ℕ}
 use mathlib.Core.Path.{_≡_, refl, sym, _∙_, ap, ap₂, subst}
 use mathlib.Core.Bool.{Bool, true}
@@ -19,7 +19,7 @@ use Rattle.tree_rules.proofs.InPlace.{is-layout-guided}
 use Rattle.search_rules.proofs.Selecting.{select-append}
 use Rattle.search_rules.proofs.RangeLaws.{range-hits}
 use Rattle.search_rules.proofs.Keep.{Kept, keep-kept, keep-of-kept, keep-absorbs, pairs-told}
-use Rattle.search_rules.proofs.OnLayout.{nearest-on-layout}
+use Rattle.search_rules.proofs.NearestLaws.{nearest-kept}
 use Rattle.history.proofs.ScannedLists.{select-all, select-both, select-map, select-perm}
 
 -- the entries at most a radius away
@@ -86,7 +86,7 @@ module _ (dist : Profile → Profile → ℕ) (query : Profile) where
         let own = map (entryOf dist query) (select reports (slots k)) in
         let u = nearestTree dist query reports m t (slots k) in
         let pairs = all-append Pair (t .kept) own (kept .pairs) (entry-pairs (select reports (slots k))) in
-        let first : u .kept ≡ keep m (t .kept ++ own) = nearest-on-layout dist laws query reports (slots k) (h .0 .rows) (h .0 .laid) m t kept in
+        let first : u .kept ≡ keep m (t .kept ++ own) = nearest-kept dist query reports m laws t (slots k) (is-layout-guided dist (slots k) (h .0 .rows) (h .0 .laid)) kept in
         nearest-buckets m ks (h .1) u (subst (Kept m) (sym first) (keep-kept m (t .kept ++ own) pairs))
         ∙ ap (λ (l : List Entry). keep m (l ++ reported ks)) first
         ∙ keep-absorbs m (t .kept ++ own) (reported ks) pairs (entry-pairs (flatten (map (λ j. select reports (slots j)) ks)))

@@ -1,11 +1,19 @@
 -- The demands of `specs/Demands`, proved for every list of calls, every lent area and every image. Nothing is assumed.
-use Rattle.history.specs.Demands.{EveryList, EveryReport, WrittenLoads}
+use Rattle.bucket_rules.proofs.Visits.{range-visits}
+use Rattle.bucket_rules.proofs.Keeping.{nearest-size}
+use Rattle.history.specs.Demands.{CountsVisits, KeepsEnough, EveryList, EveryReport, WrittenLoads}
 use Rattle.history.proofs.Changing.{changes}
 use Rattle.history.proofs.ScannedHistory.{history-traces, history-matches, history-represents}
 use Rattle.history.proofs.CountingHistory.{history-bound}
 use Rattle.history.proofs.Reporting.{reports}
 use Rattle.history.proofs.ImagesHistory.{written-loads-where}
 pub use Rattle.history.proofs.ImagesBack.{accepted-gives-back}
+
+pub counts-visits : CountsVisits
+counts-visits = range-visits
+
+pub keeps-enough : KeepsEnough
+keeps-enough = nearest-size
 
 pub every-list : EveryList
 every-list h = record { traces = history-traces changes h; represents = history-represents changes h; bound = history-bound changes h }

@@ -4,12 +4,18 @@
 -- Demand 1. Every call, for every input and every lent area, replies and leaves what the rules say: the refusal that comes first in their order
 -- and only under its condition, and every reply, count and area. It is the contract of each public call, which has no `requires` and cites
 -- the definitions that `specs/Calls` joins: `replyTo` and `areasAfter`.
-use Prim.Native.Nat.{ℕ, _^_, _≤_, _<_}
+use Prim.Native.Nat.{ℕ, _^_, _≤_, _<_, min}
 use mathlib.Core.Path.{_≡_}
-use mathlib.Core.List.{List}
+use mathlib.Core.List.{List, map}
 use lib.ListN.{length}
+use Rattle.metric_rules.specs.declared.Profile.{Profile}
+use Rattle.metric_rules.specs.Lists.{total}
+use Rattle.metric_rules.specs.Distance.{distance}
 use Rattle.tree_rules.specs.Guided.{All}
+use Rattle.search_rules.specs.Reached.{reached}
 use Rattle.bucket_rules.specs.Geometry.{tableRows}
+use Rattle.bucket_rules.specs.Table.{Table, tableSpace, slotsOf, liveSlots}
+use Rattle.bucket_rules.specs.Search.{bucketsDown, rangeAnswer, nearestAnswer}
 use Rattle.image_rules.specs.Read.{orderIn}
 use Rattle.history.specs.Calls.{Lent, replyTo}
 use Rattle.history.specs.Calls.Call.{load}
@@ -18,6 +24,20 @@ use Rattle.history.specs.History.{History, finalState, finalModel}
 use Rattle.history.specs.Images.{imageSize, LoadsBack, GivesBack}
 use Rattle.history.specs.Represents.{Holds}
 use Rattle.history.specs.Reports.{ReportsBuilds}
+
+-- Of those answers, two numbers that the rules also give in words, for every table, foreign ones too. The count of range is the number of slots all of
+-- whose ancestors let their side be entered.
+-- Theorem: `counts-visits`
+abbrev pub CountsVisits : Type 0
+CountsVisits =
+    (t : Table) (query : Profile) (radius : ℕ)
+    → rangeAnswer t query radius .count ≡ total (map (λ k. length (reached (distance (tableSpace t)) query radius (slotsOf t k))) (bucketsDown t))
+
+-- Nearest replies with k items, or with all of the built slots of mark 0 where these are fewer.
+-- Theorem: `keeps-enough`
+abbrev pub KeepsEnough : Type 0
+KeepsEnough =
+    (t : Table) (query : Profile) (k : ℕ) → length (nearestAnswer t query k .entries) ≡ min k (total (map (λ b. length (liveSlots t b)) (bucketsDown t)))
 
 -- Demands 2 and 3, one claim over every list of calls on one table, refused ones and herd lists read too, that an accepted fresh or load began (`History`):
 -- at each call table and reference model show the same; after the list the table is a valid one of the published method (which buckets a call builds is

@@ -43,7 +43,7 @@ stop-first (suc m) n some = refl
 unfoldable pub slotsBy : Bool → ℕ
 slotsBy slots = elim slots [ false ↦ imageUnsound | true ↦ 0 ]
 
--- load's checks are the head's, then those of the sizes and lengths, then the slots'
+-- load's checks are the header's, then those of the sizes and lengths, then the slots'
 by-steps : (short order space zeros pairs sizes whole roomy slots : Bool)
     → _≡_ {A = ℕ}
     (elim short [

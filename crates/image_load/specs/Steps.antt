@@ -1,4 +1,4 @@
--- Load's checks in two steps before the slots': those of the head, and those of the sizes and lengths, each with 0 where all pass.
+-- Load's checks in two steps before the slots': those of the header, and those of the sizes and lengths, each with 0 where all pass.
 use Prim.Native.Nat.{ℕ}
 use mathlib.Core.Bool.{Bool, true, false}
 use mathlib.Core.List.{List}

@@ -42,7 +42,7 @@ fn is_order(t: u32) -> bool
     }
 }
 
-// The head's checks: under 4 bytes 7, order 3, metric 4, zero bytes 8.
+// The header's checks: under 4 bytes 7, order 3, metric 4, zero bytes 8.
 fn header_refusal(image: &[u8]) -> u32
     ensures { λ r. ⌜ r ≡ headerRefusal (now (image .entry)) ⌝ }
 {

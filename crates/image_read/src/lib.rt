@@ -24,7 +24,7 @@ pub fn number32(image: &[u8], at: usize) -> u32
     of_four(image[at], image[at + 1], image[at + 2], image[at + 3])
 }
 
-// The head's fields: order, metric, and the number of the two zero bytes. Head and sizes are read through a reader.
+// The header's fields: order, metric, and the number of the two zero bytes. Header and sizes are read through a reader.
 pub fn order_in(image: &[u8]) -> u32
     requires { ⌜ headerBytes ≤ length (now image) ⌝ }
     ensures { λ r. ⌜ r ≡ orderIn (now (image .entry)) ⌝ }

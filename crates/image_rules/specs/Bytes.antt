@@ -14,7 +14,7 @@ numberOf [] = 0
 numberOf (b ∷ bs) = b + 256 * numberOf bs
 
 -- Fields are a list: of each, in their order, its number of bytes. A later form of the image appends to these lists.
--- The head: order, metric, and the two zero bytes
+-- The header: order, metric, and the two zero bytes
 unfoldable pub headerFields : List ℕ
 headerFields = 1 ∷ 1 ∷ 2 ∷ []
 
@@ -32,7 +32,7 @@ bytesOfFields [] ns = []
 bytesOfFields (w ∷ ws) [] = bytesOf w 0 ++ bytesOfFields ws []
 bytesOfFields (w ∷ ws) (n ∷ ns) = bytesOf w n ++ bytesOfFields ws ns
 
--- the lengths of a head, a tag and a record
+-- the lengths of the header, a tag and a record
 unfoldable pub headerBytes : ℕ
 headerBytes = total headerFields
 
@@ -42,7 +42,7 @@ tagBytes = total tagFields
 unfoldable pub recordBytes : ℕ
 recordBytes = total recordFields
 
--- a pair of 16-bit sizes for each bucket comes after the head
+-- a pair of 16-bit sizes for each bucket comes after the header
 unfoldable pub sizeBytes : ℕ
 sizeBytes = 2
 

@@ -26,7 +26,7 @@ unfoldable pub bucketPasses : Space → ℕ → List Row → Bool
 bucketPasses space live slots =
     every fieldsPass slots && eqb (length (select isLive slots)) live && distinct (map tagOf slots) && isLayout (distance space) slots
 
--- the live head of the whole image, bucket by bucket
+-- the live items of the whole image, bucket by bucket
 unfoldable pub liveRows : List ℕ → List Row
 liveRows image = flatten (map (λ k. select isLive (bucketIn image k)) (bucketsOf (orderIn image)))
 

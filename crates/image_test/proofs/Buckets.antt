@@ -35,7 +35,7 @@ count-shift f a b (suc n) =
     ap (λ (r : List _). f (a + b) ∷ r) (count-shift f a (suc b) n ∙ ap (λ (k : ℕ). map f (countFrom k n)) e)
 
 module _ {image : List ℕ} {tags records : ℕ} (at : Places image tags records) where
-  -- the head and the sizes are in the image
+  -- the header and the sizes are in the image
   pub sizes-fit : (k : ℕ) → k ≤ orderIn image → sizesEnd k ≤ length image
   unfolding imageLength sizesEnd headerBytes pairBytes sizeBytes headerFields total
   sizes-fit k h = omega (arith, at .whole)

@@ -33,8 +33,8 @@ use Rattle.image_test.specs.Standing.{bucketRead, standing, slotsStand}
 use Rattle.image_test.proofs.Buckets.{rows-before, live-all}
 
 room-few : (k order : ℕ) → k ≤ order → order ≤ mostOrder → room k ≤ places
-unfolding room places mostOrder
-room-few k order h n = pow-le-pow-right (omega arith) {i = k} {j = 12} (omega arith)
+unfolding room places
+room-few k order h n = pow-le-pow-right (omega arith) {i = k} {j = mostOrder} (omega arith)
 
 -- a valid slot's tag
 tag-fits : (row : Row) → fieldsPass row ≡ true → tagOf row < 2 ^ 50

@@ -1,4 +1,4 @@
-// The image of a table put into an area of bytes: head, sizes, all tags, all records. The bytes after it are kept.
+// The image of a table put into an area of bytes: header, sizes, all tags, all records. The bytes after it are kept.
 ghost use mathlib.Core.Path.{_≡_};
 ghost use mathlib.Core.List.{_++_};
 ghost use Prim.Native.Nat.{_+_, _≤_};
@@ -46,7 +46,7 @@ fn put_pair(image: &mut [u8], at: usize, built: u32, live: u32)
     put16(image, at + 2, live);
 }
 
-// Those of every bucket, behind the head.
+// Those of every bucket, behind the header.
 fn put_sizes(image: &mut [u8], table: &[Row], order: Order)
     requires { ⌜ (order .t ≡ orderOf (now table)) × Passed (now table) × (sizesEnd (order .t) ≤ length (now image)) ⌝ }
     ensures { λ _. ⌜ now (image .exit) ≡ sets (now (image .entry)) headerBytes (sizesOf (order .t) (builtOf (now (table .entry))) (liveOf (now (table .entry)))) ⌝ }

@@ -1,18 +1,17 @@
 -- Every item that a line of a herd list gives is a value of the add's machine types, whatever the bytes: a numeral of w digits is below 10^w, so a tag is
 -- below 10^15 and a measure's hundredths are below 10^7.
-use Prim.Native.Nat.{ℕ, zero, suc, _+_, _*_, _^_, _≤_, _<_}
+use Prim.Native.Nat.{ℕ, suc, _+_, _*_, _^_, _<_}
 use mathlib.Core.Path.{_≡_, refl, subst}
-use mathlib.Core.Bool.{Bool, true, false, _&&_, _||_}
+use mathlib.Core.Bool.{Bool, true, false, _&&_}
 use mathlib.Core.List.{List, [], _∷_}
 use native.Mathlib.Omega.{arith}
 use native.Mathlib.Nat.{pow-succ', pow-le-pow-right}
-use lib.Dec.{leb, ltb, eqb}
+use lib.Dec.{eqb}
 use lib.IntN.{ℤ, pos, negℤ}
 use lib.ListN.{length}
 use mir.Syntax.{w32}
 use mir.Val.{SFits}
 use mir.Facts.{sfits-lit}
-use borrow.Author.Tests.{ltb-true, leb-true}
 use Rattle.metric_rules.specs.Lists.{every}
 use Rattle.metric_rules.specs.Row.{IsProfile, measure, codeWord}
 use Rattle.metric_rules.proofs.Elements.{each-at}
@@ -20,12 +19,10 @@ use Rattle.tree_rules.specs.Guided.{All}
 use Rattle.tree_rules.proofs.Tests.{and-first, and-second}
 use Rattle.text_rules.specs.Text.{partAt, partsIn, digitOf, isDigit, isNumeral, numeralAfter, numeral}
 use Rattle.text_rules.specs.Fields.{isTag, isNegative, unsigned, isMeasure, hundredths, measureIn}
+use Rattle.text_rules.proofs.Digits.{digit-below, numeral-digits, numeral-longest}
+use Rattle.text_rules.proofs.Signs.{negative-fits}
 use Rattle.list_rules.specs.Lines.{ListLine, comma, semicolon, field, isItemLine, itemTag, itemProfile, lineOf, linesFrom, linesOf, itemLines}
 use Rattle.list_rules.specs.Lines.ListLine.{anItem, malformed}
-
-digit-below : (base b : ℕ) → isDigit base b ≡ true → digitOf b < base
-unfolding isDigit
-digit-below base b e = ltb-true (digitOf b) base (and-second (leb 48 b && ltb b 58 || leb 97 b && ltb b 103) (ltb (digitOf b) base) e)
 
 -- a number below 10^i and w digits behind it
 after-below : (n i : ℕ) (text : List ℕ) → every (isDigit 10) text ≡ true → n < 10 ^ i → numeralAfter 10 n text < 10 ^ (i + length text)
@@ -38,12 +35,10 @@ after-below n i (b ∷ bs) e h =
     subst (λ (k : ℕ). numeralAfter 10 (10 * n + digitOf b) bs < 10 ^ k) (omega arith) all
 
 numeral-below : (least most : ℕ) (text : List ℕ) → isNumeral 10 least most text ≡ true → numeral 10 text < 10 ^ most
-unfolding isNumeral numeral
+unfolding numeral
 numeral-below least most text e =
-    let lengths = leb least (length text) && leb (length text) most in
-    let short : length text ≤ most =
-    leb-true (length text) most (and-second (leb least (length text)) (leb (length text) most) (and-first lengths (every (isDigit 10) text) e)) in
-    let below : numeralAfter 10 0 text < 10 ^ (0 + length text) = after-below 0 0 text (and-second lengths (every (isDigit 10) text) e) (omega arith) in
+    let below : numeralAfter 10 0 text < 10 ^ (0 + length text) = after-below 0 0 text (numeral-digits 10 least most text e) (omega arith) in
+    let short = numeral-longest 10 least most text e in
     omega (arith, pow-le-pow-right {n = 10} (omega arith) {i = 0 + length text} {j = most} (omega arith))
 
 hundredths-below : (mark : ℕ) (text : List ℕ) → isMeasure mark text ≡ true → hundredths mark (unsigned text) < 10 ^ 7
@@ -59,17 +54,13 @@ hundredths-below mark text e =
       numeral-below 2 2 (partAt mark size 1) (and-second (eqb (partsIn mark size) 2 && whole) cents e),
     )
 
-negative-fits : (n : ℕ) → n < 10 ^ 7 → SFits w32 (negℤ (pos n))
-negative-fits zero h = record { sfits = omega arith }
-negative-fits (suc n) h = record { sfits = omega arith }
-
 measure-fits : (mark : ℕ) (text : List ℕ) → isMeasure mark text ≡ true → SFits w32 (measureIn mark text)
 unfolding measureIn
 measure-fits mark text e = go (isNegative text) (hundredths-below mark text e)
   where
     go : (b : Bool) → hundredths mark (unsigned text) < 10 ^ 7
         → SFits w32 (elim b as (λ _. ℤ) [ true ↦ negℤ (pos (hundredths mark (unsigned text))) | false ↦ pos (hundredths mark (unsigned text)) ])
-    go true h = negative-fits (hundredths mark (unsigned text)) h
+    go true h = negative-fits (hundredths mark (unsigned text)) (omega arith)
     go false h = record { sfits = omega arith }
 
 -- a line's item as an add may be asked it

@@ -1,6 +1,6 @@
 -- The row codec: the row of a row's fields is that row, the fields of a row of given fields are those fields, and tags are in the order of their words.
 -- Word by word: two words make a number and come apart again by division, and a measure's bits are read back (`toZ`, `ofZ`).
-use Prim.Native.Nat.{ℕ, suc, _/_, _%_, _^_, _≤_, _<_}
+use Prim.Native.Nat.{ℕ, _/_, _%_, _^_, _≤_, _<_}
 use native.Mathlib.Omega.{arith}
 use mathlib.Core.Path.{_≡_, refl, ap₂, _∙_}
 use mathlib.Core.Bool.{Bool, true, false}
@@ -9,10 +9,10 @@ use lib.IntN.{pos}
 use lib.ListN.{length, set, length-set}
 use lib.Seq.{getD-set-same, getD-set-other}
 use mir.Syntax.{w32}
-use mir.Val.{toZ, ofZ, SFits}
+use mir.Val.{toZ, ofZ}
 use lib.Dec.{ltb, lit<, lit≤}
 use borrow.Author.Tests.{ltb-true, ltb-false, lt-ltb, le-ltb}
-use mir.Facts.{toZ-ofZ, ofZ-toZ, sfits-toZ, sfits-lit, fits-ofZ, fits-of-lt}
+use mir.Facts.{toZ-ofZ, ofZ-toZ, fits-ofZ, fits-of-lt}
 use Rattle.metric_rules.specs.declared.Profile.{Profile}
 use Rattle.metric_rules.specs.Lists.{countFrom}
 use Rattle.metric_rules.specs.Row.{Row, IsRow, IsProfile, rowWidth, thresholdAt, markAt, word, wide, measure, codeWord}
@@ -31,10 +31,6 @@ high-word a b h = omega arith
 pub wide-words : (n : ℕ) → wide (n % 2 ^ 32) (n / 2 ^ 32) ≡ n
 unfolding wide
 wide-words n = omega arith
-
-pub wide-fits : (a b : ℕ) → a < 2 ^ 32 → b < 2 ^ 32 → wide a b < 2 ^ 64
-unfolding wide
-wide-fits a b h k = omega arith
 
 -- two tags are told apart and put in order by their words, the high word first
 module _ (x y : Row) where
@@ -94,37 +90,6 @@ module _ (row : Row) (is : IsRow row) where
         high 8 (word row 9),
         twelve,
       )
-
-  -- a row's fields are values of their types
-  two-fit : (i : ℕ) → wide (word row i) (word row (suc i)) < 2 ^ 64
-  two-fit i = wide-fits (word row i) (word row (suc i)) (is .fits i) (is .fits (suc i))
-
-  pub tag-fits : tagOf row < 2 ^ 64
-  unfolding tagOf
-  tag-fits = two-fit 0
-
-  pub threshold-fits : thresholdOf row < 2 ^ 32
-  unfolding thresholdOf
-  threshold-fits = is .fits thresholdAt
-
-  pub mark-fits : markOf row < 2 ^ 32
-  unfolding markOf
-  mark-fits = is .fits markAt
-
-  signed-fits : (i : ℕ) → SFits w32 (toZ w32 (word row i))
-  signed-fits i = sfits-toZ (fits-of-lt (is .fits i))
-
-  pub profile-fits : IsProfile (profileOf row)
-  unfolding profileOf measure codeWord
-  profile-fits =
-      record {
-        four = refl;
-        two = refl;
-        signed =
-            each-at (SFits w32) (pos 0) (sfits-lit tt) (profileOf row .measures)
-            (signed-fits 2, (signed-fits 3, (signed-fits 4, (signed-fits 5, tt))));
-        wide = each-at (λ n. n < 2 ^ 64) 0 (lit< tt) (profileOf row .code) (two-fit 6, (two-fit 8, tt));
-      }
 
 -- the fields of a row of given fields
 module _ (tag : ℕ) (p : Profile) (threshold mark : ℕ) where

@@ -21,7 +21,7 @@ unfoldable pub gap : Profile → Profile → ℕ → ℕ
 unfolding measure
 gap p q i = natAbs (measure p i -ℤ measure q i)
 
--- metric 0: the sum of the absolute differences of the four measures
+-- metric 0: the sum of the absolute differences of the four measures, at most 8,000,000 for valid ones (`measure-most`)
 unfoldable pub measureDistance : Profile → Profile → ℕ
 unfolding gap saturated
 measureDistance p q = saturated (gap p q 0 + gap p q 1 + gap p q 2 + gap p q 3)
@@ -31,7 +31,7 @@ unfoldable pub differing : ℕ → ℕ → ℕ → ℕ
 differing zero a b = 0
 differing (suc n) a b = differ (a % 2) (b % 2) + differing n (a / 2) (b / 2)
 
--- metric 1: the number of bit positions in which the two codes, of two 64-bit words each, differ
+-- metric 1: the number of bit positions in which the two codes, of two 64-bit words each, differ, at most 128 (`code-most`)
 unfoldable pub codeDistance : Profile → Profile → ℕ
 unfolding differing codeWord
 codeDistance p q = differing 64 (codeWord p 0) (codeWord q 0) + differing 64 (codeWord p 1) (codeWord q 1)
@@ -58,10 +58,11 @@ unfoldable pub distance : Space → Profile → Profile → ℕ
 unfolding distanceBy
 distance space = distanceBy (space .metric)
 
--- where a table's header row has it
+-- the place of the metric in a table's header row
 unfoldable pub metricAt : ℕ
 metricAt = 1
 
+-- what the distances of a table with this header row depend on
 unfoldable pub spaceOf : Row → Space
 unfolding word metricAt
 spaceOf header = record { metric = word header metricAt }

@@ -1,6 +1,8 @@
 -- A slot's row: the twelve words of 32 bits, the fields that they hold, and the row of given fields.
 -- Tag, profile, threshold and mark are 01's terms ("A head and its distance", "Order, buckets, trees", "Remove"); the places of the words are
--- the interface's ("A slot's row": the image's fields in the image's order, each number's low word first).
+-- the interface's ("A slot's row": the image's fields in the image's order, each number's low word first). Decoding and encoding are inverse to each other:
+-- every row is the row of its fields (`row-of-fields`), and a row of given fields has those fields (`tag-of-row`, `profile-of-row`, `threshold-of-row`,
+-- `mark-of-row`).
 use Prim.Native.Nat.{ℕ, _+_, _*_, _/_, _%_, _^_, _<_}
 use mathlib.Core.Path.{_≡_}
 use mathlib.Core.Bool.{Bool}

@@ -1,6 +1,6 @@
 -- What a range search hands on adds up: the numbers and the area after two visits are those after both at once.
 -- A slot's visit and its halves' are two visits, and so are the two halves'.
-use Prim.Native.Nat.{ℕ, suc, _+_, _-_, _/_, _^_, _<_, _≤_}
+use Prim.Native.Nat.{ℕ, suc, _+_, _-_, _^_, _<_, _≤_}
 use mathlib.Core.Path.{_≡_, refl, sym, ap, ap₂, _∙_}
 use mathlib.Core.Bool.{Bool, true, false, _&&_, and-false}
 use mathlib.Core.List.{List, [], _∷_, _++_}
@@ -11,12 +11,11 @@ use borrow.Author.Tests.{le-leb, lt-leb}
 use native.Mathlib.Omega.{arith}
 use Rattle.metric_rules.specs.declared.Profile.{Profile}
 use Rattle.metric_rules.specs.Row.{Row, tagOf, thresholdOf}
-use Rattle.search_rules.specs.declared.Found.{Found}
-use Rattle.tree_rules.specs.Layout.{leftSize}
 use Rattle.search_rules.specs.Range.{Entry, entry, toQuery, entryOf, isHit, visited, Met, nothing, both, rangeTree}
-use Rattle.search_rules.specs.Collected.{foundAfter, collected, metAlone, ifEntered, metInHalves}
 use Rattle.tree_rules.proofs.Parts.{part-rest}
-use Rattle.search_rules.proofs.RangeLaws.{rangeStep, range-none, range-step}
+use Rattle.search_rules.proofs.RangeLaws.{ifEntered, rangeStep, range-none, range-step}
+use Rattle.range.specs.declared.Found.{Found}
+use Rattle.range.specs.Collected.{foundAfter, collected, metAlone, metInHalves}
 
 pub found-eq : {a b c d : ℕ} → a ≡ b → c ≡ d → _≡_ {A = Found} (record { hits = a; count = c }) (record { hits = b; count = d })
 found-eq p q = λ i. record { hits = p i; count = q i }

@@ -3,14 +3,21 @@ ghost use mathlib.Core.Path.{_≡_};
 ghost use Prim.Native.Nat.{_+_, _<_, _^_};
 ghost use lib.ListN.{length};
 ghost use Rattle.metric_rules.specs.Row.{isLive};
-ghost use Rattle.search_rules.specs.Collected.{foundAfter, collected, metAlone, metInHalves};
-ghost use Rattle.search_rules.specs.Asked.{distanceAsked, queryAsked, radiusAsked, rangeAsked};
+ghost use Rattle.range.specs.Collected.{foundAfter, collected, metAlone, metInHalves};
+ghost use Rattle.range.specs.Asked.{distanceAsked, queryAsked, radiusAsked, rangeAsked};
 use metric::distance_between;
 use metric_rules::Row;
 use rows::threshold_of;
-use search_rules::Asked;
 use search_rules::Entry;
-use search_rules::Found;
+
+// What a range search goes by: the table's header row, and the query as a row whose threshold word is the radius.
+pub type Asked = [Row; 2];
+
+// What a range search hands on: how many hits it found, and how many slots it visited.
+pub struct Found {
+    pub hits: usize,
+    pub count: usize,
+}
 
 // A slot alone, at distance d from the query: a hit is put behind those found before, where the area has room.
 fn meet(found: Found, row: Row, d: u32, radius: u32, area: &mut [Entry]) -> Found

@@ -5,4 +5,3 @@ pub mod RangeLaws
 pub mod Keep
 pub mod NearestLaws
 pub mod Reaching
-pub mod OnLayout

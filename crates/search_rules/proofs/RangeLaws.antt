@@ -13,11 +13,15 @@ use Rattle.metric_rules.specs.Row.{Row, thresholdOf}
 use Rattle.metric_rules.specs.Distance.{Metric}
 use Rattle.tree_rules.specs.Layout.{leftSize}
 use Rattle.tree_rules.specs.Guided.{All, GuidedWithin, Guided}
-use Rattle.search_rules.specs.Range.{Entry, entry, ordered, Met, nothing, both, toQuery, entryOf, isHit, visited, entersLeft, entersRight, rangeWithin, rangeTree, Pair}
-use Rattle.search_rules.specs.Collected.{ifEntered}
+use Rattle.search_rules.specs.Range.{Entry, entry, Met, nothing, both, toQuery, entryOf, isHit, visited, entersLeft, entersRight, rangeWithin, rangeTree, Pair}
 use Rattle.tree_rules.proofs.Lists.{all-weaken, all-append}
 use Rattle.search_rules.proofs.Selecting.{select-append, select-none}
 use Rattle.search_rules.proofs.Pruning.{left-out, right-out}
+
+-- what a half gives, where its test lets it be entered
+unfoldable pub ifEntered : Bool → Met → Met
+unfolding nothing
+ifEntered b met = elim b [ true ↦ met | false ↦ nothing ]
 
 module _ (dist : Profile → Profile → ℕ) (query : Profile) (reports : Row → Bool) (radius : ℕ) where
   -- the first slot, and what its halves would give
@@ -211,7 +215,3 @@ module _ (dist : Profile → Profile → ℕ) (query : Profile) (reports : Row �
     pub range-hits : (slots : List Row) → Guided dist slots → rangeTree dist query reports radius slots .hits ≡ map (entryOf dist query) (select (isHit dist query reports radius) slots)
     unfolding rangeTree Guided
     range-hits slots g = hits-within (length slots) slots (omega arith) g
-
-    -- and the reply is their entries in order
-    pub range-ordered : (slots : List Row) → Guided dist slots → ordered (rangeTree dist query reports radius slots .hits) ≡ ordered (map (entryOf dist query) (select (isHit dist query reports radius) slots))
-    range-ordered slots g = ap ordered (range-hits slots g)

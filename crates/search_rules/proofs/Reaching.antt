@@ -16,8 +16,7 @@ use Rattle.metric_rules.specs.Row.{Row, thresholdOf}
 use Rattle.tree_rules.specs.Layout.{leftSize}
 use Rattle.search_rules.specs.Range.{Met, toQuery, entersLeft, entersRight, rangeWithin, rangeTree}
 use Rattle.search_rules.specs.Reached.{reachedWithin, reached}
-use Rattle.search_rules.specs.Collected.{ifEntered}
-use Rattle.search_rules.proofs.RangeLaws.{rangeStep}
+use Rattle.search_rules.proofs.RangeLaws.{ifEntered, rangeStep}
 
 -- how many of the first n numbers pass a test
 passing : (ℕ → Bool) → ℕ → ℕ

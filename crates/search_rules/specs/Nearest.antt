@@ -51,6 +51,7 @@ module _ (dist : Profile → Profile → ℕ) (query : Profile) (reports : Row �
         | false ↦ turn (entersLeft d m) left (turn (entersRight d m) right t)
       ]
 
+  -- the first slot, taken in before its halves are tested, and then its halves. The first argument bounds the depth, and the number of slots is enough
   unfoldable pub nearestWithin : ℕ → Tally → List Row → Tally
   unfolding taken halvesInTurn toQuery thresholdOf leftSize
   nearestWithin zero t slots = t

@@ -52,6 +52,7 @@ unfoldable pub both : Met → Met → Met
 both a b = record { hits = a .hits ++ b .hits; count = a .count + b .count }
 
 module _ (dist : Profile → Profile → ℕ) (query : Profile) where
+  -- d: the distance of a slot's profile to the query
   unfoldable pub toQuery : Row → ℕ
   unfolding profileOf
   toQuery row = dist (profileOf row) query
@@ -73,7 +74,8 @@ module _ (dist : Profile → Profile → ℕ) (query : Profile) where
     unfolding isHit entryOf
     visited row = record { hits = elim (isHit row) [ true ↦ entryOf row ∷ [] | false ↦ [] ]; count = 1 }
 
-    -- the first slot, then its left half and its right half where their tests let them be entered
+    -- the first slot, then its left half and its right half where their tests let them be entered. The first argument bounds the depth, and the number
+    -- of slots is enough
     unfoldable pub rangeWithin : ℕ → List Row → Met
     unfolding nothing both visited toQuery thresholdOf leftSize entersLeft entersRight
     rangeWithin zero slots = nothing

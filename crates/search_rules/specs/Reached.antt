@@ -1,4 +1,5 @@
--- 01, "Searching": the count of a range search is the number of slots all of whose ancestors let their side be entered.
+-- 01, "Searching": the count of a range search is the number of slots all of whose ancestors let their side be entered. That it is so is
+-- `range-count` for one tree and `range-visits` for a table.
 use Prim.Native.Nat.{ℕ, zero, suc, _-_}
 use mathlib.Core.Bool.{Bool, true, false, _&&_}
 use mathlib.Core.List.{List, [], _∷_}

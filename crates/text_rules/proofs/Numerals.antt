@@ -1,15 +1,13 @@
 -- A number as it is printed reads back as that number: its digits are as many as it takes (`width`), and the last of them is its remainder by ten.
 use Prim.Native.Nat.{ℕ, zero, suc, _+_, _-_, _*_, _/_, _%_, _^_, _<_, _≤_}
-use mathlib.Core.Path.{_≡_, refl, ap, sym, _∙_}
-use mathlib.Core.Bool.{Bool, true, false, not, _&&_, _||_}
+use mathlib.Core.Path.{_≡_, refl, _∙_}
+use mathlib.Core.Bool.{Bool, true, false}
 use mathlib.Core.List.{List, [], _∷_, _++_}
 use native.Mathlib.Omega.{arith}
 use native.Mathlib.Nat.{div-add-mod, mod-lt}
-use lib.Dec.{leb, ltb, eqb}
-use lib.ListN.{length, length-append}
-use borrow.Author.Tests.{lt-ltb, le-ltb, le-leb, ltb-true, ltb-false, ne-eqb}
-use Rattle.metric_rules.specs.Lists.{every}
-use Rattle.text_rules.specs.Text.{digitOf, isDigit, numeralAfter, numeral, digits, widthWithin, width, decimal}
+use lib.Dec.{ltb}
+use borrow.Author.Tests.{lt-ltb, ltb-true}
+use Rattle.text_rules.specs.Text.{digitOf, numeralAfter, numeral, digits, widthWithin, width, decimal}
 
 -- a digit more at the end
 pub numeral-more : (base n : ℕ) (xs : List ℕ) (b : ℕ) → numeralAfter base n (xs ++ (b ∷ [])) ≡ base * numeralAfter base n xs + digitOf b

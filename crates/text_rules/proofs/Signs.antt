@@ -36,7 +36,7 @@ module _ (mark : ℕ) (text : List ℕ) (n : ℕ) (value : n ≡ hundredths mark
 pub negated : (n : ℕ) → n < 2 ^ 30 → pos 0 -ℤ toZ w32 n ≡ negℤ (pos n)
 negated n h = ap (λ z. pos 0 -ℤ z) (toZ-pos w32 {n = n} (omega arith)) ∙ +ℤ-idl (negℤ (pos n))
 
-negative-fits : (n : ℕ) → n < 2 ^ 30 → SFits w32 (negℤ (pos n))
+pub negative-fits : (n : ℕ) → n < 2 ^ 30 → SFits w32 (negℤ (pos n))
 negative-fits zero h = record { sfits = omega arith }
 negative-fits (suc n) h = record { sfits = omega arith }
 

@@ -19,7 +19,7 @@ minus = 45
 abbrev pub point : ℕ
 point = 46
 
--- the digit 0, and what lies between a letter digit and its value
+-- the digit 0
 abbrev pub digitZero : ℕ
 digitZero = 48
 

@@ -1,4 +1,4 @@
--- The test of slots where they lie, node by node: every layout passes it, what passes it guides a search, and slots with distinct tags that
+-- A test of slots where they lie, slot by slot: every layout passes it, what passes it guides a search, and slots with distinct tags that
 -- pass it are their own layout, since sorting the rest sorts each half by itself. Marks play no part. Assumes nothing.
 use Prim.Native.Nat.{ℕ, zero, suc, _+_, _-_, _≤_}
 use native.Mathlib.Omega.{arith}
@@ -16,12 +16,11 @@ use Rattle.metric_rules.proofs.Codec.{tag-with-mark, profile-with-mark, thresho
 use Rattle.tree_rules.specs.Sorting.{keyLe, sortBy}
 use Rattle.tree_rules.specs.Layout.{leftSize, Ranked, rankedFrom, tagKey, placed, fromPivot, nearKey, lastDistance, split, layout, isLayout}
 use Rattle.tree_rules.specs.Guided.{All, fromSlot, GuidedWithin, Guided}
-use Rattle.tree_rules.specs.InPlace.{slotKey, lastKey, slotInPlace, inPlaceWithin, inPlace}
 use Rattle.tree_rules.proofs.Lists.{Pairs, all-weaken, all-always, all-both, all-append, all-append-left, all-append-right, all-perm, all-map, all-of-map, all-swap, pairs-split, pairs-take, pairs-drop, pairs-weaken, pairs-map, pairs-left, pairs-right, pairs-of-map, pairs-perm, map-take, map-drop, map-alike, perm-map}
 use Rattle.tree_rules.proofs.Tests.{and-first, and-second, and-pass, every-all, all-every, every-map, same-rows, rows-same}
 use Rattle.tree_rules.proofs.Sorting.{apart-less, NotAfter, Sorted, Told, key-le-refl, key-le-cases, key-le-less, key-le-same, key-le-trans, key-le-first, sort-perm, sort-length, sort-sorted, sort-append}
 use Rattle.tree_rules.proofs.Placed.{tag-placed, profile-placed, threshold-placed, placed-own}
-use Rattle.tree_rules.proofs.LastKey.{lastOf, later-known, last-perm, last-upper, last-least, least-key, last-key-of}
+use Rattle.tree_rules.proofs.LastKey.{slotKey, lastKey, lastOf, later-known, last-perm, last-upper, last-least, least-key, last-key-of}
 use Rattle.tree_rules.proofs.Layouts.{left-fits, take-left, drop-left, split-halves, ranked-length, layout-none, layoutOf, layout-by-nodes, layout-of-length, layout-of-permutes, layout-of-all, layout-reordered, layout-pivot, layout-ranked, layout-permutes, told-by-tag}
 
 slotOf : Ranked → Row
@@ -41,6 +40,29 @@ ranked-apart n rows t =
     pairs-of-map slotOf (λ r s. tagOf r ≡ tagOf s → ⊥) (rankedFrom n rows) (subst (Pairs (λ r s. tagOf r ≡ tagOf s → ⊥)) (sym (ranked-slots n rows)) t)
 
 module _ (dist : Profile → Profile → ℕ) where
+  -- the three tests of a slot v with the rest of its tree: it has the least tag, no key (distance from v, tag) of its left half is after one of its
+  -- right half, and its threshold is the largest distance of the left, or 0
+  unfoldable slotInPlace : Row → List Row → Bool
+  unfolding every tagOf thresholdOf lastKey slotKey leftSize
+  slotInPlace v rest =
+      let l = leftSize (suc (length rest)) in
+      every (λ x. leb (tagOf v) (tagOf x)) rest
+      && every (λ x. keyLe (lastKey dist v (take l rest)) (slotKey dist v x)) (drop l rest)
+      && eqb (thresholdOf v) (getD (lastKey dist v (take l rest)) 0 0)
+
+  -- at every slot. The first argument bounds the depth, and the number of slots is enough
+  unfoldable inPlaceWithin : ℕ → List Row → Bool
+  unfolding slotInPlace leftSize
+  inPlaceWithin zero slots = true
+  inPlaceWithin (suc depth) [] = true
+  inPlaceWithin (suc depth) (v ∷ rest) =
+      let l = leftSize (suc (length rest)) in
+      slotInPlace v rest && inPlaceWithin depth (take l rest) && inPlaceWithin depth (drop l rest)
+
+  unfoldable inPlace : List Row → Bool
+  unfolding inPlaceWithin
+  inPlace slots = inPlaceWithin (length slots) slots
+
   -- what the three tests of a slot v with its halves show
   pub record Stands (v : Row) (left right : List Row) : Type 0 where
     pub least : All (λ x. tagOf v ≤ tagOf x) (left ++ right)
@@ -78,7 +100,7 @@ module _ (dist : Profile → Profile → ℕ) where
       (all-every (λ x. keyLe (lastKey dist v left) (slotKey dist v x)) right (s .apart)))
       (eq-eqb (thresholdOf v) (getD (lastKey dist v left) 0 0) (s .within))
 
-  test-is : (v : Row) (left right : List Row) → length left ≡ leftSize (suc (length left + length right)) → slotInPlace dist v (left ++ right) ≡ tested v left right
+  test-is : (v : Row) (left right : List Row) → length left ≡ leftSize (suc (length left + length right)) → slotInPlace v (left ++ right) ≡ tested v left right
   unfolding slotInPlace tested
   test-is v left right n =
       ap₂ (λ (a b : List Row). every (λ x. leb (tagOf v) (tagOf x)) (left ++ right)
@@ -88,7 +110,7 @@ module _ (dist : Profile → Profile → ℕ) where
       (drop-left left right n)
 
   -- the number of slots is depth enough
-  in-place-depth : (d e : ℕ) (slots : List Row) → length slots ≤ d → length slots ≤ e → inPlaceWithin dist d slots ≡ inPlaceWithin dist e slots
+  in-place-depth : (d e : ℕ) (slots : List Row) → length slots ≤ d → length slots ≤ e → inPlaceWithin d slots ≡ inPlaceWithin e slots
   unfolding inPlaceWithin
   in-place-depth zero zero slots h k = refl
   in-place-depth zero (suc e) [] h k = refl
@@ -100,35 +122,35 @@ module _ (dist : Profile → Profile → ℕ) where
       let l : ℕ = leftSize (suc (length rest)) in
       let f : length (take l rest) ≤ length rest = simp length-take (omega arith) in
       let g : length (drop l rest) ≤ length rest = simp length-drop (omega arith) in
-      ap₂ (λ (a b : Bool). slotInPlace dist v rest && a && b)
+      ap₂ (λ (a b : Bool). slotInPlace v rest && a && b)
       (in-place-depth d e (take l rest) (omega arith) (omega arith))
       (in-place-depth d e (drop l rest) (omega arith) (omega arith))
 
   -- the test at a slot: its own tests, and those of its halves
   in-place-node :
       (v : Row) (rest : List Row)
-      → inPlace dist (v ∷ rest)
-      ≡ (slotInPlace dist v rest && inPlace dist (take (leftSize (suc (length rest))) rest) && inPlace dist (drop (leftSize (suc (length rest))) rest))
+      → inPlace (v ∷ rest)
+      ≡ (slotInPlace v rest && inPlace (take (leftSize (suc (length rest))) rest) && inPlace (drop (leftSize (suc (length rest))) rest))
   unfolding inPlace inPlaceWithin
   in-place-node v rest =
       let l : ℕ = leftSize (suc (length rest)) in
       let f : length (take l rest) ≤ length rest = simp length-take (omega arith) in
       let g : length (drop l rest) ≤ length rest = simp length-drop (omega arith) in
-      ap₂ (λ (a b : Bool). slotInPlace dist v rest && a && b)
+      ap₂ (λ (a b : Bool). slotInPlace v rest && a && b)
       (in-place-depth (length rest) (length (take l rest)) (take l rest) f (omega arith))
       (in-place-depth (length rest) (length (drop l rest)) (drop l rest) g (omega arith))
 
   in-place-halves :
       (v : Row) (left right : List Row) → length left ≡ leftSize (suc (length left + length right))
-      → inPlace dist (v ∷ left ++ right) ≡ (tested v left right && inPlace dist left && inPlace dist right)
+      → inPlace (v ∷ left ++ right) ≡ (tested v left right && inPlace left && inPlace right)
   in-place-halves v left right n =
       in-place-node v (left ++ right)
-      ∙ ap (λ (a : Bool). a && inPlace dist (take (leftSize (suc (length (left ++ right)))) (left ++ right))
-      && inPlace dist (drop (leftSize (suc (length (left ++ right)))) (left ++ right))) (test-is v left right n)
-      ∙ ap₂ (λ (a b : List Row). tested v left right && inPlace dist a && inPlace dist b) (take-left left right n) (drop-left left right n)
+      ∙ ap (λ (a : Bool). a && inPlace (take (leftSize (suc (length (left ++ right)))) (left ++ right))
+      && inPlace (drop (leftSize (suc (length (left ++ right)))) (left ++ right))) (test-is v left right n)
+      ∙ ap₂ (λ (a b : List Row). tested v left right && inPlace a && inPlace b) (take-left left right n) (drop-left left right n)
 
   slot-stands :
-      (v : Row) (rest : List Row) → slotInPlace dist v rest ≡ true
+      (v : Row) (rest : List Row) → slotInPlace v rest ≡ true
       → Stands v (take (leftSize (suc (length rest))) rest) (drop (leftSize (suc (length rest))) rest)
   unfolding slotInPlace tested
   slot-stands v rest h =
@@ -155,15 +177,15 @@ module _ (dist : Profile → Profile → ℕ) where
   guides-right v left right s =
       all-weaken (λ x h. omega (arith, s .within, key-le-first (lastKey dist v left) (slotKey dist v x) h)) right (s .apart)
 
-  guides-within : (d : ℕ) (slots : List Row) → inPlaceWithin dist d slots ≡ true → GuidedWithin dist d slots
+  guides-within : (d : ℕ) (slots : List Row) → inPlaceWithin d slots ≡ true → GuidedWithin dist d slots
   unfolding inPlaceWithin GuidedWithin
   guides-within zero slots h = tt
   guides-within (suc d) [] h = tt
   guides-within (suc d) (v ∷ rest) h =
       let l : ℕ = leftSize (suc (length rest)) in
-      let a : Bool = slotInPlace dist v rest in
-      let b : Bool = inPlaceWithin dist d (take l rest) in
-      let c : Bool = inPlaceWithin dist d (drop l rest) in
+      let a : Bool = slotInPlace v rest in
+      let b : Bool = inPlaceWithin d (take l rest) in
+      let c : Bool = inPlaceWithin d (drop l rest) in
       let s : Stands v (take l rest) (drop l rest) = slot-stands v rest (and-first a b (and-first (a && b) c h)) in (
         guides-left v (take l rest) (drop l rest) s,
         guides-right v (take l rest) (drop l rest) s,
@@ -172,7 +194,7 @@ module _ (dist : Profile → Profile → ℕ) where
       )
 
   -- slots that pass the test guide a search
-  pub in-place-guided : (slots : List Row) → inPlace dist slots ≡ true → Guided dist slots
+  in-place-guided : (slots : List Row) → inPlace slots ≡ true → Guided dist slots
   unfolding inPlace Guided
   in-place-guided slots h = guides-within (length slots) slots h
 
@@ -282,17 +304,17 @@ module _ (dist : Profile → Profile → ℕ) where
         }
 
   -- every layout of whole rows passes the test
-  layout-of-in-place : (xs : List Ranked) → All (λ x. length (x .row) ≡ rowWidth) xs → inPlace dist (layoutOf dist xs) ≡ true
+  layout-of-in-place : (xs : List Ranked) → All (λ x. length (x .row) ≡ rowWidth) xs → inPlace (layoutOf dist xs) ≡ true
   unfolding inPlace inPlaceWithin first
   layout-of-in-place =
-      layout-by-nodes dist (λ xs s. All (λ x. length (x .row) ≡ rowWidth) xs → inPlace dist s ≡ true)
+      layout-by-nodes dist (λ xs s. All (λ x. length (x .row) ≡ rowWidth) xs → inPlace s ≡ true)
       (λ xs ys s p f w. f (all-perm (λ x. length (x .row) ≡ rowWidth) (Permᴰ·symm p) w))
       (λ w. refl)
       (λ v left right n a s l r w.
       in-place-halves (first v left right a s) (layoutOf dist left) (layoutOf dist right)
       (layout-of-length dist left ∙ n ∙ ap₂ (λ (i j : ℕ). leftSize (suc (i + j))) (sym (layout-of-length dist left)) (sym (layout-of-length dist right)))
-      ∙ and-pass (tested (first v left right a s) (layoutOf dist left) (layoutOf dist right) && inPlace dist (layoutOf dist left)) (inPlace dist (layoutOf dist right))
-      (and-pass (tested (first v left right a s) (layoutOf dist left) (layoutOf dist right)) (inPlace dist (layoutOf dist left))
+      ∙ and-pass (tested (first v left right a s) (layoutOf dist left) (layoutOf dist right) && inPlace (layoutOf dist left)) (inPlace (layoutOf dist right))
+      (and-pass (tested (first v left right a s) (layoutOf dist left) (layoutOf dist right)) (inPlace (layoutOf dist left))
       (stands-tested (first v left right a s) (layoutOf dist left) (layoutOf dist right) (first-stands v left right a s (w .0)))
       (l (all-append-left (λ x. length (x .row) ≡ rowWidth) left right (w .1))))
       (r (all-append-right (λ x. length (x .row) ≡ rowWidth) left right (w .1))))
@@ -350,7 +372,7 @@ module _ (dist : Profile → Profile → ℕ) where
 
   -- slots with distinct tags that pass the test are their own layout but for their marks, whatever their ranks
   lays-within :
-      (d : ℕ) (xs : List Ranked) → length xs ≤ d → inPlaceWithin dist d (map slotOf xs) ≡ true → Pairs TagsApart xs
+      (d : ℕ) (xs : List Ranked) → length xs ≤ d → inPlaceWithin d (map slotOf xs) ≡ true → Pairs TagsApart xs
       → layoutOf dist xs ≡ map (withMark 0) (map slotOf xs)
   unfolding inPlaceWithin slotOf
   lays-within zero [] n h t = layout-none dist
@@ -368,9 +390,9 @@ module _ (dist : Profile → Profile → ℕ) where
       ap (λ (i : ℕ). take (leftSize (suc i)) slots) (length-map rest slotOf) ∙ map-take slotOf l rest in
       let eR : drop k slots ≡ map slotOf (drop l rest) =
       ap (λ (i : ℕ). drop (leftSize (suc i)) slots) (length-map rest slotOf) ∙ map-drop slotOf l rest in
-      let a : Bool = slotInPlace dist (v .row) slots in
-      let b : Bool = inPlaceWithin dist d (take k slots) in
-      let c : Bool = inPlaceWithin dist d (drop k slots) in
+      let a : Bool = slotInPlace (v .row) slots in
+      let b : Bool = inPlaceWithin d (take k slots) in
+      let c : Bool = inPlaceWithin d (drop k slots) in
       let apart : Pairs TagsApart (v ∷ take l rest ++ drop l rest) = subst (λ (ys : List Ranked). Pairs TagsApart (v ∷ ys)) (sym whole) t in
       ap (λ (ys : List Ranked). layoutOf dist (v ∷ ys)) (sym whole)
       ∙ node-kept v (take l rest) (drop l rest) (left ∙ ap (λ (i : ℕ). leftSize (suc i)) (omega arith))
@@ -379,10 +401,10 @@ module _ (dist : Profile → Profile → ℕ) where
       apart
       ∙ ap₂ (λ (x y : List Row). withMark 0 (v .row) ∷ x ++ y)
       (lays-within d (take l rest) (omega arith)
-      (subst (λ (x : List Row). inPlaceWithin dist d x ≡ true) eL (and-second a b (and-first (a && b) c h)))
+      (subst (λ (x : List Row). inPlaceWithin d x ≡ true) eL (and-second a b (and-first (a && b) c h)))
       (pairs-take TagsApart l rest (t .1)))
       (lays-within d (drop l rest) (omega arith)
-      (subst (λ (y : List Row). inPlaceWithin dist d y ≡ true) eR (and-second (a && b) c h))
+      (subst (λ (y : List Row). inPlaceWithin d y ≡ true) eR (and-second (a && b) c h))
       (pairs-drop TagsApart l rest (t .1)))
       ∙ ap (λ (x : List Row). withMark 0 (v .row) ∷ x)
       (sym (map-append (withMark 0) (map slotOf (take l rest)) (map slotOf (drop l rest)))
@@ -401,7 +423,7 @@ module _ (dist : Profile → Profile → ℕ) where
         ∙ ap (lastOf (0 ∷ 0 ∷ [])) (map-map (slotKey dist (withMark 0 v)) (withMark 0) xs ∙ map-alike unmarked-key xs)
         ∙ sym (last-key-of dist v xs)
 
-    unmarked-slot : (rest : List Row) → slotInPlace dist (withMark 0 v) (map (withMark 0) rest) ≡ slotInPlace dist v rest
+    unmarked-slot : (rest : List Row) → slotInPlace (withMark 0 v) (map (withMark 0) rest) ≡ slotInPlace v rest
     unfolding slotInPlace
     unmarked-slot rest =
         let l : ℕ = leftSize (suc (length rest)) in
@@ -422,30 +444,30 @@ module _ (dist : Profile → Profile → ℕ) where
         (drop l rest)))
         (ap₂ (λ (m : ℕ) (k : List ℕ). eqb m (getD k 0 0)) (threshold-with-mark v 0) (unmarked-last (take l rest)))
 
-  unmarked-within : (d : ℕ) (slots : List Row) → inPlaceWithin dist d (map (withMark 0) slots) ≡ inPlaceWithin dist d slots
+  unmarked-within : (d : ℕ) (slots : List Row) → inPlaceWithin d (map (withMark 0) slots) ≡ inPlaceWithin d slots
   unfolding inPlaceWithin
   unmarked-within zero slots = refl
   unmarked-within (suc d) [] = refl
   unmarked-within (suc d) (v ∷ rest) =
       let l : ℕ = leftSize (suc (length rest)) in
       let f : Row → Row = withMark 0 in
-      ap (λ (n : ℕ). slotInPlace dist (f v) (map f rest)
-      && inPlaceWithin dist d (take (leftSize (suc n)) (map f rest))
-      && inPlaceWithin dist d (drop (leftSize (suc n)) (map f rest))) (length-map rest f)
+      ap (λ (n : ℕ). slotInPlace (f v) (map f rest)
+      && inPlaceWithin d (take (leftSize (suc n)) (map f rest))
+      && inPlaceWithin d (drop (leftSize (suc n)) (map f rest))) (length-map rest f)
       ∙ ap₂ _&&_
-      (ap₂ _&&_ (unmarked-slot v rest) (ap (inPlaceWithin dist d) (map-take f l rest) ∙ unmarked-within d (take l rest)))
-      (ap (inPlaceWithin dist d) (map-drop f l rest) ∙ unmarked-within d (drop l rest))
+      (ap₂ _&&_ (unmarked-slot v rest) (ap (inPlaceWithin d) (map-take f l rest) ∙ unmarked-within d (take l rest)))
+      (ap (inPlaceWithin d) (map-drop f l rest) ∙ unmarked-within d (drop l rest))
 
-  unmarked-in-place : (slots : List Row) → inPlace dist (map (withMark 0) slots) ≡ inPlace dist slots
+  unmarked-in-place : (slots : List Row) → inPlace (map (withMark 0) slots) ≡ inPlace slots
   unfolding inPlace
   unmarked-in-place slots =
-      ap (λ (n : ℕ). inPlaceWithin dist n (map (withMark 0) slots)) (length-map slots (withMark 0)) ∙ unmarked-within (length slots) slots
+      ap (λ (n : ℕ). inPlaceWithin n (map (withMark 0) slots)) (length-map slots (withMark 0)) ∙ unmarked-within (length slots) slots
 
   -- every layout of whole rows passes the test
-  pub layout-in-place : (rows : List Row) → All (λ r. length r ≡ rowWidth) rows → inPlace dist (layout dist rows) ≡ true
+  layout-in-place : (rows : List Row) → All (λ r. length r ≡ rowWidth) rows → inPlace (layout dist rows) ≡ true
   unfolding slotOf
   layout-in-place rows w =
-      ap (inPlace dist) (layout-ranked dist rows)
+      ap inPlace (layout-ranked dist rows)
       ∙ layout-of-in-place (rankedFrom 0 rows)
       (all-of-map slotOf (λ r. length r ≡ rowWidth) (rankedFrom 0 rows) (subst (All (λ r. length r ≡ rowWidth)) (sym (ranked-slots 0 rows)) w))
 
@@ -454,25 +476,22 @@ module _ (dist : Profile → Profile → ℕ) where
   is-layout-equal slots h = same-rows (layout dist slots) (map (withMark 0) slots) h
 
   -- slots that are a layout pass the test
-  pub is-layout-in-place : (slots : List Row) → All (λ r. length r ≡ rowWidth) slots → isLayout dist slots ≡ true → inPlace dist slots ≡ true
+  is-layout-in-place : (slots : List Row) → All (λ r. length r ≡ rowWidth) slots → isLayout dist slots ≡ true → inPlace slots ≡ true
   is-layout-in-place slots w h =
-      sym (unmarked-in-place slots) ∙ ap (inPlace dist) (sym (is-layout-equal slots h)) ∙ layout-in-place slots w
+      sym (unmarked-in-place slots) ∙ ap inPlace (sym (is-layout-equal slots h)) ∙ layout-in-place slots w
 
   -- slots with distinct tags that pass the test are a layout
-  pub in-place-is-layout : (slots : List Row) → Pairs (λ r s. tagOf r ≡ tagOf s → ⊥) slots → inPlace dist slots ≡ true → isLayout dist slots ≡ true
+  in-place-is-layout : (slots : List Row) → Pairs (λ r s. tagOf r ≡ tagOf s → ⊥) slots → inPlace slots ≡ true → isLayout dist slots ≡ true
   unfolding isLayout inPlace
   in-place-is-layout slots t h =
       rows-same (layout dist slots) (map (withMark 0) slots)
       (layout-ranked dist slots
       ∙ lays-within (length slots) (rankedFrom 0 slots) (omega (arith, ranked-length 0 slots))
-      (ap (inPlaceWithin dist (length slots)) (ranked-slots 0 slots) ∙ h)
+      (ap (inPlaceWithin (length slots)) (ranked-slots 0 slots) ∙ h)
       (ranked-apart 0 slots t)
       ∙ ap (map (withMark 0)) (ranked-slots 0 slots))
 
-  -- so the thresholds of a layout guide a search
-  pub layout-guided : (rows : List Row) → All (λ r. length r ≡ rowWidth) rows → Guided dist (layout dist rows)
-  layout-guided rows w = in-place-guided (layout dist rows) (layout-in-place rows w)
-
+  -- so the thresholds of a layout guide a search, whatever its marks: a dead slot guides as before
   pub is-layout-guided : (slots : List Row) → All (λ r. length r ≡ rowWidth) slots → isLayout dist slots ≡ true → Guided dist slots
   is-layout-guided slots w h = in-place-guided slots (is-layout-in-place slots w h)
 

@@ -6,11 +6,26 @@ use mathlib.Core.Path.{_≡_, refl, sym, _∙_, ap, ap₂}
 use mathlib.Core.Bool.{Bool, true, false}
 use mathlib.Core.List.{List, [], _∷_, foldl, map, foldl-map, List·Permᴰ, List·Permᴰ·nil, List·Permᴰ·cons, List·Permᴰ·swap, List·Permᴰ·trans}
 use Rattle.metric_rules.specs.declared.Profile.{Profile}
-use Rattle.metric_rules.specs.Row.{Row}
+use Rattle.metric_rules.specs.Row.{Row, tagOf}
 use Rattle.tree_rules.specs.Sorting.{keyLe}
-use Rattle.tree_rules.specs.Guided.{All}
-use Rattle.tree_rules.specs.InPlace.{later, slotKey, lastKey}
+use Rattle.tree_rules.specs.Guided.{All, fromSlot}
 use Rattle.tree_rules.proofs.Sorting.{key-le-refl, key-le-trans, key-le-flip, key-le-antisym, key-le-less, key-le-same}
+
+-- the key that stands later in the order
+unfoldable pub later : List ℕ → List ℕ → List ℕ
+unfolding keyLe
+later a b = elim (keyLe a b) [ true ↦ b | false ↦ a ]
+
+module _ (dist : Profile → Profile → ℕ) where
+  -- a slot's place in the order of v's rest
+  unfoldable pub slotKey : Row → Row → List ℕ
+  unfolding fromSlot tagOf
+  slotKey v x = fromSlot dist v x ∷ tagOf x ∷ []
+
+  -- the last key of some slots; of none it is distance 0 and tag 0, after which every key stands
+  unfoldable pub lastKey : Row → List Row → List ℕ
+  unfolding later slotKey
+  lastKey v xs = foldl (λ k x. later k (slotKey v x)) (0 ∷ 0 ∷ []) xs
 
 pub later-known : (a b : List ℕ) → keyLe a b ≡ true → later a b ≡ b
 unfolding later

@@ -1,5 +1,6 @@
 -- What a tree's thresholds promise a search, of the slots alone and marks aside: at every slot the left half lies within its threshold and the
--- right half not below it. The laws on layouts end in this, and the laws on searches start from it.
+-- right half not below it. The laws on layouts end in this (`is-layout-guided`: a slot marked dead "still guides searches"), and the laws on searches
+-- start from it.
 use Prim.Native.Nat.{ℕ, zero, suc, _≤_}
 use mathlib.Core.Path.{_≡_}
 use mathlib.Core.List.{List, [], _∷_}

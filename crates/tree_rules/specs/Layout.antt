@@ -66,6 +66,7 @@ module _ (dist : Profile → Profile → ℕ) where
       let l = leftSize (suc (length near)) in
       placed (lastDistance v (take l near)) (v .row) ∷ below (take l near) ++ below (drop l near)
 
+  -- rows of which the first has the smallest tag: it is the first slot, and the rest are sorted by distance from it, then tag
   unfoldable pub node : (List Ranked → List Row) → List Ranked → List Row
   unfolding sortBy nearKey split
   node below [] = []

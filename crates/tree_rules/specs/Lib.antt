@@ -1,4 +1,3 @@
 pub mod Sorting
 pub mod Layout
 pub mod Guided
-pub mod InPlace

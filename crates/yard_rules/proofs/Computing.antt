@@ -9,7 +9,7 @@ use Rattle.tree_rules.specs.Sorting.{keyLe, insertBy, sortBy}
 use Rattle.tree_rules.specs.Layout.{leftSize, costWithin, cost, rankedFrom, tagKey, placed, fromPivot, nearKey, lastDistance, split, node, layoutWithin, layout}
 use Rattle.search_rules.specs.Range.{entry, entryDistance, entryKey, ordered, entersLeft, entersRight, nothing, both, toQuery, entryOf, isHit, visited, rangeWithin, rangeTree}
 use Rattle.search_rules.specs.Nearest.{keep, worst, opens as halfOpens, taken, turn, halvesInTurn, nearestWithin, nearestTree}
-use Rattle.bucket_rules.specs.Geometry.{leastOrder, mostOrder, validOrder, room, bucketsOf, headerRow, sizesRow, firstSlot, tableRows, workRows}
+use Rattle.bucket_rules.specs.Geometry.{validOrder, room, bucketsOf, headerRow, sizesRow, firstSlot, tableRows, workRows}
 use Rattle.bucket_rules.specs.Table.{rowAt, orderOf, tableSpace, builtOf, liveOf, inUse, liveTotal, slotsOf, liveSlots, pairRow, headerOf, putSizes, putBucket, emptied, cleared}
 use Rattle.bucket_rules.specs.Checks.{sizePasses, sizesPass, marksPass, tableRefusal, readRefusal, changeRefusal}
 use Rattle.bucket_rules.specs.Fresh.{freshRefusal, freshTable, tableAfterFresh}
@@ -31,7 +31,7 @@ unfolding
     validMeasure validMeasures mostDistance saturated gap measureDistance differing codeDistance largest worstDistance distanceBy distance metricAt spaceOf
     lastMetric validSpace keyLe insertBy sortBy leftSize costWithin cost rankedFrom tagKey placed fromPivot nearKey lastDistance split node
     layoutWithin layout entry entryDistance entryKey ordered isLive entersLeft entersRight nothing both toQuery entryOf isHit visited
-    rangeWithin rangeTree keep worst halfOpens taken turn halvesInTurn nearestWithin nearestTree leastOrder mostOrder validOrder room
+    rangeWithin rangeTree keep worst halfOpens taken turn halvesInTurn nearestWithin nearestTree validOrder room
     bucketsOf headerRow sizesRow firstSlot tableRows workRows rowAt orderOf tableSpace builtOf liveOf inUse liveTotal slotsOf liveSlots
     pairRow headerOf putSizes putBucket emptied cleared sizePasses sizesPass marksPass tableRefusal readRefusal changeRefusal freshRefusal
     freshTable tableAfterFresh liveItems rebuilt addRefusal emptyFrom lowestEmpty gathered addBucket addTarget added addReply tableAfterAdd

@@ -7,7 +7,6 @@ use lib.ListN.{length}
 use lib.Dec.{leb}
 use Rattle.metric_rules.specs.declared.Profile.{Profile}
 use Rattle.metric_rules.specs.Row.{Row}
-use Rattle.metric_rules.specs.Distance.{Space}
 use Rattle.search_rules.specs.Range.{Entry}
 use Rattle.bucket_rules.specs.Refusals.{badOrder}
 use Rattle.bucket_rules.specs.Table.{Table}

@@ -8,7 +8,7 @@ use lib.ListN.{length}
 use Rattle.nearest_few.proofs.Nearing.{leaves-as}
 use Rattle.nearest_few.proofs.NearSteps.{ready-less}
 use Rattle.nearest_few.specs.Nearby.{tallyOf}
-use Rattle.bucket_rules.specs.Geometry.{firstSlot}
+use Rattle.bucket_rules.specs.Geometry.{room, firstSlot}
 use Rattle.bucket_rules.specs.Table.{builtOf}
 use Rattle.bucket_rules.proofs.Passing.{built-inside}
 use Rattle.bucket_rules.proofs.Down.{few-slots}
@@ -28,6 +28,7 @@ slots-of-requires c κs =
     )
 
 visited-requires : tie.Need-visited-requires
+unfolding room
 visited-requires c κs =
     let s = c .before .before in
     let few = few-slots (s .pre .1) (s .args .bucket) (omega (arith, s .pre .0, s .pre .2)) in

@@ -7,10 +7,10 @@ use mathlib.Core.List.{List}
 use borrow.Author.Needs.{needs}
 use lib.ListN.{length}
 use Rattle.metric_rules.specs.Row.{Row}
-use Rattle.search_rules.specs.declared.Found.{Found}
+use Rattle.range.specs.declared.Found.{Found}
 use Rattle.search_rules.specs.Range.{Entry}
-use Rattle.search_rules.specs.Asked.{rangeAsked}
-use Rattle.search_rules.specs.Collected.{foundAfter, collected}
+use Rattle.range.specs.Asked.{rangeAsked}
+use Rattle.range.specs.Collected.{foundAfter, collected}
 use Rattle.bucket_rules.specs.Geometry.{firstSlot}
 use Rattle.bucket_rules.specs.Table.{Table, builtOf}
 use Rattle.bucket_rules.proofs.Passing.{built-inside}

@@ -78,7 +78,7 @@ slots-pass-requires c κs =
     let z = sizes-passed (s .args .rows) image (sizes-zero (c .before .before .before)) in
     (places image (c .before .sizes-end .result) (c .slots-in .result) (z .1) (place c .0) (c .slots-in .ensures), h .1, h .0, z .0)
 
--- with head and sizes passed, the slots decide
+-- with header and sizes passed, the slots decide
 slots-decide : (c : tie.After-slots-pass) → loadRefusal (c .before .before .before .before .before .before .before .before .before .args .rows) (c .before .before .before .before .before .before .before .before .before .args .image .now) ≡ slotsBy (c .slots-pass .result)
 unfolding andThen
 slots-decide c =

@@ -7,7 +7,7 @@ use borrow.Author.Tests.{not-true, not-false}
 use Rattle.metric_rules.specs.Lists.{every}
 use Rattle.metric_rules.specs.Row.{Row}
 use Rattle.metric_rules.specs.Distance.{Space, spaceOf}
-use Rattle.bucket_rules.specs.Geometry.{mostOrder, bucketsOf}
+use Rattle.bucket_rules.specs.Geometry.{bucketsOf}
 use Rattle.bucket_rules.specs.Table.{headerOf}
 use Rattle.image_rules.specs.Read.{orderIn, spaceIn}
 use Rattle.image_fields.specs.SlotsRead.{slotsRead}
@@ -30,7 +30,6 @@ returns c =
     ∙ ap (λ (x : Bool). x && slotsStand (spaceIn image) image) (read-tested (c .before) ∙ not-true (c .before .buckets-read .result) (c .if1 .taken)))
 
 slots-stand-requires : tie.Need-slots-stand-requires
-unfolding mostOrder
 slots-stand-requires c κs =
     let p = c .before .before .before .before .before .before .before .pre in
     (p .0, p .1, p .3, read-tested (c .before .before .before .before .before) ∙ not-false (c .before .before .before .before .before .buckets-read .result) (c .before .before .before .before .if1 .left))

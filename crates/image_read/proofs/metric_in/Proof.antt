@@ -1,4 +1,4 @@
--- `image_read::metric_in` meets its contract: the metric is the second field of the head.
+-- `image_read::metric_in` meets its contract: the metric is the second field of the header.
 use mathlib.Core.Path.{ap}
 use native.Mathlib.Omega.{arith}
 use Rattle.metric_rules.specs.Lists.{total}

@@ -1,4 +1,4 @@
--- `image_read::order_in` meets its contract: the order is the first field of the head.
+-- `image_read::order_in` meets its contract: the order is the first field of the header.
 use mathlib.Core.Path.{ap}
 use native.Mathlib.Omega.{arith}
 use Rattle.metric_rules.specs.Lists.{total}

@@ -1,4 +1,4 @@
--- `image_read::sizes_end` meets its contract: head and pairs.
+-- `image_read::sizes_end` meets its contract: header and pairs.
 use native.Mathlib.Omega.{arith}
 use borrow.Author.Needs.{needs}
 use Rattle.metric_rules.specs.Lists.{total}

@@ -1,4 +1,4 @@
--- `image_read::zeros_in` meets its contract: the zero bytes are the third field of the head.
+-- `image_read::zeros_in` meets its contract: the zero bytes are the third field of the header.
 use mathlib.Core.Path.{ap}
 use native.Mathlib.Omega.{arith}
 use Rattle.metric_rules.specs.Lists.{total}

@@ -12,7 +12,7 @@ use lib.Seq.{length-take-le, length-front}
 use Rattle.metric_rules.specs.Lists.{countFrom, total, every}
 use Rattle.metric_rules.specs.Distance.{spaceOf}
 use Rattle.tree_rules.proofs.Tests.{scan-fails, scan-passes, scan-ends}
-use Rattle.bucket_rules.specs.Geometry.{bucketsOf, mostOrder}
+use Rattle.bucket_rules.specs.Geometry.{bucketsOf}
 use Rattle.image_rules.specs.Read.{orderIn, slotsBefore, bucketIn}
 use Rattle.image_entries.specs.Entries.{places}
 use Rattle.image_test.specs.Standing.{standing}
@@ -31,7 +31,6 @@ order-in-requires : tie.Need-order-in-requires Inv-loop μ-loop
 order-in-requires c κs = head-fits (c .before .pre .0)
 
 add-buckets : tie.Need-add-buckets Inv-loop μ-loop
-unfolding mostOrder
 add-buckets c = omega (arith, c .order-in .ensures, c .before .before .pre .1)
 
 loop-holds : tie.Need-loop-holds Inv-loop μ-loop
@@ -96,7 +95,6 @@ add-first c =
     omega (arith, l .inv .3, b .ensures, bucket-within (s .args .image .now) (l .k) (omega (arith, l .inv .1)), slots-few (s .pre .0))
 
 add-k : tie.Need-add-k Inv-loop μ-loop
-unfolding mostOrder
 add-k c = omega (arith, c .before .before .before .before .before .before .loop .inv .1, c .before .before .before .before .before .before .before .before .before .pre .1)
 
 loop-less : tie.Need-loop-less Inv-loop μ-loop

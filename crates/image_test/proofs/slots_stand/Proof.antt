@@ -5,7 +5,6 @@ use Prim.Native.Nat.{ℕ}
 use mathlib.Core.Path.{refl}
 use mathlib.Core.List.{List}
 use Rattle.metric_rules.specs.Distance.{spaceOf}
-use Rattle.bucket_rules.specs.Geometry.{mostOrder}
 use Rattle.image_rules.specs.Read.{orderIn}
 use Rattle.image_entries.specs.Entries.{places}
 use Rattle.image_test.proofs.Buckets.{sizes-fit}
@@ -31,7 +30,6 @@ returns c =
     stand-fails (spaceOf (s .args .header .now)) (s .args .image .now) (b .result) (b .ensures) (not-true (b .result) (c .if1 .taken))
 
 slots-in-requires : tie.Need-slots-in-requires
-unfolding mostOrder
 slots-in-requires c κs =
     let s = c .before .before .before .before .before in
     (s .pre .1, sizes-fit (s .pre .0) (orderIn (s .args .image .now)) (omega arith))

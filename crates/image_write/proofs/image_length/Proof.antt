@@ -1,4 +1,4 @@
--- `image_write::image_length` meets its contract: head, sizes, and 48 bytes for each slot.
+-- `image_write::image_length` meets its contract: header, sizes, and 48 bytes for each slot.
 use Prim.Native.Nat.{_+_, _*_}
 use mathlib.Core.Path.{_≡_, ap, ap₂, _∙_, sym}
 use native.Mathlib.Omega.{arith}

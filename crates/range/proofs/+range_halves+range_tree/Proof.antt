@@ -9,12 +9,12 @@ use lib.Dec.{leb, ltb}
 use Rattle.tree_rules.proofs.Parts.{left-size, part-rest}
 use Rattle.tree_rules.proofs.Tests.{and-second}
 use Rattle.metric_rules.specs.Row.{Row, isLive}
-use Rattle.search_rules.specs.declared.Found.{Found}
 use Rattle.tree_rules.specs.Layout.{leftSize}
 use Rattle.search_rules.specs.Range.{Met, nothing, entersLeft, entersRight, toQuery}
-use Rattle.search_rules.specs.Asked.{distanceAsked, queryAsked, radiusAsked, rangeAsked}
-use Rattle.search_rules.specs.Collected.{foundAfter, collected, metAlone, ifEntered, metInHalves}
-use Rattle.search_rules.proofs.RangeLaws.{range-count-le, range-hits-le}
+use Rattle.search_rules.proofs.RangeLaws.{ifEntered, range-count-le, range-hits-le}
+use Rattle.range.specs.declared.Found.{Found}
+use Rattle.range.specs.Asked.{distanceAsked, queryAsked, radiusAsked, rangeAsked}
+use Rattle.range.specs.Collected.{foundAfter, collected, metAlone, metInHalves}
 use Rattle.range.proofs.Collecting.{tree-empty, empty-half, entered, skipped, half-found, found-nothing, collected-nothing, collected-length, alone-found, two-turns, tree-visit}
 use Prim.Native.Nat.{ℕ, suc, _+_, _-_, _*_, _/_, _^_, _<_}
 use native.Mathlib.Omega.{arith}
@@ -168,7 +168,7 @@ range-halves-same-length : (t : ℕ) → range-halves-lts.Need-same-length (rang
 range-halves-same-length t c = c .before .range-tree2 .kept .1 .1 .0 ∙ left-length t (c .before .before .before .before .before)
 
 range-halves-returns : (t : ℕ) → range-halves-lts.Need-returns (range-halves-callees t) (range-halves-at t) range-halves.Post
-unfolding metInHalves
+unfolding metInHalves ifEntered
 range-halves-returns t c =
     let j = c .before .before .before .before .before in
     let a = j .before .before .before .args in
@@ -181,7 +181,7 @@ range-halves-returns t c =
     (c .before .range-tree2 .ensures .1 ∙ ap (collected (j .if1 .area) (j .if1 .met)) e)
 
 range-halves-returns-2 : (t : ℕ) → range-halves-lts.Need-returns-2 (range-halves-callees t) (range-halves-at t) range-halves.Post
-unfolding metInHalves
+unfolding metInHalves ifEntered
 range-halves-returns-2 t c =
     let j = c .before in
     let a = j .before .before .before .args in

@@ -7,9 +7,9 @@ use lib.Seq.{sets}
 use lib.Dec.{leb}
 use Rattle.metric_rules.specs.declared.Profile.{Profile}
 use Rattle.metric_rules.specs.Row.{Row, tagOf}
-use Rattle.search_rules.specs.declared.Found.{Found}
 use Rattle.tree_rules.specs.Layout.{leftSize}
 use Rattle.search_rules.specs.Range.{Entry, entry, entersLeft, entersRight, Met, nothing, both, rangeTree}
+use Rattle.range.specs.declared.Found.{Found}
 
 -- the numbers before a visit and what it met give the numbers after it
 unfoldable pub foundAfter : Found → Met → Found
@@ -24,16 +24,11 @@ unfoldable pub metAlone : (Row → Bool) → Row → ℕ → ℕ → Met
 unfolding entry tagOf
 metAlone reports row d radius = record { hits = elim (reports row && leb d radius) [ true ↦ entry (tagOf row) d ∷ [] | false ↦ [] ]; count = 1 }
 
--- what a half gives, where its test lets it be entered
-unfoldable pub ifEntered : Bool → Met → Met
-unfolding nothing
-ifEntered b met = elim b [ true ↦ met | false ↦ nothing ]
-
--- the halves below a slot at distance d from the query and of threshold m
+-- the halves below a slot at distance d from the query and of threshold m, each where its test lets it be entered
 unfoldable pub metInHalves : (Profile → Profile → ℕ) → Profile → (Row → Bool) → ℕ → ℕ → ℕ → List Row → Met
-unfolding both ifEntered rangeTree leftSize entersLeft entersRight
+unfolding both nothing rangeTree leftSize entersLeft entersRight
 metInHalves dist query reports radius d m rest =
     let l = leftSize (suc (length rest)) in
     both
-    (ifEntered (entersLeft d m radius) (rangeTree dist query reports radius (take l rest)))
-    (ifEntered (entersRight d m radius) (rangeTree dist query reports radius (drop l rest)))
+    (elim (entersLeft d m radius) [ true ↦ rangeTree dist query reports radius (take l rest) | false ↦ nothing ])
+    (elim (entersRight d m radius) [ true ↦ rangeTree dist query reports radius (drop l rest) | false ↦ nothing ])
