@@ -6,13 +6,13 @@
 #include "vpindex.h"
 
 #define ORDER 3
-#define HERD 6
+#define ITEMS 6
 
 /* national number; weight, hip height, girth and daily gain, in hundredths */
 static const struct {
     uint64_t national;
     int32_t measures[4];
-} herd[HERD] = {
+} items[ITEMS] = {
     {101, {41250, 12900, 18500, 95}},  {102, {39800, 12700, 18100, 90}},  {103, {55600, 13800, 20700, 120}},
     {104, {40900, 12850, 18450, 102}}, {105, {56100, 13750, 20900, 118}}, {106, {28300, 11400, 15600, 88}},
 };
@@ -28,18 +28,19 @@ static uint32_t work[VPINDEX_WORK_ROWS(ORDER)][VPINDEX_ROW_WORDS];
 static uint64_t result[VPINDEX_RESULT_ENTRIES(ORDER)][VPINDEX_ENTRY_WORDS];
 static uint8_t image[VPINDEX_IMAGE_BYTES(ORDER)];
 
-static uint32_t add_herd(void) {
-    for (size_t i = 0; i < HERD; i++) {
+static uint32_t add_items(void) {
+    for (size_t i = 0; i < ITEMS; i++) {
         vpindex_profile profile = {{0}, {0, 0}};
         for (size_t j = 0; j < 4; j++) {
-            profile.measures[j] = herd[i].measures[j];
+            profile.measures[j] = items[i].measures[j];
         }
-        uint64_t tag = VPINDEX_TAG(36, herd[i].national);
-        vpindex_added added = vpindex_add(table, VPINDEX_TABLE_ROWS(ORDER), work, VPINDEX_WORK_ROWS(ORDER), tag, profile);
+        uint64_t tag = VPINDEX_TAG(36, items[i].national);
+        vpindex_added added =
+            vpindex_add(table, VPINDEX_TABLE_ROWS(ORDER), work, VPINDEX_WORK_ROWS(ORDER), tag, profile);
         if (added.refusal != VPINDEX_ACCEPTED) {
             return added.refusal;
         }
-        printf("add %" PRIu64 ": bucket %" PRIu32 ", %" PRIu32 " distances\n", herd[i].national, added.bucket,
+        printf("add %" PRIu64 ": bucket %" PRIu32 ", %" PRIu32 " distances\n", items[i].national, added.bucket,
                added.distances);
     }
     return VPINDEX_ACCEPTED;
@@ -77,7 +78,8 @@ int main(void) {
     const size_t room = VPINDEX_RESULT_ENTRIES(ORDER);
     const vpindex_profile query = {{41000, 12900, 18400, 100}, {0, 0}};
 
-    if (vpindex_fresh(table, rows, ORDER, VPINDEX_SUM_OF_DIFFERENCES) != VPINDEX_ACCEPTED || add_herd() != VPINDEX_ACCEPTED) {
+    if (vpindex_fresh(table, rows, ORDER, VPINDEX_SUM_OF_DIFFERENCES) != VPINDEX_ACCEPTED ||
+        add_items() != VPINDEX_ACCEPTED) {
         return 1;
     }
     print("range 500", vpindex_range(table, rows, result, room, query, 500));

@@ -1,12 +1,15 @@
 #!/bin/sh
-# Proves the calls, builds the archive and reads a herd list: examples/herd.list, or the file that is named. It says how many head were added, or
-# which line is wrong and why (and then ends with status 1), and shows the three nearest to the first.
-# VPINDEX_LIB_DIR, a full path, names the folder of another libvpindex.a.
+# Proves the calls, builds the archive and reads a herd list: examples/herd.list, or the file that is named. It says how
+# many items were added, or which line is wrong and why (and then ends with status 1), and shows the three nearest to the
+# first. VPINDEX_LIB_DIR, a full path, names the folder of another libvpindex.a, which is then not built.
 set -eu
-list=$(realpath "${1:-$(dirname "$0")/herd.list}")
+list=${1:-$(dirname "$0")/herd.list}
+[ -r "$list" ] || { echo "$list: not a file that can be read" >&2; exit 1; }
+list=$(realpath "$list")
 cd "$(dirname "$0")/.."
 if [ -z "${VPINDEX_LIB_DIR:-}" ]; then
     mkdir -p target
+    echo 'proving and building the archive: minutes the first time, log in target/list.log' >&2
     rt staticlib vpindex > target/list.log 2>&1 || { cat target/list.log; exit 1; }
 fi
 cd rust

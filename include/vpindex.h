@@ -12,7 +12,8 @@
  *     readable, and writable in an area that the call may change;
  *   - it is aligned as its type wants;
  *   - areas lent to the same call do not overlap;
- *   - no other thread uses an area while a call has it, except that several may read the same table.
+ *   - no other thread uses an area while a call has it, except that several may read the same table;
+ *   - the stack has room: seen, not a bound, is about 70 KB for vpindex_load at order 12, under 4 KB for the others.
  */
 #ifndef VPINDEX_H
 #define VPINDEX_H
@@ -37,7 +38,7 @@ extern "C" {
 #define VPINDEX_SUM_OF_DIFFERENCES 0     /* metric 0: the sum of the absolute differences of the four measures */
 #define VPINDEX_DIFFERING_BITS 1         /* metric 1: the number of bits in which the two codes differ */
 #define VPINDEX_LARGEST_DIFFERENCE 2     /* metric 2: the largest of the absolute differences of the four measures */
-#define VPINDEX_MAX_MEASURE 1000000      /* a measure is -1,000,000 to 1,000,000 */
+#define VPINDEX_MAX_MEASURE 1000000      /* a measure is -1,000,000 to 1,000,000 hundredths */
 #define VPINDEX_MIN_TAG VPINDEX_TAG(1, 0)
 #define VPINDEX_MAX_NATIONAL UINT64_C(274877906943)  /* the largest national number: 38 bits, as ISO 11784 stores it */
 #define VPINDEX_MAX_TAG VPINDEX_TAG(999, VPINDEX_MAX_NATIONAL)
@@ -50,7 +51,9 @@ extern "C" {
 #define VPINDEX_ROW_WORDS 12             /* 32-bit words in a row of the table or of the work area */
 #define VPINDEX_ENTRY_WORDS 2            /* 64-bit words in an entry of the result area */
 
-/* The table: row 0 has the order and the metric, then comes a row for each bucket with its two sizes, then the slots. */
+/* The order that these sizes are given for must be at most VPINDEX_MAX_ORDER. */
+
+/* The table: row 0 has the order and the metric, then a row for each bucket has its two sizes, then come the slots. */
 #define VPINDEX_TABLE_ROWS(order) ((size_t)(order) + 1 + ((size_t)2 << (order)))
 
 /* The work area, lent to vpindex_add, vpindex_remove and vpindex_read_list. */
@@ -68,8 +71,8 @@ extern "C" {
 /* ---- Refusals ----------------------------------------------------------------------------------------------------
  * A refused call returns the number of its refusal, with zeros in every other field of the reply, and changes no area.
  * There are two exceptions: VPINDEX_NO_ROOM from vpindex_range or vpindex_nearest leaves the result area all zero, and
- * vpindex_read_list keeps what it added before the line that it refuses, and says so. Where several conditions hold, the
- * first in the order given at the call is returned. */
+ * vpindex_read_list keeps what it added before the line that it refuses, and says so. Where several conditions hold,
+ * the first in the order given at the call is returned. */
 
 #define VPINDEX_ACCEPTED 0
 
@@ -79,7 +82,7 @@ extern "C" {
 #define VPINDEX_BAD_ORDER 3              /* order above 12 */
 #define VPINDEX_BAD_METRIC 4             /* metric above 2 */
 #define VPINDEX_NO_COUNT 5               /* nearest with k = 0 */
-#define VPINDEX_NO_ROOM 6                /* result area with fewer entries than the reply, or fewer bytes than the image */
+#define VPINDEX_NO_ROOM 6                /* result area shorter than the reply, or image area than the image */
 #define VPINDEX_BAD_LENGTH 7             /* the image's length is wrong */
 #define VPINDEX_BAD_IMAGE 8              /* an image sound in its sizes, but its fields or trees break a rule */
 
@@ -88,7 +91,7 @@ extern "C" {
 #define VPINDEX_NOT_LIVE 21              /* the tag is not in the table */
 #define VPINDEX_FULL 22                  /* the table has 2^T items */
 #define VPINDEX_SHORT_AREA 23            /* table or work area shorter than the order needs, or a table of no rows */
-#define VPINDEX_BAD_TABLE 24             /* sizes, order, metric or marks of a table, or sizes of an image, break the rules */
+#define VPINDEX_BAD_TABLE 24             /* sizes, order, metric or marks of a table, or an image's sizes, are wrong */
 
 /* by the list */
 #define VPINDEX_BAD_LIST_HEADER 30       /* the list does not begin with VPINDEX_LIST_HEADER */
@@ -148,17 +151,18 @@ uint32_t vpindex_fresh(uint32_t (*table)[VPINDEX_ROW_WORDS], size_t table_rows, 
  * Returns 0 or a refusal: BAD_LENGTH (under 4 bytes), BAD_ORDER, BAD_METRIC, BAD_IMAGE (bytes 2 and 3 not zero),
  * BAD_LENGTH (sizes cut short), BAD_TABLE (sizes), BAD_LENGTH (not the length that the sizes give), SHORT_AREA,
  * BAD_IMAGE (tags, measures, marks or trees). */
-uint32_t vpindex_load(uint32_t (*table)[VPINDEX_ROW_WORDS], size_t table_rows, const uint8_t *image, size_t image_bytes);
+uint32_t vpindex_load(uint32_t (*table)[VPINDEX_ROW_WORDS], size_t table_rows, const uint8_t *image,
+                      size_t image_bytes);
 
 /* Adds an item. The work area's first VPINDEX_WORK_ROWS(order) rows are zero after an accepted call.
- * Refusals: SHORT_AREA (no rows), BAD_TABLE (order, metric), SHORT_AREA (table, work), BAD_TABLE (sizes, marks), BAD_TAG,
- * BAD_MEASURE, ALREADY_LIVE, FULL. */
+ * Refusals: SHORT_AREA (no rows), BAD_TABLE (order, metric), SHORT_AREA (table, work), BAD_TABLE (sizes, marks),
+ * BAD_TAG, BAD_MEASURE, ALREADY_LIVE, FULL. */
 vpindex_added vpindex_add(uint32_t (*table)[VPINDEX_ROW_WORDS], size_t table_rows, uint32_t (*work)[VPINDEX_ROW_WORDS],
                           size_t work_rows, uint64_t tag, vpindex_profile profile);
 
 /* Removes the item with this tag. The work area's first VPINDEX_WORK_ROWS(order) rows are zero after an accepted call.
- * Refusals: SHORT_AREA (no rows), BAD_TABLE (order, metric), SHORT_AREA (table, work), BAD_TABLE (sizes, marks), BAD_TAG,
- * NOT_LIVE. */
+ * Refusals: SHORT_AREA (no rows), BAD_TABLE (order, metric), SHORT_AREA (table, work), BAD_TABLE (sizes, marks),
+ * BAD_TAG, NOT_LIVE. */
 vpindex_removed vpindex_remove(uint32_t (*table)[VPINDEX_ROW_WORDS], size_t table_rows,
                                uint32_t (*work)[VPINDEX_ROW_WORDS], size_t work_rows, uint64_t tag);
 
@@ -173,8 +177,8 @@ vpindex_searched vpindex_range(VPINDEX_READ uint32_t (*table)[VPINDEX_ROW_WORDS]
                                uint64_t (*result)[VPINDEX_ENTRY_WORDS], size_t result_entries, vpindex_profile query,
                                uint32_t radius);
 
-/* Finds the k items nearest to the query, or all where there are fewer; of items at the same distance the lower tag goes
- * first. The result area as in vpindex_range.
+/* Finds the k items nearest to the query, or all where there are fewer; of items at the same distance the lower tag
+ * goes first. The result area as in vpindex_range.
  * Refusals: SHORT_AREA (no rows), BAD_TABLE (order, metric), SHORT_AREA, BAD_TABLE (sizes), BAD_MEASURE, NO_COUNT,
  * NO_ROOM. */
 vpindex_searched vpindex_nearest(VPINDEX_READ uint32_t (*table)[VPINDEX_ROW_WORDS], size_t table_rows,
@@ -193,8 +197,8 @@ vpindex_written vpindex_write(VPINDEX_READ uint32_t (*table)[VPINDEX_ROW_WORDS],
  * it and covers all digits. The code is zero. Each line is an add, in the order of the list. The first line that is
  * refused ends the reading: the lines before it stay added, and table and work area are as those adds left them. Where
  * no line follows the header, nothing more is checked and the reply is all zeros.
- * Refusals: BAD_LIST_HEADER, before anything of the table is looked at; then line by line BAD_LIST_LINE, also for bytes
- * after the last line feed, and those of vpindex_add in their order. */
+ * Refusals: BAD_LIST_HEADER, before anything of the table or the work area is looked at; then line by line
+ * BAD_LIST_LINE, also for bytes after the last line feed, and those of vpindex_add in their order. */
 vpindex_list_read vpindex_read_list(uint32_t (*table)[VPINDEX_ROW_WORDS], size_t table_rows,
                                     uint32_t (*work)[VPINDEX_ROW_WORDS], size_t work_rows, const uint8_t *list,
                                     size_t list_bytes);

@@ -19,7 +19,8 @@ step() {
     fi
 }
 
-# Runs a program and holds what it writes to the text of a file. (A step's function goes on after a failure: hence the &&.)
+# Runs a program and holds what it writes to the text of a file. (A step's function goes on after a failure: hence the
+# &&.)
 example() {
     expected=$1
     shift
@@ -31,18 +32,37 @@ refused() { ! "$@"; }
 
 tests() { (cd rust && cargo test --offline); }
 rust_herd() { (cd rust && cargo run --offline --quiet --example herd); }
-c_herd() {
-    cc -std=c11 -O2 -pedantic -Wall -Wextra -Werror -Iinclude -o "$out/herd" c/herd.c "$VPINDEX_LIB_DIR/libvpindex.a" && "$out/herd"
+strict='-pedantic -Wall -Wextra -Werror -Iinclude'
+c_herd() { cc -std=c11 -O2 $strict -o "$out/herd" c/herd.c "$VPINDEX_LIB_DIR/libvpindex.a" && "$out/herd"; }
+# The first use that the README shows, as it is printed.
+c_readme() {
+    sed -n '/^```c$/,/^```$/{/^```/!p;}' README.md > "$out/first.c" &&
+        cc -std=c11 $strict -o "$out/first" "$out/first.c" "$VPINDEX_LIB_DIR/libvpindex.a" && "$out/first"
+}
+cxx_header() { echo '#include "vpindex.h"' | c++ -std=c++11 $strict -fsyntax-only -x c++ -; }
+# The archive needs nothing of the system but the C library's memory functions.
+needs() {
+    nm -u "$VPINDEX_LIB_DIR/libvpindex.a" > "$out/undefined" &&
+        ! grep ' U ' "$out/undefined" | grep -Ev ' mem(set|cpy|move|cmp)$'
 }
 list() { sh examples/list.sh "$@"; }
+# A list that is not there is named.
+no_list() { ! list examples/none.list 2> "$out/said" && grep -q '^examples/none.list: ' "$out/said"; }
 
 if [ -z "${VPINDEX_LIB_DIR:-}" ]; then
     step archive rt staticlib vpindex
     VPINDEX_LIB_DIR=$PWD/target/staticlib
     export VPINDEX_LIB_DIR
 fi
+step archive-needs needs
 step tests tests
 step rust-example example c/herd.expected rust_herd
 step c-example example c/herd.expected c_herd
+step c-readme c_readme
+if command -v c++ > /dev/null; then
+    step c++-header cxx_header
+fi
 step list-example example examples/herd.expected list
 step list-refused example examples/fault.expected refused list examples/fault.list
+step list-of-bytes example examples/byte.expected refused list examples/byte.list
+step list-missing no_list

@@ -2,8 +2,8 @@
 
 use std::hint::black_box;
 
-use crate::herd::{Profile, Random, Spread, profiles, tag};
 use crate::index::{Archive, Index};
+use crate::items::{Profile, Random, Spread, profiles, tag};
 use crate::measure::{median, timed, turns};
 use crate::plain::Plain;
 
@@ -18,7 +18,7 @@ pub struct Line {
 pub struct Work {
     order: u32,
     metric: u32,
-    herd: Vec<Profile>,
+    items: Vec<Profile>,
     // of a day: what is removed and what is added, in turn
     day: Vec<(usize, usize)>,
 }
@@ -26,7 +26,7 @@ pub struct Work {
 impl Work {
     pub fn new(seed: u64, spread: Spread, order: u32, metric: u32) -> Work {
         let n = 1usize << order;
-        let herd = profiles(seed, spread, 2 * n);
+        let items = profiles(seed, spread, 2 * n);
         let mut random = Random(seed);
         let mut live: Vec<usize> = (0..n / 2).collect();
         let mut change = |next: usize| {
@@ -34,12 +34,12 @@ impl Work {
             (std::mem::replace(&mut live[at], next), next)
         };
         let day = (n / 2..n / 2 + n).map(&mut change).collect();
-        Work { order, metric, herd, day }
+        Work { order, metric, items, day }
     }
 
     fn filled<I: Index>(&self, n: usize) -> I {
         let mut index = I::new(self.order, self.metric);
-        for (i, profile) in self.herd[..n].iter().enumerate() {
+        for (i, profile) in self.items[..n].iter().enumerate() {
             index.add(tag(i), profile);
         }
         index
@@ -59,7 +59,7 @@ impl Work {
         let mut sums = [0.0; 2];
         for &(gone, new) in &self.day {
             sums[0] += timed(|| index.remove(tag(gone))).0;
-            sums[1] += timed(|| index.add(tag(new), &self.herd[new])).0;
+            sums[1] += timed(|| index.add(tag(new), &self.items[new])).0;
         }
         index.write();
         (sums.map(|sum| sum / self.day.len() as f64), index.image().to_vec())

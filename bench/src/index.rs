@@ -2,7 +2,7 @@
 
 use vpindex::ffi;
 
-use crate::herd::Profile;
+use crate::items::Profile;
 
 /// A distance and a tag.
 pub type Hit = (u32, u64);

@@ -1,10 +1,10 @@
-//! Measures the calls beside plain Rust programs on the same herds in the same run, and compares what they give on the way.
-//! `bench FOLDER [SEED]` writes calls.md and growth.svg into the folder; bench/run.sh runs it. `bench nearest SEED..` prints what nearest takes beside
-//! the scan, a line for each herd, metric and seed; bench/nearest.sh runs it.
+//! Measures the calls beside plain Rust programs on the same herds in the same run, and compares what they give on the
+//! way. `bench FOLDER [SEED]` writes calls.md and growth.svg into the folder; bench/run.sh runs it. `bench nearest
+//! SEED..` prints what nearest takes beside the scan, a line for each herd, metric and seed; bench/nearest.sh runs it.
 
 mod changes;
-mod herd;
 mod index;
+mod items;
 mod measure;
 mod plain;
 mod plot;
@@ -14,7 +14,7 @@ use std::fmt::Write;
 use std::{env, fs};
 
 use changes::Work;
-use herd::{SPREADS, Spread};
+use items::{SPREADS, Spread};
 use plot::Series;
 use searches::Full;
 

@@ -1,8 +1,8 @@
-//! The same method in plain Rust, as one would write it who owns the table: buckets of slots, built, searched and shrunk by
-//! the same rules, with no check of what it wrote itself. And the scans.
+//! The same method in plain Rust, as one would write it who owns the table: buckets of slots, built, searched and
+//! shrunk by the same rules, with no check of what it wrote itself. And the scans.
 
-use crate::herd::Profile;
 use crate::index::{Hit, Index};
+use crate::items::Profile;
 
 #[derive(Clone, Copy, Default)]
 pub struct Slot {
@@ -35,8 +35,8 @@ fn distance(metric: u32, a: &Profile, b: &Profile) -> u32 {
     }
 }
 
-// The tree of these items, in place: the smallest tag first, the rest by distance from it and tag, each half likewise. The
-// threshold has the distance on the way. Gives the number of distances.
+// The tree of these items, in place: the smallest tag first, the rest by distance from it and tag, each half likewise.
+// The threshold has the distance on the way. Gives the number of distances.
 fn build(metric: u32, part: &mut [Slot]) -> u32 {
     let Some(least) = (0..part.len()).min_by_key(|&i| part[i].tag) else { return 0 };
     part.swap(0, least);
@@ -255,7 +255,8 @@ fn insert(best: &mut Vec<Hit>, k: usize, hit: Hit) {
     best.insert(at, hit);
 }
 
-/// A scan that keeps the k best. The metric is told before the loop and the worst one kept is at hand: asked at each slot, either made the scan slower.
+/// A scan that keeps the k best. The metric is told before the loop and the worst one kept is at hand: asked at each
+/// slot, either made the scan slower.
 pub fn scan_nearest(metric: u32, slots: &[Slot], query: &Profile, k: usize, best: &mut Vec<Hit>) {
     match metric {
         0 => keep_best(slots, k, best, |p| distance(0, p, query)),

@@ -54,10 +54,9 @@ impl Panel {
 /// The panels side by side, and below them the names of the lines, which are the same in each.
 pub fn svg(panels: &[(String, Vec<Series>)]) -> String {
     let (width, height) = (WIDTH * panels.len() as f64, HEIGHT + 60.0);
-    let mut svg = format!(
-        r#"<svg xmlns="http://www.w3.org/2000/svg" viewBox="0 0 {width} {height}" font-family="sans-serif" font-size="11">"#
-    );
-    svg += "\n<rect width=\"100%\" height=\"100%\" fill=\"white\"/>\n";
+    let mut svg = format!(r#"<svg xmlns="http://www.w3.org/2000/svg" viewBox="0 0 {width} {height}""#);
+    svg += " font-family=\"sans-serif\" font-size=\"11\">\n";
+    svg += "<rect width=\"100%\" height=\"100%\" fill=\"white\"/>\n";
     for (i, (title, lines)) in panels.iter().enumerate() {
         let panel = Panel { x: i as f64 * WIDTH };
         panel.grid(&mut svg, title);

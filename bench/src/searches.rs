@@ -2,8 +2,8 @@
 
 use std::hint::black_box;
 
-use crate::herd::{Profile, Spread, profiles, tag};
 use crate::index::{Archive, Hit, Index};
+use crate::items::{Profile, Spread, profiles, tag};
 use crate::measure::turns;
 use crate::plain::{Plain, Slot, scan_nearest, scan_range};
 
@@ -33,10 +33,10 @@ pub struct Full {
 impl Full {
     pub fn new(seed: u64, spread: Spread, order: u32, metric: u32) -> Full {
         let n = 1 << order;
-        let mut herd = profiles(seed, spread, n + QUERIES);
-        let queries = herd.split_off(n);
+        let mut added = profiles(seed, spread, n + QUERIES);
+        let queries = added.split_off(n);
         let (mut archive, mut plain) = (Archive::new(order, metric), Plain::new(order, metric));
-        for (i, profile) in herd.iter().enumerate() {
+        for (i, profile) in added.iter().enumerate() {
             assert_eq!(archive.add(tag(i), profile), plain.add(tag(i), profile));
         }
         let items = plain.items();

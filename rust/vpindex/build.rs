@@ -1,4 +1,5 @@
-//! Links libvpindex.a, from the folder that VPINDEX_LIB_DIR names (a full path), or from where `rt staticlib vpindex` writes it.
+//! Links libvpindex.a, from the folder that VPINDEX_LIB_DIR names (a full path), or from where `rt staticlib vpindex`
+//! writes it.
 
 use std::env;
 use std::path::{Path, PathBuf};

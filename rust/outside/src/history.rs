@@ -1,5 +1,5 @@
-//! Random lists of calls on one table that an accepted fresh or load began, held to the plain book and to the bound on all
-//! rebuilds. Each call is compared with the reference too.
+//! Random lists of calls on one table that an accepted fresh or load began, held to the plain book and to the bound on
+//! all rebuilds. Each call is compared with the reference too.
 
 use reference::book::Book;
 use reference::image::is_sound;
@@ -13,8 +13,8 @@ use crate::foreign::any_row;
 use crate::lists::{Tally, change, keep, lent, next};
 use crate::random::Random;
 
-/// Adds, removals and the distances that they reported, since the last fresh or load. A load's live items count as added,
-/// its dead ones as removed.
+/// Adds, removals and the distances that they reported, since the last fresh or load. A load's live items count as
+/// added, its dead ones as removed.
 #[derive(Clone, Copy, Debug, Default)]
 pub struct Sums {
     /// A.
@@ -107,8 +107,8 @@ impl History {
         reply
     }
 
-    // Table and book are alike in the refusal (writing excepted), look up's profile, the number found and the entries, and
-    // of a herd list in the line and the number added.
+    // Table and book are alike in the refusal (writing excepted), look up's profile, the number found and the entries,
+    // and of a herd list in the line and the number added.
     fn check_shown(
         &mut self,
         call: &Call,

@@ -2,9 +2,9 @@
 
 pub mod calls;
 pub mod foreign;
-pub mod herd;
 pub mod history;
 pub mod images;
+pub mod item_lists;
 pub mod lists;
 pub mod random;
 pub mod sound;

@@ -10,7 +10,7 @@ use reference::table::{Table, capacity, first_row, table_rows};
 use crate::calls::{Areas, Call, Reply, compare};
 use crate::foreign::{any_row, rows_of};
 use crate::random::Random;
-use crate::{foreign, herd, images, sound};
+use crate::{foreign, images, item_lists, sound};
 
 /// How often each call was refused by each number, 0 being accepted, how many removals built a tree, and how many
 /// readings of a herd list were refused with lines added before.
@@ -162,7 +162,7 @@ pub fn change(random: &mut Random, areas: &mut Areas, order: u32) -> Call {
 // Now and then enough lines to fill the table.
 fn read_list(random: &mut Random, areas: &mut Areas, order: u32) -> Call {
     let most = if order < 6 && random.one_in(3) { 2 * capacity(order) } else { 8 };
-    areas.bytes = herd::list(random, order, most);
+    areas.bytes = item_lists::list(random, order, most);
     Call::ReadList
 }
 

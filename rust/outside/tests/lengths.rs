@@ -3,7 +3,7 @@
 use outside::calls::{Areas, Call, compare};
 use outside::foreign::{self, any_row, rows_of};
 use outside::random::Random;
-use outside::{herd, sound};
+use outside::{item_lists, sound};
 use reference::image::bytes;
 use reference::item::Row;
 use reference::table::{Table, capacity, table_rows};
@@ -68,7 +68,7 @@ fn every_length(random: &mut Random, rows: &[Row], order: u32, metric: u32) -> u
             for call in calls(random, rows, order, metric).into_iter().filter(|call| is_lent(call, at)) {
                 let mut areas = lent(random, rows, of(at, n));
                 if call == Call::ReadList {
-                    areas.bytes = herd::list(random, order, 4);
+                    areas.bytes = item_lists::list(random, order, 4);
                 }
                 compare(&call, &mut areas, random);
                 count += 1;

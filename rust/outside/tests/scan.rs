@@ -53,7 +53,7 @@ impl Both {
         let count = 1 + self.random.below(40);
         let all = self.scan(&query);
         let within: Vec<_> = all.iter().copied().filter(|hit| hit.0 <= radius).collect();
-        let hits = self.table.range(&query, radius).expect("room for all");
+        let hits = self.table.range(&query, radius);
         assert!(hits.into_iter().map(|hit| (hit.distance(), hit.tag())).eq(within));
         let hits = self.table.nearest(&query, count as u32).expect("room for all");
         assert!(hits.into_iter().map(|hit| (hit.distance(), hit.tag())).eq(all.into_iter().take(count)));

@@ -1,9 +1,10 @@
-//! Each call at order 12 in a thread with a 256 KiB stack, and how much of it the call used.
+//! Each call at order 12 in a thread with a 256 KiB stack, and how much of it the call used: load at most 72 KiB, where
+//! its array of 4,096 entries is, and every other at most 4 KiB.
 
 use outside::calls::{Areas, Call, by_archive};
-use outside::herd;
+use outside::item_lists;
 use outside::random::Random;
-use outside::stack::{STACK, used_by};
+use outside::stack::used_by;
 use reference::item::{Row, Slot};
 use reference::table::{Bucket, Table, capacity, put_table, table_rows};
 use reference::tree::layout;
@@ -76,9 +77,11 @@ fn every_call_in_a_small_stack() {
         for (name, call, table) in calls {
             let mut areas = areas(table);
             if call == Call::ReadList {
-                areas.bytes = herd::of(&[herd::line(tag, query.measures)]);
+                areas.bytes = item_lists::of(&[item_lists::line(tag, query.measures)]);
             }
-            assert!(measure(&format!("{name}, metric {metric}"), call, areas) < STACK);
+            let most = if call == Call::Load { 72 * 1024 } else { 4 * 1024 };
+            let used = measure(&format!("{name}, metric {metric}"), call, areas);
+            assert!(used <= most, "{name}, metric {metric}: {used} bytes of stack, more than {most}");
         }
     }
 }

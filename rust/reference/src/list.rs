@@ -118,7 +118,7 @@ mod tests {
 
     #[test]
     fn readings() {
-        let head = "tag;kg;hip;girth;gain\n";
+        let header = "tag;kg;hip;girth;gain\n";
         let line = |tag: u64| format!("{tag:015};0,00{TAIL}\n");
         let reply = |refusal, line, added| ListRead { refusal, line, added, distances: 10 * added };
         let differs =
@@ -126,7 +126,7 @@ mod tests {
         for text in differs {
             assert_eq!(with_room_for_two(text), (reply(30, 1, 0), vec![]), "{text}");
         }
-        let of = |lines: &[String]| with_room_for_two(&(head.to_string() + &lines.concat()));
+        let of = |lines: &[String]| with_room_for_two(&(header.to_string() + &lines.concat()));
         assert_eq!(of(&[]), (reply(0, 0, 0), vec![]));
         assert_eq!(of(&[line(1), line(2)]), (reply(0, 0, 2), vec![1, 2]));
         assert_eq!(of(&[line(1), line(2), line(3)]), (reply(22, 4, 2), vec![1, 2]));

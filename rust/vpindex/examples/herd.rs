@@ -5,7 +5,7 @@
 use vpindex::{Hits, ListRefusal, Metric, Order, Profile, Refusal, Table, Tag};
 
 // national number; weight, hip height, girth and daily gain, in hundredths
-const HERD: [(u64, [i32; 4]); 6] = [
+const ITEMS: [(u64, [i32; 4]); 6] = [
     (101, [41_250, 12_900, 18_500, 95]),
     (102, [39_800, 12_700, 18_100, 90]),
     (103, [55_600, 13_800, 20_700, 120]),
@@ -20,20 +20,20 @@ const LIST: &str = "tag;kg;hip;girth;gain\n\
                     036000000000101;412,50;129,00;185,00;0,95\n";
 
 fn main() -> Result<(), Refusal> {
-    let mut table = Table::new(Order::holding(HERD.len())?, Metric::SumOfDifferences);
-    for (national, measures) in HERD {
+    let mut table = Table::new(Order::holding(ITEMS.len())?, Metric::SumOfDifferences);
+    for (national, measures) in ITEMS {
         let added = table.add(Tag::new(36, national)?, &Profile::new(measures, [0, 0])?)?;
         println!("add {national}: bucket {}, {} distances", added.bucket, added.distances);
     }
 
     let query = Profile::new([41_000, 12_900, 18_400, 100], [0, 0])?;
-    print("range 500", table.range(&query, 500)?);
+    print("range 500", table.range(&query, 500));
     print("nearest 3", table.nearest(&query, 3)?);
 
-    let sold = Tag::new(36, 104)?;
-    println!("remove {}: {} distances", sold.national(), table.remove(sold)?);
-    if let Err(refusal) = table.remove(sold) {
-        println!("remove {} again: refusal {}", sold.national(), refusal.number());
+    let tag = Tag::new(36, 104)?;
+    println!("remove {}: {} distances", tag.national(), table.remove(tag)?);
+    if let Err(refusal) = table.remove(tag) {
+        println!("remove {} again: refusal {}", tag.national(), refusal.number());
     }
 
     let image = table.image();

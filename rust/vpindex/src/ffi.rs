@@ -108,8 +108,8 @@ mod raw {
     }
 }
 
-// Each call on slices. A slice's pointer is not null, is aligned and valid for its length, and two of them that are lent
-// together do not overlap where one is lent to be written: that is all the calls ask of their caller.
+// Each call on slices. A slice's pointer is not null, is aligned and valid for its length, and two of them that are
+// lent together do not overlap where one is lent to be written: that is all the calls ask of their caller.
 
 pub fn fresh(table: &mut [Row], order: u32, metric: u32) -> u32 {
     unsafe { raw::vpindex_fresh(table.as_mut_ptr(), table.len(), order, metric) }

@@ -1,10 +1,10 @@
-//! An index of up to 4,096 items by likeness. An item is a [`Tag`] with a [`Profile`]: four measures and a code of 128 bits.
-//! A [`Table`] gives all items within a distance of a query, and the nearest ones, while items are added and removed. It
-//! keeps vantage-point trees in buckets whose sizes are powers of two.
+//! An index of up to 4,096 items by likeness. An item is a [`Tag`] with a [`Profile`]: four measures and a code of 128
+//! bits. A [`Table`] gives all items within a distance of a query, and the nearest ones, while items are added and
+//! removed. It keeps vantage-point trees in buckets whose sizes are powers of two.
 //!
-//! The calls below are thin over `libvpindex.a`, whose code is proved: each call ends, its reply is the one that the rules
-//! give for every input, a search finds what a scan of all items would, and all rebuilds of a list of calls together keep
-//! within a bound.
+//! The calls below are thin over `libvpindex.a`, whose code is proved: each call ends, its reply is the one that the
+//! rules give for every input, a search finds what a scan of all items would, and all rebuilds of a list of calls
+//! together keep within a bound.
 //!
 //! ```
 //! use vpindex::{Metric, Order, Profile, Table, Tag};
@@ -18,6 +18,11 @@
 //! assert_eq!((hits[0].tag(), hits[0].distance()), (Tag::new(36, 1)?, 350));
 //! # Ok::<(), vpindex::Refusal>(())
 //! ```
+
+// The first use that the README shows is run as it is printed.
+#[cfg(doctest)]
+#[doc = include_str!("../../../README.md")]
+struct Readme;
 
 #[doc(hidden)]
 pub mod ffi;

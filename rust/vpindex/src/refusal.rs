@@ -6,44 +6,45 @@ use std::fmt;
 /// Why a call was refused. A refused call changes nothing; of a herd list, the lines before the one refused stay added.
 #[derive(Clone, Copy, Debug, PartialEq, Eq, Hash)]
 #[non_exhaustive]
-#[repr(u32)]
 pub enum Refusal {
     /// The tag's country is not 1 to 999, or its national number is above 274,877,906,943.
-    BadTag = 1,
-    /// A measure is not -1,000,000 to 1,000,000.
-    BadMeasure = 2,
+    BadTag,
+    /// A measure is not -10,000.00 to 10,000.00, that is 1,000,000 hundredths either way.
+    BadMeasure,
     /// The order is above 12.
-    BadOrder = 3,
+    BadOrder,
     /// There is no metric of this number.
-    BadMetric = 4,
+    BadMetric,
     /// The nearest 0 items were asked for.
-    NoCount = 5,
+    NoCount,
     /// The result area is shorter than the reply.
-    NoRoom = 6,
-    /// The image is not as long as its sizes say.
-    BadLength = 7,
+    NoRoom,
+    /// The image's length is wrong.
+    BadLength,
     /// The image's fields or trees break a rule.
-    BadImage = 8,
+    BadImage,
     /// The tag is in the table.
-    AlreadyLive = 20,
+    AlreadyLive,
     /// The tag is not in the table.
-    NotLive = 21,
+    NotLive,
     /// The table holds as many items as its order allows.
-    Full = 22,
+    Full,
     /// A lent area is shorter than the order needs.
-    ShortArea = 23,
+    ShortArea,
     /// The sizes of the image, or of a table, break the rules.
-    BadTable = 24,
+    BadTable,
     /// The list's first line is not `tag;kg;hip;girth;gain` and a line feed.
-    BadListHeader = 30,
+    BadListHeader,
     /// A line of a list is not of the form.
-    BadListLine = 31,
+    BadListLine,
+    /// A refusal by a number that this crate does not know: the archive is newer.
+    Other(u32),
 }
 
 use Refusal::*;
 
 impl Refusal {
-    const ALL: [Refusal; 15] = [
+    const KNOWN: [Refusal; 15] = [
         BadTag,
         BadMeasure,
         BadOrder,
@@ -63,7 +64,7 @@ impl Refusal {
 
     /// The number by which the archive's calls say it.
     pub fn number(self) -> u32 {
-        self as u32
+        self.number_and_words().0
     }
 
     /// Ok for 0, else the refusal of this number.
@@ -71,38 +72,64 @@ impl Refusal {
         if number == 0 {
             return Ok(());
         }
-        let known = Refusal::ALL.into_iter().find(|refusal| refusal.number() == number);
-        Err(known.unwrap_or_else(|| unreachable!("the calls know no refusal {number}")))
+        let known = Refusal::KNOWN.into_iter().find(|refusal| refusal.number() == number);
+        Err(known.unwrap_or(Other(number)))
     }
 
-    fn words(self) -> &'static str {
+    fn number_and_words(self) -> (u32, &'static str) {
         match self {
-            BadTag => "the tag's country is not 1 to 999, or its national number is above 274,877,906,943",
-            BadMeasure => "a measure is not -1,000,000 to 1,000,000",
-            BadOrder => "the order is above 12",
-            BadMetric => "there is no metric of this number",
-            NoCount => "the nearest 0 items were asked for",
-            NoRoom => "the result area is shorter than the reply",
-            BadLength => "the image is not as long as its sizes say",
-            BadImage => "the image's fields or trees break a rule",
-            AlreadyLive => "the tag is in the table already",
-            NotLive => "the tag is not in the table",
-            Full => "the table holds as many items as its order allows",
-            ShortArea => "a lent area is shorter than the order needs",
-            BadTable => "the sizes of the image or of the table break the rules",
-            BadListHeader => "the header is not `tag;kg;hip;girth;gain` and a line feed",
-            BadListLine => {
-                "not of the form: a tag of 15 digits, then four values, each after one semicolon (a minus or none, 1 to 5 \
-                 digits, a comma, 2 digits), and a line feed"
-            }
+            BadTag => (1, "the tag's country is not 1 to 999, or its national number is above 274,877,906,943"),
+            BadMeasure => (2, "a measure is not -10,000.00 to 10,000.00"),
+            BadOrder => (3, "the order is above 12"),
+            BadMetric => (4, "there is no metric of this number"),
+            NoCount => (5, "the nearest 0 items were asked for"),
+            NoRoom => (6, "the result area is shorter than the reply"),
+            BadLength => (7, "the image's length is wrong"),
+            BadImage => (8, "the image's fields or trees break a rule"),
+            AlreadyLive => (20, "the tag is in the table already"),
+            NotLive => (21, "the tag is not in the table"),
+            Full => (22, "the table holds as many items as its order allows"),
+            ShortArea => (23, "a lent area is shorter than the order needs"),
+            BadTable => (24, "the sizes of the image or of the table break the rules"),
+            BadListHeader => (30, "the header is not `tag;kg;hip;girth;gain` and a line feed"),
+            BadListLine => (
+                31,
+                "not of the form: a tag of 15 digits, then four values, each after one semicolon (a minus or none, \
+                 1 to 5 digits, a comma, 2 digits), and a line feed",
+            ),
+            Other(number) => (number, "a refusal that this crate does not know"),
         }
     }
 }
 
+/// In words; a number that this crate does not know is written after them.
 impl fmt::Display for Refusal {
     fn fmt(&self, f: &mut fmt::Formatter<'_>) -> fmt::Result {
-        f.write_str(self.words())
+        let (number, words) = self.number_and_words();
+        match self {
+            Other(_) => write!(f, "{words}: {number}"),
+            _ => f.write_str(words),
+        }
     }
 }
 
 impl Error for Refusal {}
+
+#[cfg(test)]
+mod tests {
+    use super::*;
+
+    #[test]
+    fn numbers() {
+        assert_eq!(Refusal::check(0), Ok(()));
+        for number in (1..=8).chain(20..=24).chain(30..=31) {
+            let refusal = Refusal::check(number).expect_err("not 0");
+            assert_eq!(refusal.number(), number);
+            assert_ne!(refusal, Other(number));
+        }
+        for number in [9, 19, 25, 29, 32, u32::MAX] {
+            assert_eq!(Refusal::check(number), Err(Other(number)));
+        }
+        assert_eq!(Other(32).to_string(), "a refusal that this crate does not know: 32");
+    }
+}

@@ -23,8 +23,8 @@ pub struct LookedUp {
 
 /// Items that can be asked for by likeness.
 ///
-/// The table allocates when it is made and never again: a table of order T takes 48·(3·2^T + T + 1) + 16·2^T bytes, some
-/// 641 KiB at order 12.
+/// A table allocates when it is made, and [`Table::image`] what it returns; no other call allocates. A table of order T
+/// takes 48·(3·2^T + T + 1) + 16·2^T bytes, some 641 KiB at order 12.
 #[derive(Clone, Debug)]
 pub struct Table {
     rows: Vec<ffi::Row>,
@@ -95,7 +95,8 @@ impl Table {
         list::check(ffi::read_list(&mut self.rows, &mut self.work, list))
     }
 
-    /// Removes an item, and gives the number of distances that were worked out. [`Refusal::NotLive`] if it is not there.
+    /// Removes an item, and gives the number of distances that were worked out. [`Refusal::NotLive`] if it is not
+    /// there.
     pub fn remove(&mut self, tag: Tag) -> Result<u32, Refusal> {
         let reply = ffi::remove(&mut self.rows, &mut self.work, tag.into());
         Refusal::check(reply.refusal)?;
@@ -109,29 +110,31 @@ impl Table {
         Ok(LookedUp { bucket: reply.bucket, profile: Profile::as_stored(reply.profile) })
     }
 
-    /// All items whose distance from the query is at most the radius. It is not refused.
-    pub fn range(&mut self, query: &Profile, radius: u32) -> Result<Hits<'_>, Refusal> {
+    /// All items whose distance from the query is at most the radius.
+    pub fn range(&mut self, query: &Profile, radius: u32) -> Hits<'_> {
         let reply = ffi::range(&self.rows, &mut self.result, query.raw(), radius);
+        assert_eq!(reply.refusal, 0, "the query is valid, and the result area holds every item");
         self.hits(reply)
     }
 
-    /// The `count` items nearest to the query, or all where there are fewer; of items at the same distance the lower tag
-    /// goes first. [`Refusal::NoCount`] where `count` is 0.
+    /// The `count` items nearest to the query, or all where there are fewer; of items at the same distance the lower
+    /// tag goes first. [`Refusal::NoCount`] where `count` is 0.
     pub fn nearest(&mut self, query: &Profile, count: u32) -> Result<Hits<'_>, Refusal> {
         let reply = ffi::nearest(&self.rows, &mut self.result, query.raw(), count);
-        self.hits(reply)
+        Refusal::check(reply.refusal)?;
+        Ok(self.hits(reply))
     }
 
-    fn hits(&self, reply: ffi::Searched) -> Result<Hits<'_>, Refusal> {
-        Refusal::check(reply.refusal)?;
-        Ok(Hits::new(&self.result[..reply.found as usize], reply.distances))
+    // of an accepted search
+    fn hits(&self, reply: ffi::Searched) -> Hits<'_> {
+        Hits::new(&self.result[..reply.found as usize], reply.distances)
     }
 
     /// The table as bytes, which [`Table::load`] reads.
     pub fn image(&self) -> Vec<u8> {
         let mut image = vec![0; self.image_bytes()];
-        let reply = ffi::write(&self.rows, &mut image);
-        assert_eq!(reply.refusal, 0, "the area is as long as the image");
+        let ffi::Written { refusal, length } = ffi::write(&self.rows, &mut image);
+        assert_eq!((refusal, length as usize), (0, image.len()), "the area is as long as the image");
         image
     }
 

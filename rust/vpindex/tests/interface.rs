@@ -129,8 +129,12 @@ fn a_stop_is_told_in_words() {
     );
     assert_eq!(
         said("tag;kg;hip;girth;gain\n\n"),
-        "line 2: not of the form: a tag of 15 digits, then four values, each after one semicolon (a minus or none, 1 to 5 \
-         digits, a comma, 2 digits), and a line feed (0 added before it)"
+        "line 2: not of the form: a tag of 15 digits, then four values, each after one semicolon (a minus or none, 1 \
+         to 5 digits, a comma, 2 digits), and a line feed (0 added before it)"
+    );
+    assert_eq!(
+        said("tag;kg;hip;girth;gain\n036000000000001;12000,00;0,00;0,00;0,00\n"),
+        "line 2: a measure is not -10,000.00 to 10,000.00 (0 added before it)"
     );
     assert_eq!(
         said("tag;kg;hip;girth;gain\n036000000000001;0,10;0,00;0,00;0,00\n036000000000001;0,10;0,00;0,00;0,00\n"),

@@ -1,4 +1,5 @@
-//! `compare SEED CALLS`: so many calls and a few more, each compared with the reference, and half of them with the plain book.
+//! `compare SEED CALLS`: so many calls and a few more, each compared with the reference, and half of them with the
+//! plain book.
 
 use outside::history::History;
 use outside::lists::{Tally, list};
