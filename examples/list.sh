@@ -9,7 +9,7 @@ list=$(realpath "$list")
 cd "$(dirname "$0")/.."
 if [ -z "${VPINDEX_LIB_DIR:-}" ]; then
     mkdir -p target
-    echo 'proving and building the archive: minutes the first time, log in target/list.log' >&2
+    echo "proving the calls and building the archive, some minutes the first time; the log is target/list.log" >&2
     rt staticlib vpindex > target/list.log 2>&1 || { cat target/list.log; exit 1; }
 fi
 cd rust

@@ -2,9 +2,10 @@
 """Conversations with the program yard, worked out apart from the code by document 01's rules.
 
 Writes tests/yard/NAME.in and NAME.out: what the program is given, and what it must print.
-With --check it writes nothing and fails where a file differs from what it would write.
+With --check it writes nothing and fails where a file differs from what it would write, or where README.md shows another exchange.
 With --run PROGRAM it runs the program on every stored input and fails where it prints anything else. Where an input is short and ends in a line feed it
-runs it once more, each line byte by byte and the next one when the reply is there, as at a terminal.
+runs it once more, each line byte by byte and the next one when the reply is there, as at a terminal; after a reply that ends the program it has to end
+though more could come.
 """
 import os
 import re
@@ -42,12 +43,12 @@ class Table(bucket_runs.Table):
     """Buckets with their slots, so that searches walk the trees and count what they visit."""
 
     def fresh(self, order, metric):
-        self.metric, self.heads = metric, {}
+        self.metric, self.items = metric, {}
         return super().fresh(order, metric)
 
     def build(self, emptied, k, tags):
         distances = super().build(emptied, k, tags)
-        self.buckets[k].slots = layout(self.metric, [self.heads[tag] for tag in tags])
+        self.buckets[k].slots = layout(self.metric, [self.items[tag] for tag in tags])
         return distances
 
     def trees(self):
@@ -62,11 +63,11 @@ class Table(bucket_runs.Table):
             nonlocal count
             if not slots:
                 return
-            (head, threshold), half = slots[0], 1 + len(slots) // 2
-            d = distance(self.metric, head, query)
+            (item, threshold), half = slots[0], 1 + len(slots) // 2
+            d = distance(self.metric, item, query)
             count += 1
-            if head.tag in live and d <= radius:
-                found.append((d, head.tag))
+            if item.tag in live and d <= radius:
+                found.append((d, item.tag))
             if d <= threshold + radius:
                 visit(slots[1:half], live)
             if d + radius >= threshold:
@@ -89,11 +90,11 @@ class Table(bucket_runs.Table):
             nonlocal count
             if not slots:
                 return
-            (head, threshold), half = slots[0], 1 + len(slots) // 2
-            d = distance(self.metric, head, query)
+            (item, threshold), half = slots[0], 1 + len(slots) // 2
+            d = distance(self.metric, item, query)
             count += 1
-            if head.tag in live:
-                kept.append((d, head.tag))
+            if item.tag in live:
+                kept.append((d, item.tag))
                 kept.sort()
                 del kept[k:]
             halves = [(enters_left, slots[1:half]), (enters_right, slots[half:])]
@@ -140,7 +141,7 @@ def added(table, tag, profile):
     if bad_measure(profile):
         return line_of("A", 2)
     if table.home(tag) is None:
-        table.heads[tag] = SimpleNamespace(tag=tag, **vars(profile))
+        table.items[tag] = SimpleNamespace(tag=tag, **vars(profile))
     refusal, bucket, distances = table.add(tag)
     return accepted_or_refused("A", refusal, bucket, distances)
 
@@ -406,8 +407,8 @@ def drawn_profile(draws):
     return " ".join(texts + [digits if draws.below(5) else "-"])
 
 
-def herd(metric, seed, count):
-    """Adds, removals and searches of a herd that fills a table of order 8."""
+def at_order_8(metric, seed, count):
+    """Adds, removals and searches of items that fill a table of order 8."""
     draws, lines = Draws(seed), [f"8 {metric}"]
     for i in range(count):
         kind = draws.below(20)
@@ -475,9 +476,9 @@ def runs():
     yield "ties", TIES
     yield "full", full()
     yield "smallest", smallest()
-    yield "herd_by_measures", herd(0, 1, 900)
-    yield "herd_by_codes", herd(1, 2, 900)
-    yield "herd_by_largest", herd(2, 3, 900)
+    yield "order_8_by_measures", at_order_8(0, 1, 900)
+    yield "order_8_by_codes", at_order_8(1, 2, 900)
+    yield "order_8_by_largest", at_order_8(2, 3, 900)
     yield "long_lines", long_lines()
     yield "strange_bytes", strange_bytes()
     yield "empty", b""
@@ -514,15 +515,28 @@ def read_some(pipe, length):
     return got
 
 
+def await_end(process, name):
+    try:
+        process.wait(SECONDS)
+    except subprocess.TimeoutExpired:
+        process.kill()
+        sys.exit(f"yard runs: {name} failed: the program does not end")
+
+
 def run_in_turn(program, name, data):
-    """A line goes byte by byte, and the next one when its reply is there."""
+    """A line goes byte by byte, and the next one when its reply is there. The input is closed after the last line, and after a refused header not
+    before the program has ended."""
+    lines = data.split(b"\n")[:-1]
     with subprocess.Popen([program], stdin=subprocess.PIPE, stdout=subprocess.PIPE, bufsize=0) as process:
-        for line, reply in zip(data.split(b"\n")[:-1], replies(data)):
+        for line, reply in zip(lines, replies(data)):
             for b in line + b"\n":
                 process.stdin.write(bytes([b]))
             differs(f"{name} in turn", reply, read_some(process.stdout, len(reply)))
+        if refused_header(lines[0]):
+            await_end(process, f"{name} in turn")
         process.stdin.close()
         differs(f"{name} in turn", b"", read_some(process.stdout, 1))
+        await_end(process, f"{name} in turn")
 
 
 def run(program):
@@ -543,6 +557,12 @@ def files():
     yield EXAMPLE / "stdout", b"".join(replies((EXAMPLE / "stdin").read_bytes()))
 
 
+def readme_exchange():
+    """The lines that README.md marks as typed, and the whole exchange as it shows it."""
+    shown = re.search(rb"```text\n(> .*?)```", (ROOT / "README.md").read_bytes(), re.S)[1]
+    return re.findall(rb"^> (.*)$", shown, re.M), shown
+
+
 def main():
     if "--run" in sys.argv[1:]:
         return run(sys.argv[-1])
@@ -552,6 +572,9 @@ def main():
             path.parent.mkdir(parents=True, exist_ok=True)
             path.write_bytes(data)
         return
+    typed, shown = readme_exchange()
+    if shown != b"".join(b"> " + line + b"\n" + reply for line, reply in zip(typed, replies(b"\n".join(typed)))):
+        sys.exit("README.md shows another exchange than the script works out")
     if set(STORED.iterdir()) != {p for p in expected if p.parent == STORED}:
         sys.exit(f"{STORED.name} has other files than the script writes")
     for path, data in expected.items():

@@ -1,17 +1,16 @@
 -- The parts from a place on, one byte or one part further: what a loop over the bytes and a loop over the parts go by.
-use Prim.Native.Nat.{ℕ, zero, suc, _+_, _-_, _≤_, _<_}
-use mathlib.Core.Path.{_≡_, refl, ap, ap₂, sym, _∙_}
-use mathlib.Core.Bool.{Bool, true, false}
+use Prim.Native.Nat.{ℕ, suc, _+_, _-_, _≤_, _<_}
+use mathlib.Core.Path.{_≡_, refl, ap, sym, _∙_}
+use mathlib.Core.Bool.{true, false}
 use mathlib.Core.Logic.{_⊎_, inl, inr, ⊎-elim}
 use mathlib.Core.List.{List, [], _∷_, _++_, append-nil}
 use native.Mathlib.Omega.{arith}
 use native.Mathlib.Numerals.{add-one}
-use lib.Dec.{leb, eqb}
-use lib.ListN.{length, getD, take, drop, length-take, length-drop, take-append-drop, drop-of-length-le}
-use lib.Seq.{drop-cons, take-suc, drop-drop, getD-drop, take-all, drop-nil}
+use lib.ListN.{length, getD, take, drop, length-drop, take-append-drop, drop-of-length-le}
+use lib.Seq.{drop-cons, take-suc, drop-drop, getD-drop, drop-nil}
 use borrow.Author.Tests.{le-leb, lt-leb, eq-eqb, ne-eqb}
 use Rattle.tree_rules.proofs.Lists.{all-append}
-use Rattle.text_rules.specs.Text.{onto, parted, partAt, partsIn}
+use Rattle.text_rules.specs.Text.{onto, parted, partAt}
 use Rattle.text_rules.proofs.Parts.{Free, parted-some, parted-separator, parted-byte, parted-one, parted-first}
 use Rattle.yard_fields.specs.Found.{partsFrom, PartEnd}
 

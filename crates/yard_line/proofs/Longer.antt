@@ -1,21 +1,21 @@
 -- A line of more than 90 bytes is neither a header nor a command: its fields' forms bound their lengths, and the fields with the spaces between
 -- them are the line.
-use Prim.Native.Nat.{ℕ, zero, suc, _+_, _^_, _≤_, _<_}
+use Prim.Native.Nat.{ℕ, suc, _+_, _^_, _≤_, _<_}
 use mathlib.Core.Path.{_≡_, refl, ap, sym, _∙_}
-use mathlib.Core.Bool.{Bool, true, false, _&&_, false≢true}
+use mathlib.Core.Bool.{Bool, true, false, _&&_}
 use mathlib.Core.List.{List, [], _∷_, map}
 use native.Mathlib.Omega.{arith}
 use lib.Dec.{ltb, eqb}
 use lib.ListN.{length, getD, length-drop}
-use borrow.Author.Tests.{eqb-true, eqb-false, eq-eqb, ne-eqb}
+use borrow.Author.Tests.{eqb-true, eqb-false}
 use Rattle.metric_rules.specs.Lists.{total}
-use Rattle.tree_rules.proofs.Tests.{and-first, and-second}
+use Rattle.tree_rules.proofs.Tests.{and-first}
 use Rattle.yard_rules.specs.declared.Header.the-variants as header
 use Rattle.yard_rules.specs.declared.Command.the-variants as command
 use Rattle.text_rules.specs.Text.{space, point, minus, onto, parted, partAt, partsIn, isNumeral, numeral}
 use Rattle.text_rules.specs.Fields.{isTag, isMeasure, unsigned, isNegative}
 use Rattle.yard_rules.specs.Line.{field, onlyByte, isNumber, isCode, hasProfile, headerIn, opens, commandIn, letterA, letterN, letterR, letterW}
-use Rattle.text_rules.proofs.Parts.{parted-separator, parted-byte}
+use Rattle.text_rules.proofs.Parts.{SomeParts, parted-some, parted-separator, parted-byte}
 use Rattle.text_rules.proofs.Digits.{numeral-longest}
 use Rattle.text_rules.proofs.Signs.{unsigned-minus, unsigned-plain}
 use Rattle.yard_parse.proofs.Forms.{only-other, digits-code, measure-whole, measure-rest}
@@ -33,32 +33,17 @@ no-parts : spread [] ≡ 0
 unfolding spread total
 no-parts = refl
 
--- there is a first part
-record Parted (separator : ℕ) (text : List ℕ) : Type 0 where
-  first : List ℕ
-  others : List (List ℕ)
-  are : parted separator text ≡ first ∷ others
-
-parted-some : (separator : ℕ) (text : List ℕ) → Parted separator text
-unfolding parted onto
-parted-some separator [] = record { first = []; others = []; are = refl }
-parted-some separator (b ∷ bs) = by (eqb b separator) refl (parted-some separator bs)
-  where
-    by : (t : Bool) → eqb b separator ≡ t → Parted separator bs → Parted separator (b ∷ bs)
-    by true e p = record { first = []; others = parted separator bs; are = parted-separator separator b bs e }
-    by false e p = record { first = b ∷ p .first; others = p .others; are = parted-byte separator b bs e ∙ ap (onto b) (p .are) }
-
 spread-parted : (separator : ℕ) (text : List ℕ) → spread (parted separator text) ≡ suc (length text)
 unfolding parted onto spread total
 spread-parted separator [] = refl
 spread-parted separator (b ∷ bs) = by (eqb b separator) refl (spread-parted separator bs) (parted-some separator bs)
   where
-    by : (t : Bool) → eqb b separator ≡ t → spread (parted separator bs) ≡ suc (length bs) → Parted separator bs → spread (parted separator (b ∷ bs)) ≡ suc (suc (length bs))
+    by : (t : Bool) → eqb b separator ≡ t → spread (parted separator bs) ≡ suc (length bs) → SomeParts (parted separator bs) → spread (parted separator (b ∷ bs)) ≡ suc (suc (length bs))
     by true e h p = ap spread (parted-separator separator b bs e) ∙ more-parts [] (parted separator bs) ∙ omega (arith, h)
     by false e h p =
-        ap spread (parted-byte separator b bs e ∙ ap (onto b) (p .are))
-        ∙ more-parts (b ∷ p .first) (p .others)
-        ∙ omega (arith, sym (ap spread (p .are)) ∙ h, more-parts (p .first) (p .others))
+        ap spread (parted-byte separator b bs e ∙ ap (onto b) (p .same))
+        ∙ more-parts (b ∷ p .first) (p .rest)
+        ∙ omega (arith, sym (ap spread (p .same)) ∙ h, more-parts (p .first) (p .rest))
 
 two-parts : (ps : List (List ℕ)) → length ps ≡ 2 → spread ps ≡ 2 + length (getD ps 0 []) + length (getD ps 1 [])
 two-parts [] h = absurd (omega arith)

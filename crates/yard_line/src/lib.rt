@@ -1,7 +1,7 @@
 // What a line says: a header, a command, its profile. Every line of bytes is one of them or of another form.
 ghost use mathlib.Core.Path.{_≡_};
 ghost use mathlib.Core.Bool.{true};
-ghost use Prim.Native.Nat.{_≤_, _<_, _^_};
+ghost use Prim.Native.Nat.{_<_, _^_};
 ghost use lib.ListN.{length};
 ghost use Rattle.text_rules.specs.Text.{point, numeral};
 ghost use Rattle.text_rules.specs.Fields.{isTag, isMeasure, measureIn};

@@ -1,12 +1,12 @@
 -- One byte more of a line: kept where there is room, and else the line is longer than the area.
-use Prim.Native.Nat.{ℕ, zero, suc, _+_, _≤_, _<_}
+use Prim.Native.Nat.{ℕ, suc, _+_, _≤_, _<_}
 use mathlib.Core.Path.{_≡_, refl, ap, sym, subst, _∙_}
-use mathlib.Core.Bool.{Bool, true, false, false≢true}
+use mathlib.Core.Bool.{true, false, false≢true}
 use mathlib.Core.List.{List, [], _∷_, _++_, append-assoc, append-nil}
 use native.Mathlib.Omega.{arith}
 use native.Mathlib.Numerals.{add-one}
 use lib.ListN.{length, getD, take, drop, set, length-append, length-set, length-take, drop-of-length-le}
-use lib.Seq.{take-suc-set, take-all, drop-cons}
+use lib.Seq.{take-suc-set, drop-cons}
 use Rattle.text_rules.specs.Text.{lineFeed}
 use Rattle.yard_lines.specs.declared.Held.{Held}
 use Rattle.yard_lines.specs.Held.{untilFeed, Holds}

@@ -1,15 +1,14 @@
--- Lines of pieces put end to end: what is pending and a piece that has a line feed make a line.
-use Prim.Native.Nat.{ℕ, zero, suc, _+_, _≤_, _<_}
-use mathlib.Core.Path.{_≡_, refl, ap, sym, _∙_}
+-- The bytes of a piece before its first line feed: they have none, and the piece is they, the line feed and the rest, or they alone.
+use Prim.Native.Nat.{ℕ, suc, _<_}
+use mathlib.Core.Path.{_≡_, refl, ap, _∙_}
 use mathlib.Core.Bool.{Bool, true, false}
-use mathlib.Core.List.{List, [], _∷_, _++_, append-assoc}
+use mathlib.Core.List.{List, [], _∷_, _++_}
 use native.Mathlib.Omega.{arith}
 use lib.Dec.{eqb}
 use lib.ListN.{length, drop}
 use borrow.Author.Tests.{eqb-true, eqb-false, eq-eqb, ne-eqb}
-use Rattle.tree_rules.proofs.Lists.{all-append}
-use Rattle.text_rules.specs.Text.{lineFeed, parted}
-use Rattle.text_rules.proofs.Parts.{Free, parted-first}
+use Rattle.text_rules.specs.Text.{lineFeed}
+use Rattle.text_rules.proofs.Parts.{Free}
 use Rattle.yard_lines.specs.Held.{untilFeed}
 
 pub until-feed : (b : ℕ) (bs : List ℕ) → b ≡ lineFeed → untilFeed (b ∷ bs) ≡ []
@@ -52,13 +51,3 @@ no-feed (b ∷ bs) h = by (eqb b lineFeed) refl (no-feed bs)
     by false e k =
         let next : untilFeed (b ∷ bs) ≡ b ∷ untilFeed bs = until-byte b bs (eqb-false b lineFeed e) in
         next ∙ ap (λ xs. b ∷ xs) (k (omega (arith, ap length next)))
-
--- "the lines of the pieces put end to end": a pending line, a piece with a line feed, and the pieces after it
-pub line-ends : (pending piece later : List ℕ) → Free lineFeed pending → length (untilFeed piece) < length piece
-    → parted lineFeed (pending ++ (piece ++ later))
-    ≡ (pending ++ untilFeed piece) ∷ parted lineFeed (drop (suc (length (untilFeed piece))) piece ++ later)
-line-ends pending piece later f h =
-    ap (λ xs. parted lineFeed (pending ++ (xs ++ later))) (feed-after piece h)
-    ∙ ap (parted lineFeed) (simp append-assoc)
-    ∙ parted-first lineFeed (pending ++ untilFeed piece) (drop (suc (length (untilFeed piece))) piece ++ later)
-    (all-append (λ b. b ≡ lineFeed → ⊥) pending (untilFeed piece) f (until-free piece))

@@ -1,5 +1,4 @@
 // Lines out of pieces of the input, held in an area of bounded length: a longer line is only known to be longer.
-ghost use mathlib.Core.Path.{_≡_};
 ghost use mathlib.Core.List.{List, [], _∷_, _++_};
 ghost use Prim.Native.Nat.{ℕ, _≤_};
 ghost use lib.ListN.{length};

@@ -1,7 +1,7 @@
 // A field's measure or code: whether it has the form, and its value.
 ghost use mathlib.Core.Path.{_≡_};
 ghost use mathlib.Core.Bool.{true};
-ghost use Prim.Native.Nat.{_≤_, _<_, _^_};
+ghost use Prim.Native.Nat.{_<_, _^_};
 ghost use lib.ListN.{length};
 ghost use Rattle.text_rules.specs.Text.{partAt, isNumeral};
 ghost use Rattle.text_rules.specs.Fields.{isNegative, unsigned, isMeasure, hundredths, measureIn};

@@ -22,9 +22,9 @@ use Rattle.text_rules.specs.Text.{onto, parted, partAt, partsIn, digitOf, isDig
 use Rattle.text_rules.specs.Fields.{isNegative, unsigned, isMeasure, hundredths, measureIn}
 use Rattle.yard_rules.specs.Line.{isNumber, onlyByte, isCode, codeIn, hasProfile, profileIn, headerIn, opens, commandIn}
 use Rattle.yard_rules.specs.Reply.{spaced, replyLine, replyNumbers, addText, removeText, entryText, entriesText, searchText}
-use Rattle.yard_rules.specs.Spoken.{otherText, mostYardOrder, headerRefusal, greeted, areasAfter, textAfter, answered, saidAt, spoken, after, printed, lastKept, firstKept, linesIn, conversation, Areas}
+use Rattle.yard_rules.specs.Spoken.{otherText, mostYardOrder, headerRefusal, greeted, areasAfter, textAfter, answered, spoken, after, printed, lastKept, firstKept, linesIn, conversation, Areas}
 
-unfoldable pub talk : Areas → List ℕ → List ℕ
+unfoldable pub computed : Areas → List ℕ → List ℕ
 unfolding
     flatten countFrom total select every rowWidth tagAt measuresAt codeAt thresholdAt markAt zeroRow word wide words tagOf profileOf thresholdOf
     markOf measure codeWord rowOf withThreshold withMark nationals countryOf nationalOf lastCountry lastNational validTag measureLimit
@@ -40,5 +40,5 @@ unfolding
     resultAfter rangeReply resultAfterRange nearestReply resultAfterNearest onto parted partAt partsIn digitOf isDigit isNumeral numeralAfter
     numeral digits widthWithin width decimal isNumber onlyByte isCode codeIn isNegative unsigned isMeasure hundredths measureIn
     hasProfile profileIn headerIn opens commandIn spaced replyLine replyNumbers addText removeText entryText entriesText searchText otherText
-    mostYardOrder headerRefusal greeted areasAfter textAfter answered saidAt spoken after printed lastKept firstKept linesIn conversation
-talk a input = conversation a input
+    mostYardOrder headerRefusal greeted areasAfter textAfter answered spoken after printed lastKept firstKept linesIn conversation
+computed a input = conversation a input

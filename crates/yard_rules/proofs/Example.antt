@@ -4,7 +4,7 @@ use mathlib.Core.Path.{_≡_, refl}
 use mathlib.Core.List.{List, [], _∷_}
 use lib.ListN.{replicate}
 use Rattle.yard_rules.specs.Spoken.{Areas}
-use Rattle.yard_rules.proofs.Computing.{talk}
+use Rattle.yard_rules.proofs.Computing.{computed}
 
 -- areas for order 2 that hold other content before
 unfoldable pub scratch : Areas
@@ -40,6 +40,6 @@ output =
     82 ∷ 32 ∷ 50 ∷ 49 ∷ 10 ∷
     []
 
-whole-example : talk scratch input ≡ output
-unfolding talk scratch input output
+whole-example : computed scratch input ≡ output
+unfolding computed scratch input output
 whole-example = refl

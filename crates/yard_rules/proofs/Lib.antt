@@ -3,3 +3,4 @@ pub mod Example
 mod Worked
 pub mod Parts
 pub mod ReadBack
+pub mod Ample

@@ -9,12 +9,12 @@ use Rattle.search_rules.specs.Range.{Entry}
 use Rattle.bucket_rules.specs.declared.Searched.{Searched}
 use Rattle.tree_rules.specs.Guided.{All}
 use Rattle.tree_rules.proofs.Lists.{all-append}
-use Rattle.text_rules.specs.Text.{lineFeed, space, parted, numeral, digits, decimal, width}
+use Rattle.text_rules.specs.Text.{lineFeed, space, parted, numeral, digits, decimal}
 use Rattle.yard_rules.specs.Reply.{spaced, replyLine, replyNumbers, entryText, entriesText, searchText}
 use Rattle.yard_rules.specs.Spoken.{lastKept}
 use Rattle.text_rules.proofs.Numerals.{digits-back, decimal-back}
 use Rattle.text_rules.proofs.Parts.{Free, parted-one, parted-first, digits-free}
-use Rattle.yard_rules.proofs.Parts.{reply-back}
+use Rattle.yard_rules.proofs.Parts.{decimal-free, reply-back}
 
 -- the numbers of a line of an entry, and of a whole reply: its first line has a letter before them
 unfoldable pub fieldsOf : List ℕ → List ℕ
@@ -26,10 +26,6 @@ readLines (first ∷ lines) = map (numeral 10) (drop 1 (parted space first)) ∷
 
 unfoldable pub readBack : List ℕ → List (List ℕ)
 readBack text = readLines (parted lineFeed text)
-
-decimal-free : (separator n : ℕ) → separator < 48 → Free separator (decimal n)
-unfolding decimal
-decimal-free separator n h = digits-free separator (width n) n h
 
 spaced-free : (ns : List ℕ) → Free lineFeed (spaced ns)
 unfolding spaced

@@ -8,7 +8,7 @@ use Rattle.metric_rules.specs.Lists.{every}
 use Rattle.text_rules.specs.Text.{point, onto, parted, partAt, partsIn, digitOf, isDigit, isNumeral, numeralAfter, numeral}
 use Rattle.text_rules.specs.Fields.{isNegative, unsigned, isMeasure}
 use Rattle.yard_rules.specs.Line.{isNumber, onlyByte, isCode, codeIn}
-use Rattle.yard_rules.proofs.Computing.{talk}
+use Rattle.yard_rules.proofs.Computing.{computed}
 use Rattle.yard_rules.proofs.Example.{scratch}
 
 input : List ℕ
@@ -51,8 +51,8 @@ output =
     82 ∷ 32 ∷ 48 ∷ 32 ∷ 48 ∷ 10 ∷
     []
 
-conversation-worked : talk scratch input ≡ output
-unfolding talk scratch input output
+conversation-worked : computed scratch input ≡ output
+unfolding computed scratch input output
 conversation-worked = refl
 
 -- metric 2 is one, and its distance the largest difference; metric 3 is none
@@ -67,7 +67,7 @@ byWorst =
     []
 
 worst-worked :
-    talk scratch byWorst
+    computed scratch byWorst
     ≡
     -- A 0 0 0
     65 ∷ 32 ∷ 48 ∷ 32 ∷ 48 ∷ 32 ∷ 48 ∷ 10 ∷
@@ -76,11 +76,11 @@ worst-worked :
     -- 036000000000001 5
     48 ∷ 51 ∷ 54 ∷ 48 ∷ 48 ∷ 48 ∷ 48 ∷ 48 ∷ 48 ∷ 48 ∷ 48 ∷ 48 ∷ 48 ∷ 48 ∷ 49 ∷ 32 ∷ 53 ∷ 10 ∷
     []
-unfolding talk scratch byWorst
+unfolding computed scratch byWorst
 worst-worked = refl
 
-no-metric-worked : talk scratch (49 ∷ 32 ∷ 51 ∷ 10 ∷ []) ≡ 70 ∷ 32 ∷ 52 ∷ 10 ∷ []
-unfolding talk scratch
+no-metric-worked : computed scratch (49 ∷ 32 ∷ 51 ∷ 10 ∷ []) ≡ 70 ∷ 32 ∷ 52 ∷ 10 ∷ []
+unfolding computed scratch
 no-metric-worked = refl
 
 -- W2's edge at countries 1, 36 and 999: national 274,877,906,944 is refused and 274,877,906,943 taken
@@ -115,7 +115,7 @@ edges =
     []
 
 edges-worked :
-    talk scratch edges
+    computed scratch edges
     ≡
     -- A 1
     65 ∷ 32 ∷ 49 ∷ 10 ∷
@@ -142,7 +142,7 @@ edges-worked :
     -- R 0 0
     82 ∷ 32 ∷ 48 ∷ 32 ∷ 48 ∷ 10 ∷
     []
-unfolding talk scratch edges
+unfolding computed scratch edges
 edges-worked = refl
 
 -- -.5 and 123456.00 are no measures, 00000.00 is; a code of upper-case digits is none; 4294967295 is a number and 4294967296 is not

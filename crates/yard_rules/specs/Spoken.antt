@@ -1,6 +1,6 @@
 -- 01, "The program": the whole conversation. A line and what stands before it give what stands after it and the bytes to print, by the calls' own
 -- definitions.
-use Prim.Native.Nat.{ℕ, zero, suc}
+use Prim.Native.Nat.{ℕ, zero, suc, _≤_}
 use mathlib.Core.Bool.{true, false}
 use mathlib.Core.List.{List, [], _∷_, _++_}
 use lib.ListN.{length}
@@ -9,6 +9,7 @@ use Rattle.metric_rules.specs.declared.Profile.{Profile}
 use Rattle.metric_rules.specs.Row.{Row}
 use Rattle.search_rules.specs.Range.{Entry}
 use Rattle.bucket_rules.specs.Refusals.{badOrder}
+use Rattle.bucket_rules.specs.Geometry.{room, tableRows, workRows}
 use Rattle.bucket_rules.specs.Table.{Table}
 use Rattle.bucket_rules.specs.Fresh.{freshRefusal, tableAfterFresh}
 use Rattle.bucket_rules.specs.Add.{addReply, tableAfterAdd, workAfterAdd}
@@ -49,6 +50,12 @@ otherText number = replyLine questionMark (number ∷ [])
 -- "T at most 8 (else it prints `F 3`..)"
 unfoldable pub mostYardOrder : ℕ
 mostYardOrder = 8
+
+-- areas that are long enough for it: a header is then refused by 3 or 4 alone, and no later line for its areas (`proofs/Ample`)
+pub record Ample (a : Areas) : Type 0 where
+  pub table : tableRows mostYardOrder ≤ length (a .table)
+  pub work : workRows mostYardOrder ≤ length (a .work)
+  pub result : room mostYardOrder ≤ length (a .result)
 
 unfoldable pub headerRefusal : Table → ℕ → ℕ → ℕ
 headerRefusal t order metric =
@@ -100,22 +107,21 @@ textAfter a number command.Other p = otherText number
 unfoldable pub answered : Areas → ℕ → Command → Profile → Said
 answered a number c p = record { areas = areasAfter a c p; stage = stage.Serving; text = textAfter a number c p }
 
--- a line that is `?` counts as a line, and the header is line 1
-unfoldable pub saidAt : Areas → ℕ → Stage → List ℕ → Said
-saidAt a number stage.Waiting line = greeted a number (headerIn line)
-saidAt a number stage.Serving line = answered a number (commandIn line) (profileIn line)
-saidAt a number stage.Ended line = record { areas = a; stage = stage.Ended; text = [] }
-
-unfoldable pub spoken : Yard → List ℕ → Said
-spoken y line = saidAt (y .areas) (suc (y .lines)) (y .stage) line
+-- a line by its number: one that is `?` counts, and the header is line 1
+unfoldable pub spoken : Areas → ℕ → Stage → List ℕ → Said
+spoken a number stage.Waiting line = greeted a number (headerIn line)
+spoken a number stage.Serving line = answered a number (commandIn line) (profileIn line)
+spoken a number stage.Ended line = record { areas = a; stage = stage.Ended; text = [] }
 
 unfoldable pub after : Yard → List ℕ → Yard
-after y line = let s = spoken y line in record { areas = s .areas; stage = s .stage; lines = suc (y .lines) }
+after y line =
+    let said = spoken (y .areas) (suc (y .lines)) (y .stage) line in
+    record { areas = said .areas; stage = said .stage; lines = suc (y .lines) }
 
 -- what some lines print
 unfoldable pub printed : Yard → List (List ℕ) → List ℕ
 printed y [] = []
-printed y (line ∷ lines) = spoken y line .text ++ printed (after y line) lines
+printed y (line ∷ lines) = spoken (y .areas) (suc (y .lines)) (y .stage) line .text ++ printed (after y line) lines
 
 -- "each line ends in a line feed, which the last may lack": after the last line feed there is a line where there is a byte
 unfoldable pub lastKept : List (List ℕ) → List (List ℕ)

@@ -1,20 +1,20 @@
 -- Bytes fed one after the other: bytes without a line feed go to the pending line, a line feed ends it, and what stands after two stretches is what
 -- stands after both put end to end.
-use Prim.Native.Nat.{ℕ, zero, suc, _+_, _-_, _≤_, _<_}
-use mathlib.Core.Path.{_≡_, refl, ap, ap₂, sym, _∙_}
+use Prim.Native.Nat.{ℕ, suc, _+_, _-_, _≤_, _<_}
+use mathlib.Core.Path.{_≡_, refl, ap, sym, _∙_}
 use mathlib.Core.Bool.{Bool, true, false}
 use mathlib.Core.List.{List, [], _∷_, _++_, append-assoc, append-nil}
 use native.Mathlib.Omega.{arith}
 use lib.Dec.{eqb}
 use lib.ListN.{length, take, drop, length-drop}
 use lib.Seq.{take-all}
-use borrow.Author.Tests.{ne-eqb, eqb-false}
+use borrow.Author.Tests.{ne-eqb}
 use Rattle.text_rules.specs.Text.{lineFeed}
 use Rattle.yard_rules.specs.Spoken.{Yard, after, spoken, printed}
 use Rattle.text_rules.proofs.Parts.{Free}
 use Rattle.yard_lines.specs.Held.{untilFeed}
 use Rattle.yard_lines.specs.Pieces.{Gathering, gathering}
-use Rattle.yard_lines.proofs.Pieces.{until-free, feed-after, no-feed}
+use Rattle.yard_lines.proofs.Pieces.{feed-after, no-feed}
 use Rattle.yard_session.specs.Fed.{Midway, afterLines, fed, fedText, stretch}
 
 -- lines one after the other
@@ -26,7 +26,9 @@ after-both y (x ∷ xs) ys = after-both (after y x) xs ys
 pub printed-both : (y : Yard) (xs ys : List (List ℕ)) → printed y (xs ++ ys) ≡ printed y xs ++ printed (afterLines y xs) ys
 unfolding printed afterLines
 printed-both y [] ys = refl
-printed-both y (x ∷ xs) ys = ap (λ t. spoken y x .text ++ t) (printed-both (after y x) xs ys) ∙ sym (append-assoc (spoken y x .text) _ _)
+printed-both y (x ∷ xs) ys =
+    let text = spoken (y .areas) (suc (y .lines)) (y .stage) x .text in
+    ap (λ t. text ++ t) (printed-both (after y x) xs ys) ∙ sym (append-assoc text _ _)
 
 -- the lines of two stretches
 both : Gathering → Gathering → Gathering
@@ -82,7 +84,7 @@ pub fed-feed : (m : Midway) → fed m (lineFeed ∷ []) ≡ record { yard = afte
 unfolding fed gathering afterLines
 fed-feed m = refl
 
-pub text-feed : (m : Midway) → fedText m (lineFeed ∷ []) ≡ spoken (m .yard) (m .pending) .text
+pub text-feed : (m : Midway) → fedText m (lineFeed ∷ []) ≡ spoken (m .yard .areas) (suc (m .yard .lines)) (m .yard .stage) (m .pending) .text
 unfolding fedText gathering printed
 text-feed m = append-nil _
 

@@ -1,3 +1,3 @@
 pub mod Feeding
 mod Standing
-pub mod Told
+pub mod Conversation

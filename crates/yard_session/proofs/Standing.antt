@@ -1,19 +1,19 @@
 -- What each step of the code leaves is what the definition says of the bytes it took: its line is answered as the pending one, and what it holds is the
 -- pending line after it.
-use Prim.Native.Nat.{ℕ, zero, suc, _+_, _-_, _≤_, _<_}
+use Prim.Native.Nat.{ℕ, zero, suc, _+_, _≤_, _<_}
 use mathlib.Core.Path.{_≡_, refl, ap, sym, subst, _∙_}
-use mathlib.Core.Bool.{Bool, true, false, false≢true}
+use mathlib.Core.Bool.{true, false, false≢true}
 use mathlib.Core.List.{List, [], _∷_, _++_, append-nil}
 use native.Mathlib.Omega.{arith}
 use native.Mathlib.Numerals.{add-one}
 use lib.Dec.{eqb}
 use lib.ListN.{length, take, drop, length-take}
 use lib.Seq.{sets}
-use borrow.Author.Tests.{eq-eqb, ne-eqb}
+use borrow.Author.Tests.{ne-eqb}
 use Rattle.yard_rules.specs.declared.Stage.{Stage}
 use Rattle.yard_rules.specs.declared.Stage.the-variants as stage
 use Rattle.text_rules.specs.Text.{lineFeed}
-use Rattle.yard_rules.specs.Spoken.{Areas, Yard, Said, saidAt, spoken, after, printed}
+use Rattle.yard_rules.specs.Spoken.{Areas, Yard, Said, spoken, after, printed}
 use Rattle.text_rules.proofs.Parts.{Free}
 use Rattle.yard_lines.specs.declared.Held.{Held}
 use Rattle.yard_lines.specs.declared.Gathered.{Gathered}
@@ -23,7 +23,7 @@ use Rattle.yard_lines.proofs.Pieces.{until-free}
 use Rattle.yard_reply.specs.Put.{Puts}
 use Rattle.yard_talk.specs.declared.Spoke.{Spoke}
 use Rattle.yard_talk.specs.Says.{Says}
-use Rattle.yard_talk.proofs.Longer.{long-said}
+use Rattle.yard_talk.proofs.Longer.{long-spoken}
 use Rattle.yard_session.specs.declared.Place.{Place}
 use Rattle.yard_session.specs.Fed.{Midway, afterLines, begun, fed, fedText, lastOf, lastLine, endText, stretch}
 use Rattle.yard_session.specs.Stands.{AnsweredAs, Stands, Takes, Ends}
@@ -39,23 +39,23 @@ begins a area = record { areas-are = refl; stage-is = refl; number-is = refl; li
 
 -- the line that is held
 pub long-answered : {area line : List ℕ} {h : Held} → 90 ≤ length area → h .over ≡ true → Holds area h line → AnsweredAs [] line
-long-answered {line = line} l e k a number s = sym (long-said a number s line (omega (arith, k .longer e)))
+long-answered {line = line} l e k a number s = sym (long-spoken a number s line (omega (arith, k .longer e)))
 
 pub whole-answered : {area line : List ℕ} {h : Held} → h .over ≡ false → Holds area h line → AnsweredAs (take (h .length) area) line
-whole-answered e k a number s = ap (saidAt a number s) (k .whole e)
+whole-answered e k a number s = ap (spoken a number s) (k .whole e)
 
 -- a line feed
 pub line-taken : {m : Midway} {areas : Areas} {area : List ℕ} {at : Place} (line : List ℕ) (areas' : Areas) (out later : List ℕ) (r : Spoke) (next : ℕ)
-    → Stands m areas area at → AnsweredAs line (m .pending) → Says (saidAt areas (at .number) (at .stage) line) areas' out later r
+    → Stands m areas area at → AnsweredAs line (m .pending) → Says (spoken areas (at .number) (at .stage) line) areas' out later r
     → Takes m (lineFeed ∷ []) areas' area out later (record { stage = r .stage; number = at .number + 1; length = 0; over = false; from = next; printed = r .length })
-unfolding spoken after
+unfolding after
 line-taken {m} {areas} {area} {at} line areas' out later r next st alike says =
     let y : Yard = m .yard in
-    let said : saidAt areas (at .number) (at .stage) line ≡ saidAt (y .areas) (suc (y .lines)) (y .stage) (m .pending) =
+    let said : spoken areas (at .number) (at .stage) line ≡ spoken (y .areas) (suc (y .lines)) (y .stage) (m .pending) =
     alike areas (at .number) (at .stage)
-    ∙ ap (λ (a : Areas). saidAt a (at .number) (at .stage) (m .pending)) (st .areas-are)
-    ∙ ap (λ n. saidAt (y .areas) n (at .stage) (m .pending)) (st .number-is)
-    ∙ ap (λ (s : Stage). saidAt (y .areas) (suc (y .lines)) s (m .pending)) (st .stage-is) in
+    ∙ ap (λ (a : Areas). spoken a (at .number) (at .stage) (m .pending)) (st .areas-are)
+    ∙ ap (λ n. spoken (y .areas) n (at .stage) (m .pending)) (st .number-is)
+    ∙ ap (λ (s : Stage). spoken (y .areas) (suc (y .lines)) s (m .pending)) (st .stage-is) in
     let place : Place = record { stage = r .stage; number = at .number + 1; length = 0; over = false; from = next; printed = r .length } in
     record {
       stands =

@@ -43,9 +43,9 @@ unfoldable pub endText : Midway → List ℕ
 endText m = printed (m .yard) (lastLine m)
 
 -- all that is printed for an input in these pieces
-unfoldable pub toldBy : Midway → List (List ℕ) → List ℕ
-toldBy m [] = endText m
-toldBy m (piece ∷ pieces) = fedText m piece ++ toldBy (fed m piece) pieces
+unfoldable pub piecesText : Midway → List (List ℕ) → List ℕ
+piecesText m [] = endText m
+piecesText m (piece ∷ pieces) = fedText m piece ++ piecesText (fed m piece) pieces
 
 -- whether a header has ended it: nothing is printed any more
 abbrev pub hasEnded : Stage → Bool

@@ -4,7 +4,7 @@ use mathlib.Core.Path.{_≡_}
 use mathlib.Core.List.{List}
 use Rattle.yard_rules.specs.declared.Stage.{Stage}
 use Rattle.yard_rules.specs.declared.Stage.the-variants as stage
-use Rattle.yard_rules.specs.Spoken.{Areas, saidAt}
+use Rattle.yard_rules.specs.Spoken.{Areas, spoken}
 use Rattle.yard_lines.specs.Held.{Holds}
 use Rattle.yard_reply.specs.Put.{Puts}
 use Rattle.yard_session.specs.declared.Place.{Place}
@@ -12,7 +12,7 @@ use Rattle.yard_session.specs.Fed.{Midway, fed, fedText, endText, lastLi
 
 -- one line is answered as another is, whatever came before it
 abbrev pub AnsweredAs : List ℕ → List ℕ → Type 0
-AnsweredAs line other = (a : Areas) (number : ℕ) (s : Stage) → saidAt a number s line ≡ saidAt a number s other
+AnsweredAs line other = (a : Areas) (number : ℕ) (s : Stage) → spoken a number s line ≡ spoken a number s other
 
 -- the lent areas, the stage, the number of the line that comes in, and of that line what the area holds
 pub record Stands (m : Midway) (areas : Areas) (area : List ℕ) (at : Place) : Type 0 where

@@ -11,7 +11,7 @@ use Rattle.yard_rules.specs.declared.Stage.{Stage}
 use Rattle.yard_rules.specs.declared.Stage.the-variants as stage
 use Rattle.text_rules.specs.Text.{parted, partsIn}
 use Rattle.yard_rules.specs.Line.{hasProfile, headerIn, commandIn, profileIn}
-use Rattle.yard_rules.specs.Spoken.{Areas, areasAfter, textAfter, greeted, answered, saidAt}
+use Rattle.yard_rules.specs.Spoken.{Areas, areasAfter, textAfter, greeted, answered, spoken}
 use Rattle.yard_line.proofs.Longer.{long-command, long-header}
 
 empty-header : headerIn [] ≡ header.Other
@@ -26,11 +26,11 @@ other-alike : (a : Areas) (number : ℕ) (p q : Profile) → answered a number c
 unfolding answered areasAfter textAfter
 other-alike a number p q = refl
 
-pub long-said : (a : Areas) (number : ℕ) (s : Stage) (line : List ℕ) → 90 < length line → saidAt a number s line ≡ saidAt a number s []
-unfolding saidAt
-long-said a number stage.Waiting line l = ap (greeted a number) (long-header line l ∙ sym empty-header)
-long-said a number stage.Serving line l =
+pub long-spoken : (a : Areas) (number : ℕ) (s : Stage) (line : List ℕ) → 90 < length line → spoken a number s line ≡ spoken a number s []
+unfolding spoken
+long-spoken a number stage.Waiting line l = ap (greeted a number) (long-header line l ∙ sym empty-header)
+long-spoken a number stage.Serving line l =
     ap (λ (c : Command). answered a number c (profileIn line)) (long-command line l)
     ∙ other-alike a number (profileIn line) (profileIn [])
     ∙ ap (λ (c : Command). answered a number c (profileIn [])) (sym empty-command)
-long-said a number stage.Ended line l = refl
+long-spoken a number stage.Ended line l = refl

@@ -16,7 +16,6 @@ use Rattle.yard_rules.specs.declared.Stage.the-variants as stage
 use Rattle.yard_rules.specs.Line.{letterF, questionMark}
 use Rattle.yard_rules.specs.Reply.{replyLine}
 use Rattle.yard_rules.specs.Spoken.{Said, mostYardOrder, headerRefusal, greeted, otherText}
-use Rattle.yard_talk.specs.declared.Spoke.{Spoke}
 use Rattle.yard_reply.specs.Put.{Puts}
 use Rattle.yard_answer.specs.Lent.{lent}
 use Rattle.yard_talk.specs.Says.{tableAfterHeader, Says}

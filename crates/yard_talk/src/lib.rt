@@ -6,7 +6,7 @@ ghost use lib.ListN.{length};
 ghost use Rattle.metric_rules.specs.Row.{Row};
 ghost use Rattle.search_rules.specs.Range.{Entry};
 ghost use Rattle.yard_rules.specs.Line.{headerIn};
-ghost use Rattle.yard_rules.specs.Spoken.{headerRefusal, greeted, saidAt};
+ghost use Rattle.yard_rules.specs.Spoken.{headerRefusal, greeted, spoken};
 ghost use Rattle.yard_rules.specs.declared.Header.the-variants as header;
 ghost use Rattle.yard_answer.specs.Lent.{lent};
 ghost use Rattle.yard_talk.specs.Says.{tableAfterHeader, Says};
@@ -83,7 +83,7 @@ pub fn talk(
     line: &[u8],
 ) -> Spoke
     requires { ⌜ (65 + 37 * length (now result) ≤ length (now out)) × (length (now line) < 2 ^ 32) ⌝ }
-    ensures { λ r. ⌜ Says (saidAt (lent (now (table .entry)) (now (work .entry)) (now (result .entry))) number stage (now (line .entry))) (lent (now (table .exit)) (now (work .exit)) (now (result .exit))) (now (out .entry)) (now (out .exit)) r ⌝ }
+    ensures { λ r. ⌜ Says (spoken (lent (now (table .entry)) (now (work .entry)) (now (result .entry))) number stage (now (line .entry))) (lent (now (table .exit)) (now (work .exit)) (now (result .exit))) (now (out .entry)) (now (out .exit)) r ⌝ }
 {
     match stage {
         Stage::Waiting => first_line(table, out, number, line),

@@ -1,11 +1,9 @@
 -- `yard_answer::answer` meets its contract: one command at a time.
-use mathlib.Core.Path.{refl, ap, ap₂, sym, subst, _∙_}
+use mathlib.Core.Path.{ap, sym, _∙_}
 use Rattle.yard_answer.proofs.Saying.{needsProfile, profile-beside, add-answered, remove-answered, within-answered, nearest-answered, other-answered}
 use borrow.Author.Needs.{needs}
 use Rattle.yard_answer.proofs.answer.Statement.{statement}
 use Rattle.yard_answer.proofs.answer.Tie as tie
-use Rattle.yard_answer.proofs.answer.Reads as reads
-use Rattle.yard_answer.proofs.answer.Lts as lts
 
 command-requires : tie.Need-command-requires
 command-requires c κs = search needs

@@ -1,12 +1,10 @@
 -- `yard_commands::say_added` meets its contract: the call, and its reply as bytes.
-use mathlib.Core.Path.{refl, ap, ap₂, sym, subst, _∙_}
+use mathlib.Core.Path.{ap, subst}
 use Rattle.yard_rules.specs.Reply.{addText}
 use Rattle.yard_reply.specs.Put.{Puts}
 use borrow.Author.Needs.{needs}
 use Rattle.yard_commands.proofs.say_added.Statement.{statement}
 use Rattle.yard_commands.proofs.say_added.Tie as tie
-use Rattle.yard_commands.proofs.say_added.Reads as reads
-use Rattle.yard_commands.proofs.say_added.Lts as lts
 
 add-requires : tie.Need-add-requires
 add-requires c κs = search needs

@@ -1,5 +1,5 @@
 -- `yard_commands::say_nearest` meets its contract: the search, and its reply with the entries of the result area as bytes.
-use mathlib.Core.Path.{refl, ap, ap₂, sym, subst, _∙_}
+use mathlib.Core.Path.{ap, ap₂, subst}
 use native.Mathlib.Omega.{arith}
 use Rattle.bucket_rules.specs.declared.Searched.{Searched}
 use Rattle.yard_rules.specs.Line.{letterN}
@@ -9,8 +9,6 @@ use Rattle.yard_reply.specs.Put.{Puts}
 use borrow.Author.Needs.{needs}
 use Rattle.yard_commands.proofs.say_nearest.Statement.{statement}
 use Rattle.yard_commands.proofs.say_nearest.Tie as tie
-use Rattle.yard_commands.proofs.say_nearest.Reads as reads
-use Rattle.yard_commands.proofs.say_nearest.Lts as lts
 
 nearest-requires : tie.Need-nearest-requires
 nearest-requires c κs = search needs

@@ -1,12 +1,10 @@
 -- `yard_commands::say_removed` meets its contract: the call, and its reply as bytes.
-use mathlib.Core.Path.{refl, ap, ap₂, sym, subst, _∙_}
+use mathlib.Core.Path.{ap, subst}
 use Rattle.yard_rules.specs.Reply.{removeText}
 use Rattle.yard_reply.specs.Put.{Puts}
 use borrow.Author.Needs.{needs}
 use Rattle.yard_commands.proofs.say_removed.Statement.{statement}
 use Rattle.yard_commands.proofs.say_removed.Tie as tie
-use Rattle.yard_commands.proofs.say_removed.Reads as reads
-use Rattle.yard_commands.proofs.say_removed.Lts as lts
 
 remove-requires : tie.Need-remove-requires
 remove-requires c κs = search needs

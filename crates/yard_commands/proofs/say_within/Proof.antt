@@ -1,5 +1,5 @@
 -- `yard_commands::say_within` meets its contract: the search, and its reply with the entries of the result area as bytes.
-use mathlib.Core.Path.{refl, ap, ap₂, sym, subst, _∙_}
+use mathlib.Core.Path.{ap, ap₂, subst}
 use native.Mathlib.Omega.{arith}
 use Rattle.bucket_rules.specs.declared.Searched.{Searched}
 use Rattle.yard_rules.specs.Line.{letterW}
@@ -9,8 +9,6 @@ use Rattle.yard_reply.specs.Put.{Puts}
 use borrow.Author.Needs.{needs}
 use Rattle.yard_commands.proofs.say_within.Statement.{statement}
 use Rattle.yard_commands.proofs.say_within.Tie as tie
-use Rattle.yard_commands.proofs.say_within.Reads as reads
-use Rattle.yard_commands.proofs.say_within.Lts as lts
 
 range-requires : tie.Need-range-requires
 range-requires c κs = search needs

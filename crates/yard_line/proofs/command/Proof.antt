@@ -1,8 +1,7 @@
 -- `yard_line::command` meets its contract.
-use mathlib.Core.Path.{refl, sym, ap, ap₂, _∙_}
-use borrow.Author.Tests.{eq-eqb, ne-eqb, not-true, not-false}
-use Rattle.text_rules.specs.Text.{space, point, numeral, partsIn}
-use Rattle.text_rules.specs.Fields.{isTag, isMeasure}
+use mathlib.Core.Path.{refl, sym, ap, _∙_}
+use borrow.Author.Tests.{eq-eqb, ne-eqb}
+use Rattle.text_rules.specs.Fields.{isTag}
 use Rattle.yard_rules.specs.Line.{isNumber, letterA, letterN, letterR, letterW}
 use Rattle.yard_rules.specs.declared.Command.{Command}
 use Rattle.yard_line.proofs.Lines.{opens-form, command-by}

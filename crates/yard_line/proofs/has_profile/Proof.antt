@@ -1,9 +1,7 @@
 -- `yard_line::has_profile` meets its contract.
-use mathlib.Core.Path.{refl, sym, ap, ap₂, _∙_}
+use mathlib.Core.Path.{refl, sym, ap, _∙_}
 use borrow.Author.Tests.{eq-eqb, ne-eqb, not-true, not-false}
-use Rattle.text_rules.specs.Text.{space, point, numeral, partsIn}
-use Rattle.text_rules.specs.Fields.{isTag, isMeasure}
-use Rattle.yard_rules.specs.Line.{isNumber, isCode, onlyByte}
+use Rattle.yard_rules.specs.Line.{isCode}
 use Rattle.yard_line.proofs.Lines.{profile-by}
 use borrow.Author.Needs.{needs}
 use Rattle.yard_line.proofs.has_profile.Statement.{statement}

@@ -1,9 +1,6 @@
 -- `yard_line::header` meets its contract.
-use mathlib.Core.Path.{refl, sym, ap, ap₂, _∙_}
+use mathlib.Core.Path.{refl, sym, ap₂, _∙_}
 use borrow.Author.Tests.{eq-eqb, ne-eqb, not-true, not-false}
-use Rattle.text_rules.specs.Text.{space, point, numeral, partsIn}
-use Rattle.text_rules.specs.Fields.{isTag, isMeasure}
-use Rattle.yard_rules.specs.Line.{isNumber, onlyByte}
 use Rattle.yard_rules.specs.declared.Header.{Header}
 use Rattle.yard_line.proofs.Lines.{header-by}
 use borrow.Author.Needs.{needs}

@@ -1,9 +1,8 @@
 -- `yard_line::measure` meets its contract.
-use mathlib.Core.Path.{refl, sym, ap, ap₂, _∙_}
+use mathlib.Core.Path.{ap, _∙_}
 use native.Mathlib.Omega.{arith}
-use Rattle.text_rules.specs.Text.{space, point, numeral, partsIn}
-use Rattle.text_rules.specs.Fields.{isTag, isMeasure, measureIn}
-use Rattle.yard_rules.specs.Line.{isNumber, onlyByte}
+use Rattle.text_rules.specs.Text.{point}
+use Rattle.text_rules.specs.Fields.{isMeasure, measureIn}
 use Rattle.yard_line.proofs.Lines.{field-shorter}
 use lib.ListN.{length}
 use mir.Syntax.{w32}

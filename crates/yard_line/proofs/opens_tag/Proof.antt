@@ -1,8 +1,7 @@
 -- `yard_line::opens_tag` meets its contract.
-use mathlib.Core.Path.{refl, sym, ap, ap₂, _∙_}
-use Rattle.text_rules.specs.Text.{space, point, numeral, partsIn}
-use Rattle.text_rules.specs.Fields.{isTag, isMeasure}
-use Rattle.yard_rules.specs.Line.{isNumber, onlyByte}
+use mathlib.Core.Path.{sym, ap, _∙_}
+use Rattle.text_rules.specs.Fields.{isTag}
+use Rattle.yard_rules.specs.Line.{onlyByte}
 use Rattle.yard_line.proofs.Lines.{opens-is, opens-not}
 use borrow.Author.Needs.{needs}
 use Rattle.yard_line.proofs.opens_tag.Statement.{statement}

@@ -1,8 +1,8 @@
 -- `yard_lines::gather` meets its contract: the line so far, with the bytes still ahead of the line feed, is the line.
 use Prim.Native.Nat.{ℕ, _+_, _-_, _≤_}
 use native.Mathlib.Omega.{arith}
-use mathlib.Core.Path.{_≡_, refl, sym, ap, _∙_}
-use mathlib.Core.List.{List, [], _∷_, _++_}
+use mathlib.Core.Path.{_≡_, refl, ap, _∙_}
+use mathlib.Core.List.{List, [], _++_}
 use lib.ListN.{length as List·length, drop}
 use borrow.Author.Needs.{needs}
 use Rattle.yard_lines.specs.Held.{untilFeed, Holds}

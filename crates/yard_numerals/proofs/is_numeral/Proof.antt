@@ -1,12 +1,10 @@
 -- `yard_numerals::is_numeral` meets its contract: the lengths first, then what is left of the digits decides.
-use Prim.Native.Nat.{_+_, _-_, _≤_}
+use Prim.Native.Nat.{_-_, _≤_}
 use native.Mathlib.Omega.{arith}
-use mathlib.Core.Path.{_≡_, refl, sym, ap, ap₂, _∙_}
-use mathlib.Core.Bool.{true, false, _&&_}
+use mathlib.Core.Path.{_≡_, sym, _∙_}
 use lib.ListN.{length, drop}
-use lib.Dec.{leb}
 use borrow.Author.Needs.{needs}
-use borrow.Author.Tests.{le-leb, lt-leb, not-true, not-false}
+use borrow.Author.Tests.{not-true, not-false}
 use Rattle.metric_rules.specs.Lists.{every}
 use Rattle.tree_rules.proofs.Tests.{scan-fails, scan-passes, scan-ends}
 use Rattle.text_rules.specs.Text.{isDigit, isNumeral}
@@ -36,6 +34,11 @@ shared-slice-read-is-digit c = omega arith
 is-digit-requires : tie.Need-is-digit-requires Inv-loop μ-loop
 is-digit-requires c κs = search needs
 
+loop-again : tie.Need-loop-again Inv-loop μ-loop
+loop-again c =
+    let at = c .before .before .before .before in
+    (omega arith, omega arith, omega arith, scan-passes (isDigit _) 0 _ (at .loop .i) (omega arith) (at .loop .inv .3) (sym (c .before .is-digit .ensures) ∙ not-false _ (c .if3 .left)))
+
 returns-3 : tie.Need-returns-3 Inv-loop μ-loop
 returns-3 c =
     let at = c .before .before .before .before in
@@ -46,11 +49,6 @@ add-i c = omega arith
 
 loop-less : tie.Need-loop-less Inv-loop μ-loop
 loop-less c = omega arith
-
-loop-again : tie.Need-loop-again Inv-loop μ-loop
-loop-again c =
-    let at = c .before .before .before .before in
-    (omega arith, omega arith, omega arith, scan-passes (isDigit _) 0 _ (at .loop .i) (omega arith) (at .loop .inv .3) (sym (c .before .is-digit .ensures) ∙ not-false _ (c .if3 .left)))
 
 returns-4 : tie.Need-returns-4 Inv-loop μ-loop
 returns-4 c = scan-ends (isDigit _) _ (c .before .loop .i) (omega arith) (c .before .loop .inv .3)

@@ -1,9 +1,8 @@
 -- `yard_numerals::numeral` meets its contract: the number so far, with the digits still ahead, is the numeral's.
-use Prim.Native.Nat.{_+_, _-_, _^_, _≤_, _<_}
+use Prim.Native.Nat.{_-_, _^_, _≤_, _<_}
 use native.Mathlib.Omega.{arith}
-use mathlib.Core.Path.{_≡_, refl, sym, ap, _∙_}
+use mathlib.Core.Path.{_≡_, refl, _∙_}
 use lib.ListN.{length, drop}
-use borrow.Author.Needs.{needs}
 use Rattle.text_rules.specs.Text.{isDigit, numeralAfter, numeral}
 use Rattle.text_rules.proofs.Digits.{digit-fits, product-fits, sixteen-fit, numeral-step, numeral-ends, every-in}
 use Rattle.yard_numerals.proofs.numeral.Statement.{statement}

@@ -1,6 +1,6 @@
+-- `yard_parse::is_measure` meets its contract, test by test.
 use borrow.Author.Tests.{not-true, not-false}
 use Rattle.text_rules.specs.Text.{partAt, partsIn, isNumeral}
--- `yard_parse::is_measure` meets its contract, test by test.
 use mathlib.Core.Path.{sym, ap, _∙_}
 use native.Mathlib.Omega.{arith}
 use Rattle.yard_parse.proofs.Forms.{unsigned-shorter, parts-wrong, whole-wrong, rest-decides}
@@ -23,6 +23,13 @@ part-requires c κs = rw (c .before .before .unsigned .ensures) (omega (arith, u
 is-numeral-requires : tie.Need-is-numeral-requires
 is-numeral-requires c κs = search needs
 
+returns-3 : tie.Need-returns-3
+returns-3 c =
+    c .is-numeral2 .ensures
+    ∙ ap (isNumeral 10 2 2) (c .before .part2 .ensures ∙ ap (λ t. partAt (c .before .before .before .before .before .before .before .before .before .args .mark) t 1) (c .before .before .before .before .before .before .before .unsigned .ensures))
+    ∙ rest-decides _ _ (sym (c .before .before .before .before .before .before .parts .ensures ∙ ap (partsIn _) (c .before .before .before .before .before .before .before .unsigned .ensures)) ∙ c .before .before .before .before .before .if1 .left)
+    (sym (c .before .before .before .is-numeral .ensures ∙ ap (isNumeral 10 1 5) (c .before .before .before .before .part .ensures ∙ ap (λ t. partAt (c .before .before .before .before .before .before .before .before .before .args .mark) t 0) (c .before .before .before .before .before .before .before .unsigned .ensures))) ∙ not-false _ (c .before .before .if2 .left))
+
 returns-2 : tie.Need-returns-2
 returns-2 c =
     whole-wrong _ _ (sym (c .before .before .before .before .parts .ensures ∙ ap (partsIn _) (c .before .before .before .before .before .unsigned .ensures)) ∙ c .before .before .before .if1 .left)
@@ -33,13 +40,6 @@ part-requires-2 c κs = rw (c .before .before .before .before .before .unsigned 
 
 is-numeral-requires-2 : tie.Need-is-numeral-requires-2
 is-numeral-requires-2 c κs = search needs
-
-returns-3 : tie.Need-returns-3
-returns-3 c =
-    c .is-numeral2 .ensures
-    ∙ ap (isNumeral 10 2 2) (c .before .part2 .ensures ∙ ap (λ t. partAt (c .before .before .before .before .before .before .before .before .before .args .mark) t 1) (c .before .before .before .before .before .before .before .unsigned .ensures))
-    ∙ rest-decides _ _ (sym (c .before .before .before .before .before .before .parts .ensures ∙ ap (partsIn _) (c .before .before .before .before .before .before .before .unsigned .ensures)) ∙ c .before .before .before .before .before .if1 .left)
-    (sym (c .before .before .before .is-numeral .ensures ∙ ap (isNumeral 10 1 5) (c .before .before .before .before .part .ensures ∙ ap (λ t. partAt (c .before .before .before .before .before .before .before .before .before .args .mark) t 0) (c .before .before .before .before .before .before .before .unsigned .ensures))) ∙ not-false _ (c .before .before .if2 .left))
 
 pub is-measure-spec : {M : Type 1} → statement M
 is-measure-spec =

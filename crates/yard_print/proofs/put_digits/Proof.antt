@@ -1,11 +1,10 @@
 -- `yard_print::put_digits` meets its contract: the digits still to store, stored now, give the whole run.
-use Prim.Native.Nat.{_+_, _-_, _≤_}
+use Prim.Native.Nat.{_-_, _≤_}
 use native.Mathlib.Omega.{arith}
 use native.Mathlib.Nat.{mod-lt}
 use mathlib.Core.Path.{_≡_, refl, sym, ap, _∙_}
 use lib.ListN.{length, length-set}
 use lib.Seq.{sets}
-use borrow.Author.Needs.{needs}
 use Rattle.text_rules.specs.Text.{digits}
 use Rattle.yard_print.proofs.Runs.{digit-first}
 use Rattle.yard_print.proofs.put_digits.Statement.{statement}

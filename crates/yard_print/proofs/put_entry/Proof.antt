@@ -1,11 +1,10 @@
 -- `yard_print::put_entry` meets its contract: its four runs adjoin.
-use Prim.Native.Nat.{ℕ, _+_}
+use Prim.Native.Nat.{_+_}
 use native.Mathlib.Omega.{arith}
-use mathlib.Core.Path.{_≡_, refl, sym, ap, _∙_}
+use mathlib.Core.Path.{_≡_, ap, _∙_}
 use lib.ListN.{length, set, getD, length-set}
 use lib.Seq.{sets, length-sets}
 use Rattle.text_rules.specs.Text.{space, lineFeed, digits, decimal}
-use Rattle.yard_rules.specs.Reply.{entryText}
 use Rattle.yard_print.proofs.Runs.{entry-put, entry-long}
 use borrow.Author.Needs.{needs}
 use Rattle.yard_print.proofs.put_entry.Statement.{statement}

@@ -1,13 +1,11 @@
 -- `yard_print::put_line` meets its contract: after the letter, the numbers so far are printed.
-use Prim.Native.Nat.{ℕ, _+_, _-_, _*_, _≤_, _<_}
+use Prim.Native.Nat.{_+_, _-_, _*_, _≤_, _<_}
 use native.Mathlib.Omega.{arith}
-use mathlib.Core.Path.{_≡_, refl, sym, ap, _∙_}
-use mathlib.Core.List.{List, [], _∷_, _++_}
-use lib.ListN.{length, take, set, length-set, length-append}
-use lib.Seq.{sets, length-sets, take-all}
-use borrow.Author.Needs.{needs}
-use Rattle.text_rules.specs.Text.{space, lineFeed, decimal}
-use Rattle.yard_rules.specs.Reply.{spaced, replyLine}
+use mathlib.Core.Path.{_≡_, refl, ap, _∙_}
+use lib.ListN.{length, take, set, length-set}
+use lib.Seq.{sets, length-sets}
+use Rattle.text_rules.specs.Text.{space, decimal}
+use Rattle.yard_rules.specs.Reply.{spaced}
 use Rattle.yard_print.proofs.Runs.{number-put, number-long, line-put, line-long}
 use Rattle.yard_print.proofs.put_line.Statement.{statement}
 use Rattle.yard_print.proofs.put_line.Tie as tie

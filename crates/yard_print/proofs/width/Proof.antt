@@ -1,9 +1,8 @@
 -- `yard_print::width` meets its contract: the digits counted and those of what is left.
-use Prim.Native.Nat.{_+_, _/_, _≤_}
+use Prim.Native.Nat.{_+_, _≤_}
 use native.Mathlib.Omega.{arith}
 use native.Mathlib.Nat.{div-add-mod}
 use mathlib.Core.Path.{_≡_}
-use borrow.Author.Needs.{needs}
 use Rattle.text_rules.specs.Text.{width}
 use Rattle.yard_print.proofs.Widths.{width-one, width-more, width-some, width-twenty}
 use Rattle.yard_print.proofs.width.Statement.{statement}

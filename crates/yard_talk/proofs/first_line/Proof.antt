@@ -1,5 +1,5 @@
 -- `yard_talk::first_line` meets its contract.
-use mathlib.Core.Path.{refl, ap, ap₂, sym, subst, _∙_}
+use mathlib.Core.Path.{sym, subst, _∙_}
 use Rattle.yard_rules.specs.declared.Header.{Header}
 use Rattle.yard_rules.specs.declared.Stage.the-variants as stage
 use Rattle.yard_rules.specs.Spoken.{greeted}
@@ -9,8 +9,6 @@ use Rattle.yard_talk.proofs.Opening.{other-ended}
 use borrow.Author.Needs.{needs}
 use Rattle.yard_talk.proofs.first_line.Statement.{statement}
 use Rattle.yard_talk.proofs.first_line.Tie as tie
-use Rattle.yard_talk.proofs.first_line.Reads as reads
-use Rattle.yard_talk.proofs.first_line.Lts as lts
 
 header-requires : tie.Need-header-requires
 header-requires c κs = search needs

@@ -1,11 +1,8 @@
 -- `yard_talk::greet` meets its contract.
-use mathlib.Core.Path.{refl, ap, ap₂, sym, subst, _∙_}
 use Rattle.yard_talk.proofs.Opening.{greeted-served, greeted-ended}
 use borrow.Author.Needs.{needs}
 use Rattle.yard_talk.proofs.greet.Statement.{statement}
 use Rattle.yard_talk.proofs.greet.Tie as tie
-use Rattle.yard_talk.proofs.greet.Reads as reads
-use Rattle.yard_talk.proofs.greet.Lts as lts
 
 set-up-requires : tie.Need-set-up-requires
 set-up-requires c κs = search needs

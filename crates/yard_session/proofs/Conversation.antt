@@ -1,5 +1,5 @@
 -- "whatever pieces it arrives in": what is printed for the pieces, one after the other, and for the end is the conversation over the whole input.
-use Prim.Native.Nat.{ℕ, zero, suc, _+_, _-_, _≤_}
+use Prim.Native.Nat.{ℕ, suc, _+_, _-_, _≤_}
 use mathlib.Core.Path.{_≡_, refl, ap, sym, _∙_}
 use mathlib.Core.List.{List, [], _∷_, _++_, append-assoc, append-nil}
 use native.Mathlib.Omega.{arith}
@@ -7,18 +7,18 @@ use lib.ListN.{length, take, drop}
 use lib.Seq.{take-all, take-add, drop-drop}
 use Rattle.yard_rules.specs.declared.Stage.{Stage}
 use Rattle.yard_rules.specs.declared.Stage.the-variants as stage
-use Rattle.yard_rules.specs.Spoken.{Areas, Yard, Said, saidAt, spoken, after, printed, linesIn, conversation}
-use Rattle.yard_lines.specs.Pieces.{Gathering, gathering, gatherings, whole, someLeft, ended}
+use Rattle.yard_rules.specs.Spoken.{Areas, Yard, Said, spoken, after, printed, linesIn, conversation}
+use Rattle.yard_lines.specs.Pieces.{Gathering, gathering, gatherings, whole, ended}
 use Rattle.yard_lines.proofs.Whole.{lines-of-pieces}
-use Rattle.yard_session.specs.Fed.{Midway, afterLines, begun, fed, fedText, lastOf, lastLine, endText, toldBy, stretch}
-use Rattle.yard_session.proofs.Feeding.{after-both, printed-both, fed-both, text-both}
+use Rattle.yard_session.specs.Fed.{Midway, afterLines, begun, fed, fedText, lastOf, lastLine, endText, piecesText, stretch}
+use Rattle.yard_session.proofs.Feeding.{printed-both, fed-both, text-both}
 
 -- the pieces put end to end
-told-whole : (m : Midway) (pieces : List (List ℕ)) → toldBy m pieces ≡ fedText m (whole pieces) ++ endText (fed m (whole pieces))
-unfolding toldBy whole fed fedText gathering printed afterLines
-told-whole m [] = refl
-told-whole m (piece ∷ pieces) =
-    ap (λ t. fedText m piece ++ t) (told-whole (fed m piece) pieces)
+pieces-whole : (m : Midway) (pieces : List (List ℕ)) → piecesText m pieces ≡ fedText m (whole pieces) ++ endText (fed m (whole pieces))
+unfolding piecesText whole fed fedText gathering printed afterLines
+pieces-whole m [] = refl
+pieces-whole m (piece ∷ pieces) =
+    ap (λ t. fedText m piece ++ t) (pieces-whole (fed m piece) pieces)
     ∙ sym (append-assoc (fedText m piece) (fedText (fed m piece) (whole pieces)) (endText (fed (fed m piece) (whole pieces))))
     ∙ ap (λ t. t ++ endText (fed (fed m piece) (whole pieces))) (sym (text-both m piece (whole pieces)))
     ∙ ap (λ (n : Midway). fedText m (piece ++ whole pieces) ++ endText n) (sym (fed-both m piece (whole pieces)))
@@ -44,32 +44,32 @@ one-piece input =
     ∙ ap (λ (ls : List (List ℕ)). ended ls (gathering [] input .left)) (append-nil (gathering [] input .lines))
 
 -- for every way of cutting the input
-pub told-as-conversation : (a : Areas) (pieces : List (List ℕ)) → toldBy (begun a) pieces ≡ conversation a (whole pieces)
+pub pieces-as-conversation : (a : Areas) (pieces : List (List ℕ)) → piecesText (begun a) pieces ≡ conversation a (whole pieces)
 unfolding begun fed fedText lastLine endText conversation
-told-as-conversation a pieces =
+pieces-as-conversation a pieces =
     let y : Yard = begun a .yard in
     let g : Gathering = gathering [] (whole pieces) in
-    told-whole (begun a) pieces
+    pieces-whole (begun a) pieces
     ∙ sym (printed-both y (g .lines) (lastOf (afterLines y (g .lines) .lines) (g .left)))
     ∙ ap (printed y) (last-ended y (g .lines) (g .left) refl ∙ sym (one-piece (whole pieces)))
 
 -- after the end of the program nothing is printed, so no more has to be read
-ended-said : (a : Areas) (number : ℕ) (s : Stage) (line : List ℕ) → s ≡ stage.Ended → saidAt a number s line ≡ record { areas = a; stage = stage.Ended; text = [] }
-unfolding saidAt
-ended-said a number s line e = ap (λ (s : Stage). saidAt a number s line) e
+ended-spoken : (a : Areas) (number : ℕ) (s : Stage) (line : List ℕ) → s ≡ stage.Ended → spoken a number s line ≡ record { areas = a; stage = stage.Ended; text = [] }
+unfolding spoken
+ended-spoken a number s line e = ap (λ (s : Stage). spoken a number s line) e
 
 silent : (y : Yard) (lines : List (List ℕ)) → y .stage ≡ stage.Ended → printed y lines ≡ []
-unfolding printed spoken after
+unfolding printed after
 silent y [] e = refl
 silent y (line ∷ lines) e =
-    let said : saidAt (y .areas) (suc (y .lines)) (y .stage) line ≡ record { areas = y .areas; stage = stage.Ended; text = [] } = ended-said (y .areas) (suc (y .lines)) (y .stage) line e in
+    let said : spoken (y .areas) (suc (y .lines)) (y .stage) line ≡ record { areas = y .areas; stage = stage.Ended; text = [] } = ended-spoken (y .areas) (suc (y .lines)) (y .stage) line e in
     ap (λ (s : Said). s .text ++ printed (after y line) lines) said ∙ silent (after y line) lines (ap (λ (s : Said). s .stage) said)
 
-pub ended-silent : (m : Midway) (pieces : List (List ℕ)) → m .yard .stage ≡ stage.Ended → toldBy m pieces ≡ []
+pub ended-silent : (m : Midway) (pieces : List (List ℕ)) → m .yard .stage ≡ stage.Ended → piecesText m pieces ≡ []
 unfolding fed fedText lastLine endText
 ended-silent m pieces e =
     let g : Gathering = gathering (m .pending) (whole pieces) in
-    told-whole m pieces
+    pieces-whole m pieces
     ∙ sym (printed-both (m .yard) (g .lines) (lastOf (afterLines (m .yard) (g .lines) .lines) (g .left)))
     ∙ silent (m .yard) (g .lines ++ lastOf (afterLines (m .yard) (g .lines) .lines) (g .left)) e
 

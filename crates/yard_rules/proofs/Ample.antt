@@ -1,0 +1,79 @@
+-- With areas for order 8 no line is refused for its area: a header by 3 or 4 alone, a call on a table of order 8 at most never by 23, and a search
+-- whose reply has at most 2^8 entries never by 6. Rows and rooms grow with the order, so what is enough for 8 is enough below it.
+use Prim.Native.Nat.{ℕ, suc, _≤_}
+use mathlib.Core.Path.{_≡_, refl, sym, _∙_}
+use mathlib.Core.Bool.{Bool, true, false, false≢true}
+use mathlib.Core.Logic.{_⊎_, inl, inr}
+use native.Mathlib.Omega.{arith}
+use native.Mathlib.Nat.{le-trans}
+use lib.Dec.{leb}
+use lib.ListN.{length}
+use borrow.Author.Tests.{le-leb, leb-true}
+use Rattle.metric_rules.specs.Distance.{validSpace}
+use Rattle.tree_rules.proofs.Tests.{and-pass}
+use Rattle.bucket_rules.specs.Refusals.{badOrder, badMetric, areaShort}
+use Rattle.bucket_rules.specs.Geometry.{validOrder, room, firstSlot, tableRows, workRows}
+use Rattle.bucket_rules.specs.Table.{Table, orderOf}
+use Rattle.bucket_rules.specs.Checks.{marksPass, tableRefusal, readRefusal, changeRefusal}
+use Rattle.bucket_rules.specs.Fresh.{freshRefusal}
+use Rattle.bucket_rules.specs.Search.{Answer, fitRefusal}
+use Rattle.bucket_rules.proofs.Fill.{rooms-grow}
+use Rattle.bucket_rules.proofs.Passing.{stopBy, table-stop}
+use Rattle.bucket_rules.proofs.Replies.{fit-held}
+use Rattle.yard_rules.specs.Spoken.{Areas, Ample, mostYardOrder, headerRefusal}
+
+rows-grow : {j k : ℕ} → j ≤ k → tableRows j ≤ tableRows k
+unfolding tableRows firstSlot
+rows-grow {j} {k} h = omega (arith, rooms-grow {j = suc j} {k = suc k} (omega arith))
+
+not-by-length : (header lengths sizes : Bool) → lengths ≡ true → stopBy header lengths sizes ≡ areaShort → ⊥
+unfolding stopBy
+not-by-length false lengths sizes e s = omega arith
+not-by-length true false sizes e s = absurd (false≢true e)
+not-by-length true true false e s = omega arith
+not-by-length true true true e s = omega arith
+
+-- 0, 3 or 4
+abbrev pub ByHeader : ℕ → Type 0
+ByHeader n = (n ≡ 0) ⊎ (n ≡ badOrder) ⊎ (n ≡ badMetric)
+
+by-header : (few order metric long : Bool) → (few ≡ true → long ≡ true)
+    → ByHeader (elim few [ false ↦ badOrder | true ↦ elim order [ false ↦ badOrder | true ↦ elim metric [ false ↦ badMetric | true ↦ elim long [ false ↦ areaShort | true ↦ 0 ] ] ] ])
+by-header false order metric long e = inr (inl refl)
+by-header true false metric long e = inr (inl refl)
+by-header true true false long e = inr (inr refl)
+by-header true true true false e = absurd (false≢true (e refl))
+by-header true true true true e = inl refl
+
+module _ {a : Areas} (ample : Ample a) where
+  pub header-refused : (order metric : ℕ) → ByHeader (headerRefusal (a .table) order metric)
+  unfolding headerRefusal freshRefusal
+  header-refused order metric =
+      by-header (leb order mostYardOrder) (validOrder order) (validSpace (record { metric = metric })) (leb (tableRows order) (length (a .table)))
+      (λ e. le-leb (tableRows order) (length (a .table)) (le-trans (rows-grow (leb-true order mostYardOrder e)) (ample .table)))
+
+  module _ (few : orderOf (a .table) ≤ mostYardOrder) where
+    long : tableRows (orderOf (a .table)) ≤ length (a .table)
+    long = le-trans (rows-grow few) (ample .table)
+
+    not-short : (roomy sound : Table → Bool) → roomy (a .table) ≡ true → tableRefusal roomy sound (a .table) ≡ areaShort → ⊥
+    unfolding tableRows firstSlot
+    not-short roomy sound e s =
+        let t = a .table in
+        not-by-length _ _ _ (and-pass (leb (tableRows (orderOf t)) (length t)) (roomy t) (le-leb (tableRows (orderOf t)) (length t) long) e)
+        (sym (table-stop roomy sound t (omega (arith, long))) ∙ s)
+
+    pub read-not-short : readRefusal (a .table) ≡ areaShort → ⊥
+    unfolding readRefusal
+    read-not-short s = not-short (λ u. true) (λ u. true) refl s
+
+    pub change-not-short : changeRefusal (a .work) (a .table) ≡ areaShort → ⊥
+    unfolding changeRefusal workRows
+    change-not-short s =
+        not-short (λ u. leb (workRows (orderOf u)) (length (a .work))) marksPass
+        (le-leb (workRows (orderOf (a .table))) (length (a .work)) (le-trans (rooms-grow few) (ample .work)))
+        s
+
+  -- no more items than these are live at once in a table of such an order
+  pub reply-fits : (answer : Answer) → length (answer .entries) ≤ room mostYardOrder → fitRefusal (a .result) answer ≡ 0
+  reply-fits answer h = fit-held (a .result) answer (le-trans h (ample .result))
