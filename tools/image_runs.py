@@ -31,7 +31,7 @@ BUCKETS = [
 
 
 def image_of(order, metric, buckets):
-    """The bytes as the writer gives them: head, sizes, tags, records."""
+    """The bytes as the writer gives them: header, sizes, tags, records."""
     slots = [s for b in buckets for s in b]
     sizes = [struct.pack("<HH", len(b), sum(s[4] == LIVE for s in b)) for b in buckets]
     tags = [struct.pack("<Q", COUNTRY + s[0]) for s in slots]

@@ -50,7 +50,7 @@ fn add_refusal(table: &[Row], work: &[Row], tag: u64, profile: Profile) -> u32
     last_refusal(live, most <= live_total(table, order))
 }
 
-// A head is put in, for every table, work area, tag and profile.
+// An item is put in, for every table, work area, tag and profile.
 pub fn add(table: &mut [Row], work: &mut [Row], tag: u64, profile: Profile) -> Added
     ensures reply { λ r. ⌜ r ≡ addReply (now (table .entry)) (now (work .entry)) tag profile ⌝ }
     ensures table { λ _. ⌜ now (table .exit) ≡ tableAfterAdd (now (table .entry)) (now (work .entry)) tag profile ⌝ }

@@ -6,6 +6,7 @@ ghost use lib.ListN.{length, take, replicate};
 ghost use Rattle.tree_rules.specs.Guided.{All};
 ghost use Rattle.search_rules.specs.Range.{Pair, ordered};
 ghost use Rattle.range.specs.Collected.{foundAfter, collected};
+ghost use Rattle.bucket_rules.specs.Refusals.{resultShort};
 ghost use Rattle.bucket_rules.specs.Table.{orderOf};
 ghost use Rattle.bucket_rules.specs.Passed.{Passed};
 ghost use Rattle.bucket_rules.specs.Search.{zeroEntry, rangeReply, resultAfterRange};
@@ -51,7 +52,7 @@ fn reply_with(area: &mut [Entry], found: Found) -> Searched
     requires { ⌜ (found .hits < 2 ^ 32) × (found .count < 2 ^ 32) ⌝ }
     ensures held { λ r. ⌜ (found .hits ≤ length (now (area .entry)) → r ≡ record { refusal = 0; found = found .hits; distances = found .count }) ⌝ }
     ensures sorted { λ _. ⌜ (found .hits ≤ length (now (area .entry)) → All Pair (take (found .hits) (now (area .entry))) → now (area .exit) ≡ ordered (take (found .hits) (now (area .entry))) ++ replicate (length (now (area .entry)) - found .hits) zeroEntry) ⌝ }
-    ensures short { λ r. ⌜ (length (now (area .entry)) < found .hits → (r ≡ record { refusal = 6; found = 0; distances = 0 }) × (now (area .exit) ≡ replicate (length (now (area .entry))) zeroEntry)) ⌝ }
+    ensures short { λ r. ⌜ (length (now (area .entry)) < found .hits → (r ≡ record { refusal = resultShort; found = 0; distances = 0 }) × (now (area .exit) ≡ replicate (length (now (area .entry))) zeroEntry)) ⌝ }
 {
     let n = found.hits;
     if area.len() < n {

@@ -14,9 +14,9 @@ use Rattle.bucket_rules.specs.Table.{Table, rowAt, orderOf, tableSpace, 
 use Rattle.bucket_rules.specs.LookUp.{Place}
 use Rattle.bucket_rules.specs.Remove.{marked}
 use Rattle.bucket_rules.specs.Fresh.{freshTable}
-use Rattle.bucket_rules.proofs.Geometry.{sizes-before-slots}
+use Rattle.bucket_rules.proofs.Geometry.{sizes-before-slots, room-ends}
 use Rattle.bucket_rules.proofs.Windows.{window, window-set}
-use Rattle.bucket_rules.proofs.Views.{roomOf, slots-of-room, room-ends, header-first, same-order, Only, only-twice, Between, only-slots}
+use Rattle.bucket_rules.proofs.Views.{roomOf, slots-of-room, header-first, same-order, Only, only-twice, Between, only-slots}
 use Rattle.bucket_rules.proofs.Puts.{pair-built, pair-live, Holds, filledRoom, put-sizes-only, put-sizes-row, put-sizes-room}
 
 module _ (t : Table) (place : Place) (inOrder : place .bucket ≤ orderOf t) (long : tableRows (orderOf t) ≤ length t) (within : place .slot < room (place .bucket)) where

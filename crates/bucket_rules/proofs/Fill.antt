@@ -84,7 +84,7 @@ add-stop t work tag p = go (changeRefusal work t) (validTag tag) (validMeasures 
     go zero true true false true = refl
     go zero true true false false = refl
 
--- an add that is not refused: 23 and 24 pass, and a head fewer than the table's room is live
+-- an add that is not refused: 23 and 24 pass, and an item fewer than the table's room is live
 pub add-accepted : (t : Table) (work : List Row) (tag : ℕ) (p : Profile) → addRefusal t work tag p ≡ 0 → (changeRefusal work t ≡ 0) × (liveTotal t < room (orderOf t))
 add-accepted t work tag p e =
     go (changeRefusal work t) (validTag tag) (validMeasures p) (isLiveTag t tag) (leb (room (orderOf t)) (liveTotal t)) refl (sym (add-stop t work tag p) ∙ e)

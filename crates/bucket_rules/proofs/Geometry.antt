@@ -43,6 +43,11 @@ buckets-apart order j (suc k) h =
       | no d ↦ (let lower = buckets-apart order j k (lt-of-not-le d) in omega (arith, next k))
     ]
 
+-- the room of every bucket lies within the table
+pub room-ends : (order k : ℕ) → k ≤ order → firstSlot order k + room k ≤ tableRows order
+unfolding tableRows
+room-ends order k h = buckets-apart order k (suc order) (omega arith)
+
 pub sizes-before-slots : (order j k : ℕ) → j ≤ order → sizesRow j < firstSlot order k
 unfolding sizesRow firstSlot room
 sizes-before-slots order j k h = omega (arith, pow-pos k)

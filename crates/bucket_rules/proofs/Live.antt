@@ -21,7 +21,8 @@ use Rattle.search_rules.proofs.Selecting.{select-all}
 use Rattle.bucket_rules.specs.Geometry.{room, bucketsOf, firstSlot, tableRows}
 use Rattle.bucket_rules.specs.Table.{Table, orderOf, tableSpace, builtOf, slotsOf, liveSlots, putBucket, emptied}
 use Rattle.bucket_rules.specs.Rebuild.{liveItems, rebuilt}
-use Rattle.bucket_rules.proofs.Views.{room-ends, kept-built, kept-live-slots, Only, only-twice, only-fewer, same-order}
+use Rattle.bucket_rules.proofs.Geometry.{room-ends}
+use Rattle.bucket_rules.proofs.Views.{kept-built, kept-live-slots, Only, only-twice, only-fewer, same-order}
 use Rattle.bucket_rules.proofs.Puts.{Holds, held-built, held-live-slots, kept-holds, put-bucket-only, put-bucket-holds, apart-or, emptied-only, emptied-holds}
 use Rattle.bucket_rules.proofs.ByNumber.{Around, around, perm-front}
 

@@ -11,9 +11,9 @@ use Rattle.tree_rules.specs.Guided.{All}
 use Rattle.tree_rules.proofs.Lists.{all-take, all-drop}
 use Rattle.bucket_rules.specs.Geometry.{room, headerRow, sizesRow, firstSlot, tableRows}
 use Rattle.bucket_rules.specs.Table.{Table, rowAt, orderOf, builtOf, liveOf, slotsOf, pairRow}
-use Rattle.bucket_rules.proofs.Geometry.{row-by-row}
+use Rattle.bucket_rules.proofs.Geometry.{row-by-row, room-ends}
 use Rattle.bucket_rules.proofs.Windows.{window, window-before}
-use Rattle.bucket_rules.proofs.Views.{roomOf, room-row, room-length, room-ends, slots-of-room}
+use Rattle.bucket_rules.proofs.Views.{roomOf, room-row, room-length, slots-of-room}
 use Rattle.bucket_rules.proofs.Puts.{filledRoom, Holds}
 use Rattle.bucket_rules.proofs.Live.{Roomy, slots-length}
 

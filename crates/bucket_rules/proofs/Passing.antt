@@ -17,23 +17,19 @@ use Rattle.bucket_rules.specs.Checks.{sizesPass, tableRefusal, readRefus
 use Rattle.bucket_rules.specs.Passed.{Framed, Passed}
 use Rattle.bucket_rules.proofs.Buckets.{order-most}
 use Rattle.bucket_rules.proofs.Sizes.{size-room, sizes-at}
-use Rattle.bucket_rules.proofs.Geometry.{buckets-apart, sizes-before-slots}
+use Rattle.bucket_rules.proofs.Geometry.{room-ends, sizes-before-slots}
 
 -- every bucket's sizes row and slots are inside the table
 pub sizes-inside : (order k : ℕ) → k ≤ order → sizesRow k < tableRows order
 unfolding tableRows
 sizes-inside order k h = sizes-before-slots order k (suc order) h
 
-pub slots-inside : (order k : ℕ) → k ≤ order → firstSlot order k + room k ≤ tableRows order
-unfolding tableRows
-slots-inside order k h = buckets-apart order k (suc order) (omega arith)
-
 module _ {t : Table} (p : Passed t) (k : ℕ) (h : k ≤ orderOf t) where
   pub bucket-within : (liveOf t k ≤ builtOf t k) × (builtOf t k ≤ room k)
   bucket-within = size-room k (builtOf t k) (liveOf t k) (sizes-at (orderOf t) (builtOf t) (liveOf t) (p .sizes) k h)
 
   pub built-inside : firstSlot (orderOf t) k + builtOf t k ≤ length t
-  built-inside = omega (arith, bucket-within .1, slots-inside (orderOf t) k h, p .framed .long)
+  built-inside = omega (arith, bucket-within .1, room-ends (orderOf t) k h, p .framed .long)
 
 pub framed-rows : {t : Table} → Framed t → 0 < length t
 framed-rows {t} f = omega (arith, sizes-inside (orderOf t) 0 (omega arith), f .long)

@@ -14,9 +14,9 @@ use Rattle.tree_rules.specs.Guided.{All}
 use Rattle.tree_rules.proofs.Lists.{all-weaken, all-always}
 use Rattle.bucket_rules.specs.Geometry.{room, sizesRow, firstSlot, tableRows}
 use Rattle.bucket_rules.specs.Table.{Table, rowAt, orderOf, builtOf, liveOf, slotsOf, liveSlots, pairRow, putSizes, putBucket, emptied}
-use Rattle.bucket_rules.proofs.Geometry.{sizes-before-slots}
+use Rattle.bucket_rules.proofs.Geometry.{sizes-before-slots, room-ends}
 use Rattle.bucket_rules.proofs.Windows.{window, window-paste, before-paste, after-paste, paste-length}
-use Rattle.bucket_rules.proofs.Views.{roomOf, room-row, slots-of-room, room-ends, same-order, Kept, Only, only-own, only-twice, only-fewer, Between, only-sizes, only-slots, sizes-room}
+use Rattle.bucket_rules.proofs.Views.{roomOf, room-row, slots-of-room, same-order, Kept, Only, only-own, only-twice, only-fewer, Between, only-sizes, only-slots, sizes-room}
 
 -- the sizes that a sizes row shows
 module _ (u : Table) (k a b : ℕ) (row : rowAt u (sizesRow k) ≡ pairRow a b) where

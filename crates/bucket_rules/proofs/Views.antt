@@ -12,7 +12,7 @@ use Rattle.metric_rules.specs.Row.{Row, word, isLive}
 use Rattle.metric_rules.specs.Distance.{spaceOf}
 use Rattle.bucket_rules.specs.Geometry.{room, headerRow, sizesRow, firstSlot, tableRows}
 use Rattle.bucket_rules.specs.Table.{Table, rowAt, orderOf, tableSpace, builtOf, liveOf, slotsOf, liveSlots}
-use Rattle.bucket_rules.proofs.Geometry.{buckets-apart, sizes-before-slots}
+use Rattle.bucket_rules.proofs.Geometry.{buckets-apart, room-ends, sizes-before-slots}
 use Rattle.bucket_rules.proofs.Windows.{window, window-getD, take-window, length-window, getD-before, window-before, getD-after, window-after, drop-after}
 
 -- all rows of a bucket's room, the built slots and those past them
@@ -26,11 +26,6 @@ room-row t k i h = window-getD (firstSlot (orderOf t) k) (room k) i t [] h
 pub slots-of-room : (t : Table) (k : ℕ) → builtOf t k ≤ room k → slotsOf t k ≡ take (builtOf t k) (roomOf t k)
 unfolding roomOf slotsOf
 slots-of-room t k h = sym (take-window (firstSlot (orderOf t) k) (room k) (builtOf t k) t h)
-
--- the room of every bucket lies within the table
-pub room-ends : (order k : ℕ) → k ≤ order → firstSlot order k + room k ≤ tableRows order
-unfolding tableRows
-room-ends order k h = buckets-apart order k (suc order) (omega arith)
 
 pub room-length : (t : Table) (k : ℕ) → k ≤ orderOf t → tableRows (orderOf t) ≤ length t → length (roomOf t k) ≡ room k
 unfolding roomOf

@@ -67,8 +67,8 @@ module _ {A : Type 0} where
 
   -- a block pasted over a window
   module _ (xs block : List A) (f m : ℕ) (inside : f + m ≤ length xs) (fits : length block ≡ m) where
-    head-fits : length (take f xs) ≡ f
-    head-fits = length-take-le f xs (omega arith)
+    front-fits : length (take f xs) ≡ f
+    front-fits = length-take-le f xs (omega arith)
 
     block-whole : take m block ≡ block
     block-whole = take-all m block (omega arith)
@@ -77,13 +77,13 @@ module _ {A : Type 0} where
     unfolding window
     window-paste =
         ap (λ (l : List A). take m (drop f l)) (append-assoc (take f xs) (take m block) (drop (f + m) xs))
-        ∙ ap (take m) (drop-at (take f xs) (take m block ++ drop (f + m) xs) f head-fits)
+        ∙ ap (take m) (drop-at (take f xs) (take m block ++ drop (f + m) xs) f front-fits)
         ∙ take-at (take m block) (drop (f + m) xs) m (length-take-le m block (omega arith))
         ∙ block-whole
 
     pub before-paste : take f (paste xs f block m) ≡ take f xs
     before-paste =
-        ap (take f) (append-assoc (take f xs) (take m block) (drop (f + m) xs)) ∙ take-at (take f xs) (take m block ++ drop (f + m) xs) f head-fits
+        ap (take f) (append-assoc (take f xs) (take m block) (drop (f + m) xs)) ∙ take-at (take f xs) (take m block ++ drop (f + m) xs) f front-fits
 
     pub after-paste : drop (f + m) (paste xs f block m) ≡ drop (f + m) xs
     after-paste = drop-paste xs f block m (omega arith) (omega arith)

@@ -45,11 +45,11 @@ emptyFrom t k (suc n) = elim (inUse t k) [ true ↦ emptyFrom t (suc k) n | fals
 unfoldable pub lowestEmpty : Table → ℕ
 lowestEmpty t = emptyFrom t 0 (suc (orderOf t))
 
--- the new head, then the live head of buckets 0 to k - 1 in slot order
+-- the new item, then the live items of buckets 0 to k - 1 in slot order
 unfoldable pub gathered : Table → ℕ → Profile → List Row
 gathered t tag p = rowOf tag p 0 0 ∷ liveItems t (countFrom 0 (lowestEmpty t))
 
--- n head go to bucket k if they are more than 2^(k-1), else to k - 1
+-- n items go to bucket k if they are more than 2^(k-1), else to k - 1
 unfoldable pub addBucket : ℕ → ℕ → ℕ
 addBucket k n = elim (ltb (room k) (2 * n)) [ true ↦ k | false ↦ k - 1 ]
 

@@ -17,7 +17,7 @@ sizePasses k built live =
     (eqb built 0 && eqb live 0)
     || (leb live built && leb built (room k) && ltb (room k) (2 * built) && ltb (room k) (4 * live))
 
--- every bucket's sizes pass, and at most 2^T head are live in all
+-- every bucket's sizes pass, and at most 2^T items are live in all
 unfoldable pub sizesPass : ℕ → (ℕ → ℕ) → (ℕ → ℕ) → Bool
 sizesPass order built live =
     every (λ k. sizePasses k (built k) (live k)) (bucketsOf order) && leb (total (map live (bucketsOf order))) (room order)

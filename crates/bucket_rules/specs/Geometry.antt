@@ -15,7 +15,7 @@ mostOrder = 12
 unfoldable pub validOrder : ℕ → Bool
 validOrder order = leb leastOrder order && leb order mostOrder
 
--- bucket k has 2^k slots; at most 2^T head are live, and the work area is as many rows
+-- bucket k has 2^k slots; at most 2^T items are live, and the work area is as many rows
 unfoldable pub room : ℕ → ℕ
 room k = 2 ^ k
 

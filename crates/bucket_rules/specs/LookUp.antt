@@ -1,4 +1,4 @@
--- 01, "Remove" (the finding of a live head by its tag) and look up: its refusals and its reply.
+-- 01, "Remove" (the finding of a live item by its tag) and look up: its refusals and its reply.
 use Prim.Native.Nat.{ℕ, zero, suc}
 use mathlib.Core.Bool.{Bool, true, false, _&&_}
 use mathlib.Core.List.{List, [], _∷_}
@@ -14,7 +14,7 @@ use Rattle.bucket_rules.specs.Geometry.{bucketsOf}
 use Rattle.bucket_rules.specs.Table.{Table, orderOf, slotsOf}
 use Rattle.bucket_rules.specs.Checks.{readRefusal}
 
--- where a head stands: its bucket, the slot in it, and the row there
+-- where an item stands: its bucket, the slot in it, and the row there
 pub record Place : Type 0 where
   pub bucket : ℕ
   pub slot : ℕ
@@ -31,7 +31,7 @@ unfoldable pub placeIn : Table → ℕ → List ℕ → Option Place
 placeIn t tag [] = none
 placeIn t tag (k ∷ ks) = elim (placeFrom tag k 0 (slotsOf t k)) [ some place ↦ some place | none ↦ placeIn t tag ks ]
 
--- the live head with a tag: lowest bucket first, then lowest slot
+-- the live item with a tag: lowest bucket first, then lowest slot
 unfoldable pub find : Table → ℕ → Option Place
 find t tag = placeIn t tag (bucketsOf (orderOf t))
 

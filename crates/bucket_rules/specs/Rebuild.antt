@@ -1,4 +1,4 @@
--- 01, "Add" and "Remove": head gathered from some buckets, the buckets emptied, and the head built in one.
+-- 01, "Add" and "Remove": items gathered from some buckets, the buckets emptied, and the items built in one.
 use Prim.Native.Nat.{ℕ}
 use mathlib.Core.List.{List, map, flatten}
 use lib.ListN.{length}
@@ -12,7 +12,7 @@ pub record Rebuilt : Type 0 where
   pub table : Table
   pub distances : ℕ
 
--- the live head of the buckets listed, each bucket's in slot order
+-- the live items (01's head) of the buckets listed, each bucket's in slot order
 unfoldable pub liveItems : Table → List ℕ → List Row
 liveItems t ks = flatten (map (liveSlots t) ks)
 

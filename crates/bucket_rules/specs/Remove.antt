@@ -33,7 +33,7 @@ marked t place =
     let k = place .bucket in
     putSizes k (builtOf t k) (liveOf t k - 1) (set t (firstSlot (orderOf t) k + place .slot) (withMark 1 (place .row)))
 
--- the head of the buckets listed, bucket k's first, built in one bucket
+-- the items of the buckets listed, bucket k's first, built in one bucket
 unfoldable pub united : Table → List ℕ → ℕ → Rebuilt
 united t ks k = rebuilt t ks k (liveItems t ks)
 
@@ -46,7 +46,7 @@ thinned t k =
       | false ↦ elim (inUse t (k - 2)) [ true ↦ united t (k ∷ (k - 2) ∷ []) (k - 1) | false ↦ united t (k ∷ []) (k - 2) ]
     ]
 
--- after the marking: no live head empties the bucket, enough of them is the end, else it is too thin
+-- after the marking: no live item empties the bucket, enough of them is the end, else it is too thin
 unfoldable pub settled : Table → ℕ → Rebuilt
 settled t k =
     elim (eqb (liveOf t k) 0) [

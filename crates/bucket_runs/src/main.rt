@@ -5,6 +5,7 @@ mod steps;
 ghost use Prim.Native.Nat.{_≤_};
 use libc::STDOUT_FILENO;
 use metric_rules::Profile;
+use metric_rules::ROW_WIDTH;
 use metric_rules::Row;
 use search_rules::Entry;
 use steps::COUNT;
@@ -58,27 +59,25 @@ fn profile_at(national: u32) -> Profile {
     }
 }
 
-fn add_all(table: &mut [Row], work: &mut [Row], first: u32, count: u32) -> Last {
-    let mut last = last_of(0, 0, 0, 0);
-    let mut i = 0;
-    while i < count {
-        let national = std::num::wrapping_add_u32(first, i);
-        let r = vpindex::vpindex_add(table, work, tag_at(national), profile_at(national));
-        let total = std::num::wrapping_add_u64(last.total, r.distances as u64);
-        last = last_of(r.refusal, r.bucket, r.distances, total);
-        i += 1;
+// One add of kind 1 or removal of kind 2, after calls of so many distances together.
+fn change(table: &mut [Row], work: &mut [Row], kind: u32, national: u32, so_far: u64) -> Last {
+    let tag = tag_at(national);
+    if kind == 1 {
+        let r = vpindex::vpindex_add(table, work, tag, profile_at(national));
+        let total = std::num::wrapping_add_u64(so_far, r.distances as u64);
+        return last_of(r.refusal, r.bucket, r.distances, total);
     }
-    last
+    let r = vpindex::vpindex_remove(table, work, tag);
+    let total = std::num::wrapping_add_u64(so_far, r.distances as u64);
+    last_of(r.refusal, 0, r.distances, total)
 }
 
-fn remove_all(table: &mut [Row], work: &mut [Row], first: u32, count: u32) -> Last {
+fn change_all(table: &mut [Row], work: &mut [Row], kind: u32, first: u32, count: u32) -> Last {
     let mut last = last_of(0, 0, 0, 0);
     let mut i = 0;
     while i < count {
         let national = std::num::wrapping_add_u32(first, i);
-        let r = vpindex::vpindex_remove(table, work, tag_at(national));
-        let total = std::num::wrapping_add_u64(last.total, r.distances as u64);
-        last = last_of(r.refusal, 0, r.distances, total);
+        last = change(table, work, kind, national, last.total);
         i += 1;
     }
     last
@@ -105,11 +104,8 @@ fn perform(
     if kind == 0 {
         return last_of(vpindex::vpindex_fresh(table, first, second), 0, 0, 0);
     }
-    if kind == 1 {
-        return add_all(table, work, first, second);
-    }
-    if kind == 2 {
-        return remove_all(table, work, first, second);
+    if kind <= 2 {
+        return change_all(table, work, kind, first, second);
     }
     search(table, result, kind, second)
 }
@@ -157,8 +153,8 @@ fn run(table: &mut [Row], work: &mut [Row], result: &mut [Entry]) {
 }
 
 fn main() {
-    let mut table = [[0u32; 12]; TABLE_ROWS];
-    let mut work = [[0u32; 12]; WORK_ROWS];
+    let mut table = [[0u32; ROW_WIDTH]; TABLE_ROWS];
+    let mut work = [[0u32; ROW_WIDTH]; WORK_ROWS];
     let mut result = [[0u64; 2]; WORK_ROWS];
     run(&mut table, &mut work, &mut result);
 }

@@ -1,4 +1,4 @@
-// One bucket of a table: its sizes written, its live head gathered, and the bucket emptied.
+// One bucket of a table: its sizes written, its live items gathered, and the bucket emptied.
 ghost use mathlib.Core.Path.{_≡_};
 ghost use mathlib.Core.List.{[]};
 ghost use Prim.Native.Nat.{_+_, _≤_, _<_};
@@ -45,7 +45,7 @@ pub fn empty_bucket(table: &mut [Row], order: Order, k: u32)
     put_sizes(table, k, 0, 0);
 }
 
-// The live head of bucket k, in slot order, behind the first n rows of the work area. The reply is the number of rows there now.
+// The live items of bucket k, in slot order, behind the first n rows of the work area. The reply is the number of rows there now.
 pub fn gather_bucket(table: &[Row], order: Order, k: u32, work: &mut [Row], n: usize) -> usize
     requires { ⌜ Lent (now table) (order .t) × (k ≤ order .t) × (builtOf (now table) k ≤ room k) × (n + length (liveSlots (now table) k) ≤ length (now work)) ⌝ }
     ensures { λ r. ⌜ (r ≡ n + length (liveSlots (now (table .entry)) k)) × (now (work .exit) ≡ sets (now (work .entry)) n (liveSlots (now (table .entry)) k)) ⌝ }

@@ -1,2 +1,2 @@
--- Laws of rows stored one behind the other, and of the live ones among slots.
-pub mod Stored
+-- Laws of the live ones among slots.
+pub mod Selected

@@ -15,8 +15,8 @@ use Rattle.tree_rules.proofs.Layouts.{layout-length}
 use Rattle.bucket_rules.specs.Geometry.{room, sizesRow, firstSlot, tableRows}
 use Rattle.bucket_rules.specs.Table.{Table, rowAt, orderOf, tableSpace, builtOf, liveOf, pairRow, putSizes, putBucket, emptied}
 use Rattle.bucket_rules.specs.Rebuild.{rebuilt}
-use Rattle.bucket_rules.proofs.Geometry.{sizes-before-slots}
-use Rattle.bucket_rules.proofs.Views.{Only, room-ends, same-order}
+use Rattle.bucket_rules.proofs.Geometry.{sizes-before-slots, room-ends}
+use Rattle.bucket_rules.proofs.Views.{Only, same-order}
 use Rattle.bucket_rules.proofs.Puts.{pair-built, pair-live, emptied-only, emptied-holds}
 use Rattle.history.proofs.Counting.{Moved}
 

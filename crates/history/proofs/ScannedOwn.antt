@@ -49,9 +49,9 @@ module _ {t : Table} (sound : Sound t) (u : Table) (own : take (tableRows (order
   own-live : (k : ℕ) → k ≤ orderOf t → liveOf u k ≡ liveOf t k
   own-live k l = kept-live (own-kept t u own k l)
 
-  pub own-live-head : liveItems u (bucketsOf (orderOf u)) ≡ liveItems t (bucketsOf (orderOf t))
+  pub own-live-items : liveItems u (bucketsOf (orderOf u)) ≡ liveItems t (bucketsOf (orderOf t))
   unfolding liveItems
-  own-live-head =
+  own-live-items =
       ap (λ (n : ℕ). flatten (map (liveSlots u) (bucketsOf n))) own-order
       ∙ ap flatten (map-where (liveSlots u) (liveSlots t) (bucketsOf (orderOf t)) (agree (liveSlots u) (liveSlots t) own-live-slots))
 
@@ -96,7 +96,7 @@ module _ {t : Table} (sound : Sound t) (u : Table) (own : take (tableRows (order
         apart = λ k l. ap (λ (rows : List Row). distinct (map tagOf rows)) (own-slots k (within k l)) ∙ sound .apart k (within k l);
         laid = λ k l.
             ap₂ (λ (space : Space) (rows : List Row). isLayout (distance space) rows) own-space (own-slots k (within k l)) ∙ sound .laid k (within k l);
-        once = ap (λ (rows : List Row). distinct (map tagOf rows)) own-live-head ∙ sound .once;
+        once = ap (λ (rows : List Row). distinct (map tagOf rows)) own-live-items ∙ sound .once;
         zeros = λ k i l low high.
             kept-row (own-kept t u own k (within k l)) i high ∙ sound .zeros k i (within k l) (omega (arith, own-built k (within k l))) high;
       }
@@ -108,5 +108,5 @@ matches-own {m = m} ok u own long =
       sound = sound-own (ok .sound) u own long;
       order = own-order (ok .sound) u own ∙ ok .order;
       space = own-space (ok .sound) u own ∙ ok .space;
-      same = subst (λ (rows : List Row). List·Permᴰ (map itemOf rows) (m .items)) (sym (own-live-head (ok .sound) u own)) (ok .same);
+      same = subst (λ (rows : List Row). List·Permᴰ (map itemOf rows) (m .items)) (sym (own-live-items (ok .sound) u own)) (ok .same);
     }

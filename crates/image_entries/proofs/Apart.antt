@@ -4,47 +4,26 @@ use Prim.Native.Nat.{ℕ, zero, suc, _+_, _≤_, _<_}
 use native.Mathlib.Omega.{arith}
 use native.Mathlib.Numerals.{add-one}
 use mathlib.Core.Path.{_≡_, refl, sym, _∙_, ap, subst}
-use mathlib.Core.Bool.{Bool, true, false, not, _&&_, false≢true}
+use mathlib.Core.Bool.{Bool, true, false, not, _&&_}
 use mathlib.Core.List.{List, [], _∷_, List·Permᴰ, Permᴰ·symm}
 use lib.Dec.{eqb}
 use lib.ListN.{length, getD, drop}
 use lib.Seq.{drop-cons}
-use borrow.Author.Tests.{eq-eqb, ne-eqb}
+use borrow.Author.Tests.{ne-eqb}
 use Rattle.metric_rules.specs.Lists.{every, distinct}
 use Rattle.tree_rules.specs.Guided.{All}
-use Rattle.tree_rules.proofs.Lists.{Pairs, all-weaken, pairs-perm, pairs-drop}
-use Rattle.tree_rules.proofs.Tests.{and-first, and-second, and-pass, pass-alike, every-all, all-every}
-
-abbrev pub Differ : ℕ → ℕ → Type 0
-Differ m n = m ≡ n → ⊥
-
-differs : (m n : ℕ) → not (eqb m n) ≡ true → Differ n m
-differs m n h e = absurd (false≢true (sym (ap not (eq-eqb m n (sym e))) ∙ h))
+use Rattle.tree_rules.proofs.Lists.{Pairs, all-weaken, pairs-drop}
+use Rattle.tree_rules.proofs.Distinct.{Differ, distinct-pairs, distinct-perm}
+use Rattle.tree_rules.proofs.Tests.{pass-alike, all-every}
 
 differing : (m n : ℕ) → Differ n m → not (eqb m n) ≡ true
 differing m n f = ap not (ne-eqb m n (λ e. f (sym e)))
-
-pub distinct-pairs : (ns : List ℕ) → distinct ns ≡ true → Pairs Differ ns
-unfolding distinct
-distinct-pairs [] h = tt
-distinct-pairs (n ∷ ns) h =
-    let here : Bool = every (λ m. not (eqb m n)) ns in (
-      all-weaken (λ m. differs m n) ns (every-all (λ m. not (eqb m n)) ns (and-first here (distinct ns) h)),
-      distinct-pairs ns (and-second here (distinct ns) h),
-    )
-
-pub pairs-distinct : (ns : List ℕ) → Pairs Differ ns → distinct ns ≡ true
-unfolding distinct
-pairs-distinct [] h = refl
-pairs-distinct (n ∷ ns) h =
-    and-pass (every (λ m. not (eqb m n)) ns) (distinct ns) (all-every (λ m. not (eqb m n)) ns (all-weaken (λ m. differing m n) ns (h .0))) (pairs-distinct ns (h .1))
 
 -- the order does not count
 pub distinct-permuted : {ms ns : List ℕ} → List·Permᴰ ms ns → distinct ms ≡ distinct ns
 distinct-permuted {ms} {ns} p =
     pass-alike (distinct ms) (distinct ns)
-    (λ h. pairs-distinct ns (pairs-perm Differ (λ m n f e. f (sym e)) p (distinct-pairs ms h)))
-    (λ h. pairs-distinct ms (pairs-perm Differ (λ m n f e. f (sym e)) (Permᴰ·symm p) (distinct-pairs ns h)))
+    (distinct-perm p) (distinct-perm (Permᴰ·symm p))
 
 -- numbers at two places of a list
 pub pairs-at : (R : ℕ → ℕ → Type 0) (ns : List ℕ) (i j : ℕ) → i < j → j < length ns → Pairs R ns → R (getD ns i 0) (getD ns j 0)

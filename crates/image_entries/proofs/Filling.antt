@@ -25,7 +25,8 @@ use Rattle.image_rules.proofs.Blocks.{length-count, getD-count}
 use Rattle.image_entries.specs.FirstFault.{firstUnlike, firstFault}
 use Rattle.image_entries.specs.Entries.{places, entryTag, entryPlace, tagEntry, Fresh, IsEntry, TagsTell, slotEntries, rankedIn, laidOut, partFault}
 use Rattle.image_entries.proofs.FirstFault.{is-layout-no-fault}
-use Rattle.image_entries.proofs.Apart.{Differ, distinct-pairs, pairs-at}
+use Rattle.tree_rules.proofs.Distinct.{Differ, distinct-pairs}
+use Rattle.image_entries.proofs.Apart.{pairs-at}
 use Rattle.image_entries.proofs.Ranking.{ordered-perm, told-places, laid-out}
 
 module _ (tag place : ℕ) (fits : place < places) where

@@ -15,6 +15,9 @@ use metric_rules::Row;
 use rows::tag_of;
 use search_rules::Entry;
 
+// A bucket has at most so many slots, and an entry's first word room for as many places below the tag.
+pub const PLACES: u64 = 4096;
+
 // A bucket's slots in an image: the places of the tags and of the records, the bucket's first slot among all, and the number of its slots.
 pub struct Slots {
     pub tags: usize,
@@ -36,7 +39,7 @@ pub fn tag_entry(tag: u64, place: usize) -> Entry
     requires { ⌜ (tag < 2 ^ 50) × (place < places) ⌝ }
     ensures { λ r. ⌜ r ≡ tagEntry tag place ⌝ }
 {
-    [tag * 4096 + place as u64, 0]
+    [tag * PLACES + place as u64, 0]
 }
 
 // The entries of a bucket's slots.
@@ -60,7 +63,7 @@ pub fn tags_apart(entries: &mut [Entry]) -> bool
     sort_entries(entries);
     let mut i = 0;
     while i + 1 < entries.len() {
-        if entries[i][0] / 4096 == entries[i + 1][0] / 4096 {
+        if entries[i][0] / PLACES == entries[i + 1][0] / PLACES {
             return false;
         }
         i += 1;

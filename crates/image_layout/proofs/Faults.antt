@@ -1,6 +1,6 @@
 -- The first fault of a part: at its first slot where another slot's row is laid there or the threshold differs, else the left half's, else the
 -- right half's. With distinct tags a row is laid in its own slot exactly if its place is the slot's. Assumes nothing.
-use Prim.Native.Nat.{ℕ, zero, suc, _+_, _≤_, _<_}
+use Prim.Native.Nat.{ℕ, suc, _+_, _≤_, _<_}
 use native.Mathlib.Omega.{arith}
 use native.Mathlib.Numerals.{add-one}
 use mathlib.Core.Path.{_≡_, refl, sym, _∙_, ap, ap₂}
@@ -17,7 +17,7 @@ use Rattle.tree_rules.specs.Layout.{placed}
 use Rattle.tree_rules.proofs.Layouts.{layout-of-length}
 use Rattle.tree_rules.proofs.Placed.{tag-placed, threshold-placed, placed-own}
 use Rattle.search_rules.specs.Range.{Entry}
-use Rattle.image_rules.proofs.Blocks.{length-count}
+use Rattle.image_rules.proofs.Blocks.{length-count, count-append}
 use Rattle.tree_rules.proofs.Tests.{alike-equal, equal-alike}
 use Rattle.image_entries.specs.FirstFault.{firstUnlike}
 use Rattle.image_entries.specs.Entries.{rankedIn, laidOut, partFault}
@@ -31,18 +31,6 @@ same-row = alike-equal eqb eqb-true
 pub row-same : (x y : Row) → x ≡ y → sameNumbers x y ≡ true
 unfolding sameNumbers
 row-same = equal-alike eqb (λ n. eq-eqb n n refl)
-
--- numbers counted in two parts
-pub count-parts : (first a b : ℕ) → countFrom first (a + b) ≡ countFrom first a ++ countFrom (first + a) b
-unfolding countFrom
-count-parts first zero b =
-    let e : first ≡ first + 0 = omega arith in
-    let n : 0 + b ≡ b = omega arith in
-    ap₂ countFrom e n
-count-parts first (suc a) b =
-    let n : suc a + b ≡ suc (a + b) = omega arith in
-    let e : suc first + a ≡ first + suc a = omega arith in
-    ap (countFrom first) n ∙ ap (λ (ns : List ℕ). first ∷ ns) (count-parts (suc first) a b ∙ ap (λ (k : ℕ). countFrom (suc first) a ++ countFrom k b) e)
 
 none-unlike : (xs ys : List Row) → length xs ≡ 0 → firstUnlike sameNumbers xs ys ≡ 0
 unfolding firstUnlike
@@ -72,7 +60,7 @@ module _ (slot : ℕ → Row) (dist : Profile → Profile → ℕ) where
   unfolding slotsFrom countFrom
   slots-parts at a b =
       ap (λ (rs : List Row). unmarked at ∷ rs)
-      (ap (map unmarked) (ap (λ (k : ℕ). countFrom k (a + b)) (sym (add-one at)) ∙ count-parts (at + 1) a b)
+      (ap (map unmarked) (ap (λ (k : ℕ). countFrom k (a + b)) (sym (add-one at)) ∙ count-append (at + 1) a b)
       ∙ map-append unmarked (countFrom (at + 1) a) (countFrom (at + 1 + a) b))
 
   pub fault-none : (at : ℕ) (es : List Entry) → length es ≡ 0 → partFault slot dist at es ≡ at

@@ -14,6 +14,7 @@ ghost use Rattle.search_rules.specs.Range.{ordered};
 ghost use Rattle.image_entries.specs.Entries.{places, entryPlace, lastOf, IsEntry, TagsFit, TagsTell, measuredIn, laidOut, laidFrom, partFault};
 ghost use Rattle.image_entries.specs.InImage.{InImage, slotIn, slotsAt};
 use entry_sort::sort_entries;
+use image_entries::PLACES;
 use image_entries::Slots;
 use image_entries::enter_slots;
 use image_entries::slot_in;
@@ -66,7 +67,7 @@ fn measure(image: &[u8], at: Slots, header: &Row, v: Row, entries: &mut [Entry])
     let mut i = 0;
     while i < entries.len() {
         let word = entries[i][0];
-        let row = slot_in(image, at, (word % 4096) as usize);
+        let row = slot_in(image, at, (word % PLACES) as usize);
         entries[i] = [word, distance_between(header, v, row) as u64];
         i += 1;
     }
@@ -89,7 +90,7 @@ fn arrange(image: &[u8], at: Slots, header: &Row, entries: &mut [Entry])
 {
     let least = least_at(entries);
     bring_first(entries, least);
-    let v = slot_in(image, at, (entries[0][0] % 4096) as usize);
+    let v = slot_in(image, at, (entries[0][0] % PLACES) as usize);
     sort_from(image, at, header, v, &mut entries[1..]);
 }
 
@@ -98,14 +99,15 @@ fn first_seated(image: &[u8], at: Slots, entries: &[Entry], place: usize) -> boo
     requires { ⌜ InImage (now image) at × (place < at .count) × (1 ≤ length (now entries)) ⌝ }
     ensures { λ r. ⌜ r ≡ (eqb (entryPlace (getD (now (entries .entry)) 0 [])) place && eqb (lastOf (take (length (now (entries .entry)) / 2) (drop 1 (now (entries .entry))))) (thresholdOf (slotIn (now (image .entry)) at place))) ⌝ }
 {
-    if entries[0][0] % 4096 != place as u64 {
+    if entries[0][0] % PLACES != place as u64 {
         return false;
     }
     let threshold = threshold_of(slot_in(image, at, place));
     last_distance(entries, entries.len() / 2) == threshold as u64
 }
 
-// The first slot from `place` on that differs from the layout of a part's entries, or the place behind the part where none does.
+// The first slot from `place` on that differs from the layout of a part's entries, or the place behind the part where none does. What the part
+// holds then is left free: it keeps its length, and its entries are needed no more.
 fn first_fault(image: &[u8], at: Slots, header: &Row, entries: &mut [Entry], place: usize) -> usize
     requires { ⌜ InImage (now image) at × (place + length (now entries) ≤ at .count) × All (IsEntry (slotIn (now image) at) (at .count)) (now entries) × TagsTell (slotIn (now image) at) (at .count) ⌝ }
     ensures { λ r. ⌜ r ≡ partFault (slotIn (now (image .entry)) at) (distance (spaceOf (now (header .entry)))) place (now (entries .entry)) ⌝ }
@@ -126,7 +128,7 @@ fn first_fault(image: &[u8], at: Slots, header: &Row, entries: &mut [Entry], pla
     first_fault(image, at, header, &mut entries[end..], place + end)
 }
 
-// Whether no tag occurs twice in a bucket and its slots are their layout, marks aside.
+// Whether no tag occurs twice in a bucket and its slots are their layout, marks aside. What `entries` holds then is left free; it keeps its length.
 pub fn bucket_stands(image: &[u8], at: Slots, header: &Row, entries: &mut [Entry]) -> bool
     requires { ⌜ InImage (now image) at × (at .count ≤ places) × (length (now entries) ≡ at .count) × TagsFit (slotIn (now image) at) (at .count) ⌝ }
     ensures { λ r. ⌜ r ≡ (distinct (map tagOf (slotsAt (now (image .entry)) at)) && isLayout (distance (spaceOf (now (header .entry)))) (slotsAt (now (image .entry)) at)) ⌝ }

@@ -1,8 +1,7 @@
 -- What an accepted image makes of the table: fresh first, then each bucket put; and a refused one changes nothing.
-use Prim.Native.Nat.{ℕ, zero, suc, _≤_}
+use Prim.Native.Nat.{ℕ, zero, suc}
 use mathlib.Core.Path.{_≡_, refl, sym, _∙_}
 use mathlib.Core.List.{List, foldl}
-use native.Mathlib.Omega.{arith}
 use borrow.Author.Tests.{le-leb}
 use lib.ListN.{length}
 use Rattle.metric_rules.specs.Row.{rowWidth, zeroRow, word}

@@ -8,7 +8,7 @@ use borrow.Author.Tests.{ltb-false, eqb-true}
 use lib.Dec.{leb, ltb, eqb}
 use lib.ListN.{length}
 use lib.Pow.{pow-mono}
-use Rattle.metric_rules.specs.Lists.{total, countFrom}
+use Rattle.metric_rules.specs.Lists.{total}
 use Rattle.metric_rules.specs.Distance.{validSpace}
 use Rattle.bucket_rules.specs.Refusals.{badOrder, badMetric, imageLengthWrong, imageUnsound, areaShort, tableBroken}
 use Rattle.bucket_rules.specs.Geometry.{validOrder, room, tableRows}
@@ -20,7 +20,7 @@ use Rattle.image_rules.specs.Load.{slotsPass, bodyRefusal, loadRefusal}
 use Rattle.image_rules.proofs.Counting.{total-most}
 use Rattle.image_read.specs.Places.{Places}
 use Rattle.image_read.proofs.Slots.{built-within}
-use Rattle.image_load.specs.Steps.{headBy, headerRefusal, sizesBy, sizesRefusal}
+use Rattle.image_load.specs.Steps.{headerBy, headerRefusal, sizesBy, sizesRefusal}
 
 -- sizes that pass have few slots
 pub slots-few : (image : List ℕ) → orderIn image ≤ 12 → sizesPass (orderIn image) (builtIn image) (liveIn image) ≡ true → slotsIn image ≤ 53248
@@ -74,8 +74,8 @@ by-steps : (short order space zeros pairs sizes whole roomy slots : Bool)
                 ]
           ]
     ])
-    (andThen (headBy short order space zeros) (andThen (sizesBy pairs sizes whole roomy) (slotsBy slots)))
-unfolding andThen headBy sizesBy slotsBy
+    (andThen (headerBy short order space zeros) (andThen (sizesBy pairs sizes whole roomy) (slotsBy slots)))
+unfolding andThen headerBy sizesBy slotsBy
 by-steps true o s z p n w r f = refl
 by-steps false false s z p n w r f = refl
 by-steps false true false z p n w r f = refl
@@ -94,16 +94,16 @@ module _ (rows : ℕ) (image : List ℕ) where
       (leb (sizesEnd (orderIn image)) (length image)) (sizesPass (orderIn image) (builtIn image) (liveIn image))
       (eqb (length image) (imageLength (orderIn image) (slotsIn image))) (leb (tableRows (orderIn image)) rows) (slotsPass image)
 
-head-all : (a b c d : Bool) → headBy a b c d ≡ 0 → (a ≡ false) × (b ≡ true)
-unfolding headBy
-head-all true b c d e = absurd (omega arith)
-head-all false false c d e = absurd (omega arith)
-head-all false true c d e = (refl, refl)
+header-all : (a b c d : Bool) → headerBy a b c d ≡ 0 → (a ≡ false) × (b ≡ true)
+unfolding headerBy
+header-all true b c d e = absurd (omega arith)
+header-all false false c d e = absurd (omega arith)
+header-all false true c d e = (refl, refl)
 
-pub head-passed : (image : List ℕ) → headerRefusal image ≡ 0 → (headerBytes ≤ length image) × (orderIn image ≤ 12)
+pub header-passed : (image : List ℕ) → headerRefusal image ≡ 0 → (headerBytes ≤ length image) × (orderIn image ≤ 12)
 unfolding headerRefusal
-head-passed image e =
-    let p = head-all (ltb (length image) headerBytes) (validOrder (orderIn image)) _ _ e in
+header-passed image e =
+    let p = header-all (ltb (length image) headerBytes) (validOrder (orderIn image)) _ _ e in
     (ltb-false (length image) headerBytes (p .0), order-most (orderIn image) (p .1))
 
 sizes-all : (a b c d : Bool) → sizesBy a b c d ≡ 0 → (b ≡ true) × (c ≡ true)

@@ -11,8 +11,8 @@ use Rattle.bucket_rules.specs.Checks.{sizesPass}
 use Rattle.image_rules.specs.Bytes.{headerBytes, sizesEnd, imageLength}
 use Rattle.image_rules.specs.Read.{orderIn, spaceIn, zerosIn, builtIn, liveIn, slotsIn}
 
-unfoldable pub headBy : Bool → Bool → Bool → Bool → ℕ
-headBy short order space zeros =
+unfoldable pub headerBy : Bool → Bool → Bool → Bool → ℕ
+headerBy short order space zeros =
     elim short [
       | true ↦ imageLengthWrong
       | false ↦
@@ -23,7 +23,7 @@ headBy short order space zeros =
     ]
 
 unfoldable pub headerRefusal : List ℕ → ℕ
-headerRefusal image = headBy (ltb (length image) headerBytes) (validOrder (orderIn image)) (validSpace (spaceIn image)) (eqb (zerosIn image) 0)
+headerRefusal image = headerBy (ltb (length image) headerBytes) (validOrder (orderIn image)) (validSpace (spaceIn image)) (eqb (zerosIn image) 0)
 
 unfoldable pub sizesBy : Bool → Bool → Bool → Bool → ℕ
 sizesBy pairs sizes whole roomy =

@@ -27,6 +27,9 @@ use image_read::sizes_end;
 use image_read::slots_in;
 use image_read::zeros_in;
 use image_reader::has_bytes;
+use image_rules::HEADER_BYTES;
+use image_rules::SLOT_BYTES;
+use image_rules::TAG_BYTES;
 use image_test::slots_stand;
 use metric_rules::Row;
 use order::Order;
@@ -46,7 +49,7 @@ fn is_order(t: u32) -> bool
 fn header_refusal(image: &[u8]) -> u32
     ensures { λ r. ⌜ r ≡ headerRefusal (now (image .entry)) ⌝ }
 {
-    if !has_bytes(image, 0, 4) {
+    if !has_bytes(image, 0, HEADER_BYTES) {
         return IMAGE_LENGTH_WRONG;
     }
     if !is_order(order_in(image)) {
@@ -74,7 +77,7 @@ fn sizes_refusal(image: &[u8], rows: usize) -> u32
     if !sizes_pass(image, order.t) {
         return TABLE_BROKEN;
     }
-    if image.len() != end + 48 * slots_in(image) {
+    if image.len() != end + SLOT_BYTES * slots_in(image) {
         return IMAGE_LENGTH_WRONG;
     }
     if rows < order.table_rows() {
@@ -99,16 +102,16 @@ fn slots_pass(image: &[u8], tags: usize, records: usize) -> bool
 fn load_refusal(image: &[u8], rows: usize) -> u32
     ensures { λ r. ⌜ r ≡ loadRefusal rows (now (image .entry)) ⌝ }
 {
-    let head = header_refusal(image);
-    if head != 0 {
-        return head;
+    let header = header_refusal(image);
+    if header != 0 {
+        return header;
     }
     let sizes = sizes_refusal(image, rows);
     if sizes != 0 {
         return sizes;
     }
     let tags = sizes_end(order_in(image));
-    let records = tags + 8 * slots_in(image);
+    let records = tags + TAG_BYTES * slots_in(image);
     if !slots_pass(image, tags, records) {
         return IMAGE_UNSOUND;
     }
@@ -127,6 +130,12 @@ pub fn load(table: &mut [Row], image: &[u8]) -> u32
     let order = Order { t: order_in(image) };
     fresh(table, order.t, metric_in(image));
     let tags = sizes_end(order.t);
-    put_buckets(table, order, image, tags, tags + 8 * slots_in(image));
+    put_buckets(
+        table,
+        order,
+        image,
+        tags,
+        tags + TAG_BYTES * slots_in(image),
+    );
     0
 }

@@ -1,4 +1,4 @@
--- Bytes stored after bytes: two runs of stores that adjoin are one, and so blocks of equal length stored one by one are the run of all.
+-- Blocks of equal length stored one by one, each behind those before, are the run of all.
 use Prim.Native.Nat.{ℕ, suc, _+_, _*_, _≤_, _<_}
 use mathlib.Core.Path.{_≡_, refl, sym, ap, _∙_}
 use mathlib.Core.List.{List, [], _∷_, _++_, map, map-append, append-nil, flatten}
@@ -10,14 +10,13 @@ use Rattle.metric_rules.specs.Lists.{total}
 use Rattle.metric_rules.specs.Row.{Row}
 use Rattle.tree_rules.specs.Guided.{All}
 use Rattle.tree_rules.proofs.Lists.{all-always, all-take}
+use Rattle.tree_rules.proofs.Stores.{sets-more}
 use Rattle.image_rules.specs.Bytes.{bytesOf, tagFields, recordFields, bytesOfFields, tagWords}
+use Rattle.image_rules.specs.Write.{tagsOf, recordsOf}
 use Rattle.image_rules.proofs.Blocks.{length-blocks}
 use Rattle.image_rules.proofs.Bytes.{length-fields}
+use Rattle.image_rules.proofs.Lengths.{length-parts}
 use Rattle.image_rules.proofs.Counting.{flatten-append}
-
-pub sets-more : {A : Type 0} (l : List A) (i j : ℕ) (a b : List A) → j ≡ i + length a → sets (sets l i a) j b ≡ sets l i (a ++ b)
-sets-more l i j [] b e = let same : j ≡ i = omega arith in ap (λ (k : ℕ). sets l k b) same
-sets-more l i j (x ∷ a) b e = sets-more _ (suc i) j a b (omega arith)
 
 module _ {A : Type 0} (f : A → List ℕ) (w : ℕ) where
   -- a turn of the loop that stores the blocks: block i comes after i of them
@@ -78,6 +77,14 @@ length-tag row = length-fields tagFields (take tagWords row)
 pub length-record : (row : Row) → length (recordBlock row) ≡ 40
 unfolding recordFields total
 length-record row = length-fields recordFields (drop tagWords row)
+
+pub length-tags : (rows : List Row) → length (tagsOf rows) ≡ 8 * length rows
+unfolding tagsOf tagFields total
+length-tags = length-parts tagFields (take tagWords)
+
+pub length-records : (rows : List Row) → length (recordsOf rows) ≡ 40 * length rows
+unfolding recordsOf recordFields total
+length-records = length-parts recordFields (drop tagWords)
 
 -- fields of four bytes each hold words
 pub word-bytes : (ws ns : List ℕ) → length ns ≡ length ws → All (λ w. w ≡ 4) ws → bytesOfFields ws ns ≡ flatten (map (bytesOf 4) ns)

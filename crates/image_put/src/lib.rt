@@ -4,9 +4,15 @@ ghost use mathlib.Core.List.{map, flatten};
 ghost use Prim.Native.Nat.{_+_, _*_, _≤_};
 ghost use lib.ListN.{length, take, drop};
 ghost use lib.Seq.{sets};
-ghost use Rattle.image_rules.specs.Bytes.{bytesOf, tagFields, recordFields, bytesOfFields, tagWords};
+ghost use Rattle.metric_rules.specs.Row.{rowWidth};
+ghost use Rattle.image_rules.specs.Bytes.{bytesOf, tagFields, recordFields, bytesOfFields, tagBytes, recordBytes, tagWords};
 ghost use Rattle.image_rules.specs.Write.{tagsOf, recordsOf};
+use image_rules::RECORD_BYTES;
+use image_rules::RECORD_WORDS;
+use image_rules::TAG_BYTES;
+use image_rules::TAG_WORDS;
 use metric_rules::Row;
+use metric_rules::TAG_LOW;
 
 // The two bytes of a number, and its four.
 pub fn put16(image: &mut [u8], at: usize, n: u32)
@@ -29,7 +35,7 @@ fn put32(image: &mut [u8], at: usize, n: u32)
 
 // n words of a row from one on.
 fn put_words(image: &mut [u8], at: usize, row: Row, first: usize, n: usize)
-    requires { ⌜ (first + n ≤ 12) × (at + 4 * n ≤ length (now image)) ⌝ }
+    requires { ⌜ (first + n ≤ rowWidth) × (at + 4 * n ≤ length (now image)) ⌝ }
     ensures { λ _. ⌜ now (image .exit) ≡ sets (now (image .entry)) at (flatten (map (bytesOf 4) (take n (drop first row)))) ⌝ }
 {
     let mut j = 0;
@@ -40,38 +46,38 @@ fn put_words(image: &mut [u8], at: usize, row: Row, first: usize, n: usize)
 }
 
 fn put_tag(image: &mut [u8], at: usize, row: Row)
-    requires { ⌜ at + 8 ≤ length (now image) ⌝ }
+    requires { ⌜ at + tagBytes ≤ length (now image) ⌝ }
     ensures { λ _. ⌜ now (image .exit) ≡ sets (now (image .entry)) at (bytesOfFields tagFields (take tagWords row)) ⌝ }
 {
-    put_words(image, at, row, 0, 2);
+    put_words(image, at, row, TAG_LOW, TAG_WORDS);
 }
 
 fn put_record(image: &mut [u8], at: usize, row: Row)
-    requires { ⌜ at + 40 ≤ length (now image) ⌝ }
+    requires { ⌜ at + recordBytes ≤ length (now image) ⌝ }
     ensures { λ _. ⌜ now (image .exit) ≡ sets (now (image .entry)) at (bytesOfFields recordFields (drop tagWords row)) ⌝ }
 {
-    put_words(image, at, row, 2, 10);
+    put_words(image, at, row, TAG_WORDS, RECORD_WORDS);
 }
 
 // The tags of some rows, one after the other, and their records.
 pub fn put_tags(image: &mut [u8], at: usize, rows: &[Row])
-    requires { ⌜ at + 8 * length (now rows) ≤ length (now image) ⌝ }
+    requires { ⌜ at + length (tagsOf (now rows)) ≤ length (now image) ⌝ }
     ensures { λ _. ⌜ now (image .exit) ≡ sets (now (image .entry)) at (tagsOf (now (rows .entry))) ⌝ }
 {
     let mut i = 0;
     while i < rows.len() {
-        put_tag(image, at + 8 * i, rows[i]);
+        put_tag(image, at + TAG_BYTES * i, rows[i]);
         i += 1;
     }
 }
 
 pub fn put_records(image: &mut [u8], at: usize, rows: &[Row])
-    requires { ⌜ at + 40 * length (now rows) ≤ length (now image) ⌝ }
+    requires { ⌜ at + length (recordsOf (now rows)) ≤ length (now image) ⌝ }
     ensures { λ _. ⌜ now (image .exit) ≡ sets (now (image .entry)) at (recordsOf (now (rows .entry))) ⌝ }
 {
     let mut i = 0;
     while i < rows.len() {
-        put_record(image, at + 40 * i, rows[i]);
+        put_record(image, at + RECORD_BYTES * i, rows[i]);
         i += 1;
     }
 }

@@ -7,6 +7,11 @@ ghost use Rattle.image_rules.specs.Bytes.{tagFields, recordFields, headerBytes,
 ghost use Rattle.image_rules.specs.Read.{numberAt, fieldsAt, orderIn, spaceIn, zerosIn, builtIn, liveIn, slotsIn, rowIn};
 ghost use Rattle.image_read.specs.Places.{Places};
 use image_reader::two_from;
+use image_rules::HEADER_BYTES;
+use image_rules::PAIR_BYTES;
+use image_rules::RECORD_BYTES;
+use image_rules::SIZE_BYTES;
+use image_rules::TAG_BYTES;
 use metric_rules::Row;
 
 // The number of four bytes, lowest first.
@@ -29,24 +34,24 @@ pub fn order_in(image: &[u8]) -> u32
     requires { ⌜ headerBytes ≤ length (now image) ⌝ }
     ensures { λ r. ⌜ r ≡ orderIn (now (image .entry)) ⌝ }
 {
-    let head = two_from(image, 0, 1, 1);
-    head.first
+    let header = two_from(image, 0, 1, 1);
+    header.first
 }
 
 pub fn metric_in(image: &[u8]) -> u32
     requires { ⌜ headerBytes ≤ length (now image) ⌝ }
     ensures { λ r. ⌜ r ≡ spaceIn (now (image .entry)) .metric ⌝ }
 {
-    let head = two_from(image, 0, 1, 1);
-    head.second
+    let header = two_from(image, 0, 1, 1);
+    header.second
 }
 
 pub fn zeros_in(image: &[u8]) -> u32
     requires { ⌜ headerBytes ≤ length (now image) ⌝ }
     ensures { λ r. ⌜ r ≡ zerosIn (now (image .entry)) ⌝ }
 {
-    let head = two_from(image, 1, 1, 2);
-    head.second
+    let header = two_from(image, 1, 1, 2);
+    header.second
 }
 
 // The sizes of bucket k.
@@ -54,7 +59,8 @@ pub fn built_in(image: &[u8], k: u32) -> u32
     requires { ⌜ sizesEnd k ≤ length (now image) ⌝ }
     ensures { λ r. ⌜ r ≡ builtIn (now (image .entry)) k ⌝ }
 {
-    let sizes = two_from(image, 4 + 4 * k as usize, 2, 2);
+    let at = HEADER_BYTES + PAIR_BYTES * k as usize;
+    let sizes = two_from(image, at, SIZE_BYTES, SIZE_BYTES);
     sizes.first
 }
 
@@ -62,7 +68,8 @@ pub fn live_in(image: &[u8], k: u32) -> u32
     requires { ⌜ sizesEnd k ≤ length (now image) ⌝ }
     ensures { λ r. ⌜ r ≡ liveIn (now (image .entry)) k ⌝ }
 {
-    let sizes = two_from(image, 4 + 4 * k as usize, 2, 2);
+    let at = HEADER_BYTES + PAIR_BYTES * k as usize;
+    let sizes = two_from(image, at, SIZE_BYTES, SIZE_BYTES);
     sizes.second
 }
 
@@ -107,12 +114,12 @@ pub fn row_in(image: &[u8], tags: usize, records: usize, i: usize) -> Row
     requires { ⌜ Places (now image) tags records × (i < slotsIn (now image)) ⌝ }
     ensures { λ row. ⌜ row ≡ rowIn (now (image .entry)) i ⌝ }
 {
-    row_at(image, tags + 8 * i, records + 40 * i)
+    row_at(image, tags + TAG_BYTES * i, records + RECORD_BYTES * i)
 }
 
 // The place behind the sizes of an image of order t, where its tags begin.
 pub fn sizes_end(t: u32) -> usize
     ensures { λ r. ⌜ r ≡ sizesEnd t ⌝ }
 {
-    4 + 4 * (t as usize + 1)
+    HEADER_BYTES + PAIR_BYTES * (t as usize + 1)
 }

@@ -50,9 +50,9 @@ module _ (image : List ℕ) (formed : WellFormed image) where
   long = formed .long ∙ omega (arith, add-mul tagBytes recordBytes slots)
 
   -- order, metric and zeros
-  head-there : headerBytesOf order (spaceIn image) ≡ take headerBytes image
+  header-there : headerBytesOf order (spaceIn image) ≡ take headerBytes image
   unfolding order headerBytesOf headerBytes spaceIn orderIn zerosIn headerNumbers headerFields fieldsAt
-  head-there =
+  header-there =
       let first = numberAt image 1 0 in
       let second = numberAt image 1 1 in
       ap (λ (n : ℕ). bytesOfFields headerFields (first ∷ second ∷ n ∷ [])) (sym (formed .zeros))
@@ -116,9 +116,9 @@ module _ (image : List ℕ) (formed : WellFormed image) where
 
   -- a table that shows the image's fields
   module _ (t : Table) (reads : ReadsBack t image) where
-    head-alike : headerBytesOf (orderOf t) (tableSpace t) ≡ take headerBytes image
+    header-alike : headerBytesOf (orderOf t) (tableSpace t) ≡ take headerBytes image
     unfolding order
-    head-alike = rw (← reads .order, ← reads .space) head-there
+    header-alike = rw (← reads .order, ← reads .space) header-there
 
     sizes-alike : sizesOf (orderOf t) (builtOf t) (liveOf t) ≡ sizesOf order (builtIn image) (liveIn image)
     unfolding sizesOf bucketsOf order
@@ -147,7 +147,7 @@ module _ (image : List ℕ) (formed : WellFormed image) where
     whole : imageOf t ≡ image
     unfolding imageOf tagsAt
     whole =
-        rw (head-alike, sizes-alike, sizes-there, tags-alike, records-alike)
+        rw (header-alike, sizes-alike, sizes-there, tags-alike, records-alike)
         (simp append-assoc (parts image headerBytes (pairBytes * suc order) (tagBytes * slots) (recordBytes * slots) long))
 
 -- a well-formed image is what a table that shows its fields is written as

@@ -35,7 +35,7 @@ length-sizes order built live =
     ∙ ap (λ (n : ℕ). 4 * n) (length-count 0 (suc order))
 
 -- one law for tags and for records
-length-parts : (ws : List ℕ) (part : Row → List ℕ) (rows : List Row)
+pub length-parts : (ws : List ℕ) (part : Row → List ℕ) (rows : List Row)
     → length (flatten (map (λ row. bytesOfFields ws (part row)) rows)) ≡ total ws * length rows
 length-parts ws part rows =
     length-blocks (λ row. bytesOfFields ws (part row)) (total ws) rows

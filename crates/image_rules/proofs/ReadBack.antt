@@ -47,15 +47,15 @@ module _ (t : Table) (fit : FitsImage t) where
   after-sizes : List ℕ
   after-sizes = tagsOf (allSlots t) ++ recordsOf (allSlots t)
 
-  head : List ℕ
-  head = headerBytesOf (orderOf t) (tableSpace t)
+  header : List ℕ
+  header = headerBytesOf (orderOf t) (tableSpace t)
 
-  length-head : length head ≡ 4
-  unfolding head headerBytesOf headerFields total
-  length-head = length-fields headerFields (orderOf t ∷ tableSpace t .metric ∷ 0 ∷ [])
+  length-header : length header ≡ 4
+  unfolding header headerBytesOf headerFields total
+  length-header = length-fields headerFields (orderOf t ∷ tableSpace t .metric ∷ 0 ∷ [])
 
-  image-is : imageOf t ≡ head ++ (flatten (map pair (countFrom 0 (suc (orderOf t)))) ++ after-sizes)
-  unfolding imageOf head after-sizes pair sizesOf bucketsOf sizeBytes
+  image-is : imageOf t ≡ header ++ (flatten (map pair (countFrom 0 (suc (orderOf t)))) ++ after-sizes)
+  unfolding imageOf header after-sizes pair sizesOf bucketsOf sizeBytes
   image-is = simp append-assoc
 
   pair-at : (k : ℕ) → k ≤ orderOf t → Block pair 4 (countFrom 0 (suc (orderOf t))) k k
@@ -67,21 +67,21 @@ module _ (t : Table) (fit : FitsImage t) where
   -- the pair of bucket k stands after 4 + 4·k bytes
   split-at : (k : ℕ) (h : k ≤ orderOf t)
       → imageOf t
-      ≡ (head ++ pair-at k h .front) ++ (bytesOf 2 (builtOf t k) ++ (bytesOf 2 (liveOf t k) ++ (pair-at k h .back ++ after-sizes)))
+      ≡ (header ++ pair-at k h .front) ++ (bytesOf 2 (builtOf t k) ++ (bytesOf 2 (liveOf t k) ++ (pair-at k h .back ++ after-sizes)))
   unfolding pair
-  split-at k h = image-is ∙ ap (λ (r : List ℕ). head ++ (r ++ after-sizes)) (pair-at k h .split) ∙ simp append-assoc
+  split-at k h = image-is ∙ ap (λ (r : List ℕ). header ++ (r ++ after-sizes)) (pair-at k h .split) ∙ simp append-assoc
 
-  length-before : (k : ℕ) (h : k ≤ orderOf t) → length (head ++ pair-at k h .front) ≡ 4 + 4 * k
-  length-before k h = omega (arith, length-append head (pair-at k h .front), length-head, pair-at k h .long)
+  length-before : (k : ℕ) (h : k ≤ orderOf t) → length (header ++ pair-at k h .front) ≡ 4 + 4 * k
+  length-before k h = omega (arith, length-append header (pair-at k h .front), length-header, pair-at k h .long)
 
   built-back : (k : ℕ) → k ≤ orderOf t → builtIn (imageOf t) k ≡ builtOf t k
   unfolding builtIn sizeBytes headerBytes headerFields total pairBytes
-  built-back k h = rw (split-at k h) (number-at (head ++ pair-at k h .front) 2 (builtOf t k) _ (4 + 4 * k) (length-before k h) (fit .built k h))
+  built-back k h = rw (split-at k h) (number-at (header ++ pair-at k h .front) 2 (builtOf t k) _ (4 + 4 * k) (length-before k h) (fit .built k h))
 
   live-back : (k : ℕ) → k ≤ orderOf t → liveIn (imageOf t) k ≡ liveOf t k
   unfolding liveIn sizeBytes headerBytes headerFields total pairBytes
   live-back k h =
-      let before = head ++ pair-at k h .front in
+      let before = header ++ pair-at k h .front in
       let size = bytesOf 2 (builtOf t k) in
       rw (split-at k h, ← append-assoc before size (bytesOf 2 (liveOf t k) ++ (pair-at k h .back ++ after-sizes)))
       (number-at (before ++ size) 2 (liveOf t k) _ (4 + 4 * k + 2)
@@ -106,23 +106,23 @@ module _ (t : Table) (fit : FitsImage t) where
   all-rows : All IsRow rows
   all-rows = rw rows-are (all-flatten IsRow (slotsOf t) 0 (suc (orderOf t)) (λ k l. fit .rows k (omega arith)))
 
-  head-back : headerNumbers (imageOf t) ≡ orderOf t ∷ tableSpace t .metric ∷ 0 ∷ []
-  unfolding headerNumbers head headerBytesOf headerFields
-  head-back =
+  header-back : headerNumbers (imageOf t) ≡ orderOf t ∷ tableSpace t .metric ∷ 0 ∷ []
+  unfolding headerNumbers header headerBytesOf headerFields
+  header-back =
       fields-in (imageOf t) [] headerFields (orderOf t ∷ tableSpace t .metric ∷ 0 ∷ []) _ 0 image-is refl
       (fit .order, (fit .metric, (omega arith, tt)))
 
   order-back : orderIn (imageOf t) ≡ orderOf t
   unfolding orderIn
-  order-back = ap (λ (ns : List ℕ). getD ns 0 0) head-back
+  order-back = ap (λ (ns : List ℕ). getD ns 0 0) header-back
 
   space-back : spaceIn (imageOf t) ≡ tableSpace t
   unfolding spaceIn
-  space-back = rw head-back refl
+  space-back = rw header-back refl
 
   pub zeros-back : zerosIn (imageOf t) ≡ 0
   unfolding zerosIn
-  zeros-back = ap (λ (ns : List ℕ). getD ns 2 0) head-back
+  zeros-back = ap (λ (ns : List ℕ). getD ns 2 0) header-back
 
   slots-back : slotsIn (imageOf t) ≡ length rows
   unfolding slotsIn
@@ -147,17 +147,17 @@ module _ (t : Table) (fit : FitsImage t) where
 
   -- what stands before the tags, and its length
   sizes : List ℕ
-  sizes = head ++ flatten (map pair (countFrom 0 (suc (orderOf t))))
+  sizes = header ++ flatten (map pair (countFrom 0 (suc (orderOf t))))
 
   length-sizes : length sizes ≡ sizesEnd (orderOf t)
   unfolding sizes sizesEnd headerBytes headerFields total pairBytes sizeBytes
   length-sizes =
       let n = countFrom 0 (suc (orderOf t)) in
-      omega (arith, length-append head (flatten (map pair n)), length-head, length-blocks pair 4 n (all-always {P = λ x. length (pair x) ≡ 4} length-pair n), length-count 0 (suc (orderOf t)))
+      omega (arith, length-append header (flatten (map pair n)), length-header, length-blocks pair 4 n (all-always {P = λ x. length (pair x) ≡ 4} length-pair n), length-count 0 (suc (orderOf t)))
 
   image-parts : imageOf t ≡ sizes ++ (flatten (map tagBlock rows) ++ flatten (map recordBlock rows))
   unfolding sizes after-sizes tagBlock recordBlock rows tagsOf recordsOf tagWords tagFields
-  image-parts = image-is ∙ sym (append-assoc head (flatten (map pair (countFrom 0 (suc (orderOf t))))) after-sizes)
+  image-parts = image-is ∙ sym (append-assoc header (flatten (map pair (countFrom 0 (suc (orderOf t))))) after-sizes)
 
   -- the words of row i's tag, and those of its record
   tag-back : (i : ℕ) → i < length rows → fieldsAt (imageOf t) tagFields (sizesEnd (orderOf t) + 8 * i) ≡ take 2 (getD rows i [])

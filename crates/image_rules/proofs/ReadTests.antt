@@ -1,4 +1,4 @@
--- What load tests of an image is what it would test of a table that shows the same fields: sizes, buckets and live head are the same, so an image's
+-- What load tests of an image is what it would test of a table that shows the same fields: sizes, buckets and live items are the same, so an image's
 -- checks are those of any table that it is read back as.
 use Prim.Native.Nat.{ℕ}
 use mathlib.Core.Path.{_≡_, ap, ap₂}
@@ -30,7 +30,7 @@ module _ {t : Table} {image : List ℕ} (reads : ReadsBack t image) where
       (λ k h. ap₂ (sizePasses k) (reads .built k h) (reads .live k h)))
       (ap (λ (ns : List ℕ). leb (total ns) (room (orderOf t))) (map-buckets (liveIn image) (liveOf t) (orderOf t) (reads .live))))
 
-  -- the live head of the image, bucket by bucket, are the table's
+  -- the live items of the image, bucket by bucket, are the table's
   pub reads-live : liveRows image ≡ liveItems t (bucketsOf (orderOf t))
   unfolding liveRows liveItems liveSlots
   reads-live =

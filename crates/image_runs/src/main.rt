@@ -6,6 +6,7 @@ mod bytes;
 use bytes::CUTS;
 use bytes::LENGTH;
 use libc::STDOUT_FILENO;
+use metric_rules::ROW_WIDTH;
 use metric_rules::Row;
 
 // The rows of a table of order 2.
@@ -57,8 +58,8 @@ fn print_front(table: &mut [Row], bytes: &[u8], n: usize) {
 
 // The image and the byte behind it, cut to n bytes.
 fn print_cut(n: usize) {
-    let mut short = [[0u32; 12]; SHORT_ROWS];
-    let mut table = [[0u32; 12]; ROWS];
+    let mut short = [[0u32; ROW_WIDTH]; SHORT_ROWS];
+    let mut table = [[0u32; ROW_WIDTH]; ROWS];
     let image = bytes::IMAGE;
     print_front(&mut short, &image, n);
     print_front(&mut table, &image, n);
@@ -66,7 +67,7 @@ fn print_cut(n: usize) {
 
 // The image by this metric, with one bit of one byte flipped.
 fn print_flip(metric: u8, at: usize, bit: u32) {
-    let mut table = [[0u32; 12]; ROWS];
+    let mut table = [[0u32; ROW_WIDTH]; ROWS];
     let mut image = bytes::IMAGE;
     image[METRIC_AT] = metric;
     let byte = image[at % LENGTH];

@@ -17,13 +17,12 @@ use Rattle.bucket_rules.specs.Geometry.{bucketsOf}
 use Rattle.image_rules.specs.Bytes.{headerFields, headerBytes, sizeBytes, pairBytes, sizesEnd, imageLength}
 use Rattle.image_rules.specs.Read.{orderIn, builtIn, slotsBefore, slotsIn, rowIn, bucketIn}
 use Rattle.image_rules.specs.Load.{liveRows}
-use Rattle.image_rules.proofs.Blocks.{length-count, getD-count}
+use Rattle.image_rules.proofs.Blocks.{length-count, getD-count, count-append}
 use Rattle.image_rules.proofs.Counting.{total-more, flatten-more}
 use Rattle.image_read.specs.Places.{Places}
 use Rattle.image_entries.specs.declared.Slots.{Slots}
 use Rattle.image_entries.specs.Entries.{places, TagsFit}
 use Rattle.image_entries.specs.InImage.{InImage, slotIn, slotsAt}
-use Rattle.image_layout.proofs.Faults.{count-parts}
 use Rattle.image_test.specs.Standing.{standing}
 
 -- counted from a on, or from 0 with a added
@@ -40,9 +39,9 @@ module _ {image : List ℕ} {tags records : ℕ} (at : Places image tags records
   unfolding imageLength sizesEnd headerBytes pairBytes sizeBytes headerFields total
   sizes-fit k h = omega (arith, at .whole)
 
-  pub head-fits : headerBytes ≤ length image
+  pub header-fits : headerBytes ≤ length image
   unfolding imageLength sizesEnd headerBytes pairBytes sizeBytes headerFields total
-  head-fits = omega (arith, at .whole)
+  header-fits = omega (arith, at .whole)
 
 module _ (image : List ℕ) where
   pub before-next : (k : ℕ) → slotsBefore image (suc k) ≡ slotsBefore image k + builtIn image k
@@ -83,7 +82,7 @@ module _ (image : List ℕ) where
           ≡ map (rowIn image) (countFrom 0 (slotsBefore image m)) ++ map (rowIn image) (countFrom (slotsBefore image m) (builtIn image m))
       join m =
           let z : 0 + slotsBefore image m ≡ slotsBefore image m = omega arith in
-          ap (map (rowIn image)) (count-parts 0 (slotsBefore image m) (builtIn image m) ∙ ap (λ (a : ℕ). countFrom 0 (slotsBefore image m) ++ countFrom a (builtIn image m)) z)
+          ap (map (rowIn image)) (count-append 0 (slotsBefore image m) (builtIn image m) ∙ ap (λ (a : ℕ). countFrom 0 (slotsBefore image m) ++ countFrom a (builtIn image m)) z)
           ∙ map-append (rowIn image) (countFrom 0 (slotsBefore image m)) (countFrom (slotsBefore image m) (builtIn image m))
 
   lives-before : (m : ℕ) → flatten (map (λ k. select isLive (bucketIn image k)) (countFrom 0 m)) ≡ select isLive (flatten (map (bucketIn image) (countFrom 0 m)))
@@ -94,7 +93,7 @@ module _ (image : List ℕ) where
       ∙ ap (λ (r : List Row). r ++ select isLive (bucketIn image m)) (lives-before m)
       ∙ sym (ap (select isLive) (flatten-more (bucketIn image) m) ∙ select-append isLive (flatten (map (bucketIn image) (countFrom 0 m))) (bucketIn image m))
 
-  -- the live head of all buckets are the live ones of all slots
+  -- the live items of all buckets are the live ones of all slots
   pub live-all : (at : Slots) → at .first ≡ 0 → at .count ≡ slotsIn image → liveRows image ≡ select isLive (slotsAt image at)
   unfolding liveRows bucketsOf slotsIn slotsAt slotIn
   live-all at f n =

@@ -14,6 +14,7 @@ ghost use Rattle.image_read.specs.Places.{Places};
 ghost use Rattle.image_entries.specs.Entries.{places, TagsFit};
 ghost use Rattle.image_entries.specs.InImage.{InImage, slotIn, slotsAt};
 ghost use Rattle.image_test.specs.Standing.{bucketRead, standing, slotsStand, liveEntry};
+use image_entries::PLACES;
 use image_entries::Slots;
 use image_entries::slot_in;
 use image_entries::tag_entry;
@@ -27,7 +28,8 @@ use rows::is_live;
 use rows::tag_of;
 use search_rules::Entry;
 
-// The entries of the live ones of some slots, from the first place on. The reply is their number.
+// The entries of the live ones of some slots, from the first place on. The reply is their number. What `entries` holds behind them is left free;
+// it keeps its length.
 fn enter_live(image: &[u8], at: Slots, entries: &mut [Entry]) -> usize
     requires { ⌜ InImage (now image) at × (length (select isLive (slotsAt (now image) at)) ≤ length (now entries)) × TagsFit (slotIn (now image) at) (at .count) ⌝ }
     ensures counted { λ r. ⌜ r ≡ length (select isLive (slotsAt (now (image .entry)) at)) ⌝ }
@@ -46,7 +48,7 @@ fn enter_live(image: &[u8], at: Slots, entries: &mut [Entry]) -> usize
     count
 }
 
-// Whether no tag of a live slot occurs twice among some slots.
+// Whether no tag of a live slot occurs twice among some slots. What `entries` holds then is left free; it keeps its length.
 fn live_apart(image: &[u8], at: Slots, entries: &mut [Entry]) -> bool
     requires { ⌜ InImage (now image) at × (length (select isLive (slotsAt (now image) at)) ≤ length (now entries)) × TagsFit (slotIn (now image) at) (at .count) ⌝ }
     ensures { λ r. ⌜ r ≡ distinct (map tagOf (select isLive (slotsAt (now (image .entry)) at))) ⌝ }
@@ -55,7 +57,7 @@ fn live_apart(image: &[u8], at: Slots, entries: &mut [Entry]) -> bool
     tags_apart(&mut entries[..count])
 }
 
-// Whether every bucket stands, one after the other.
+// Whether every bucket stands, one after the other. What `entries` holds then is left free; it keeps its length.
 fn buckets_stand(
     image: &[u8],
     tags: usize,
@@ -91,7 +93,7 @@ pub fn slots_stand(image: &[u8], tags: usize, records: usize, header: &Row) -> b
     requires { ⌜ Places (now image) tags records × (orderIn (now image) ≤ mostOrder) × (sizesPass (orderIn (now image)) (builtIn (now image)) (liveIn (now image)) ≡ true) × (every (bucketRead (now image)) (bucketsOf (orderIn (now image))) ≡ true) ⌝ }
     ensures { λ r. ⌜ r ≡ slotsStand (spaceOf (now (header .entry))) (now (image .entry)) ⌝ }
 {
-    let mut entries = [[0u64; 2]; 4096];
+    let mut entries = [[0u64; 2]; PLACES as usize];
     if !buckets_stand(image, tags, records, header, &mut entries[..]) {
         return false;
     }

@@ -1,6 +1,6 @@
 -- How many slots and bytes there are: a table that passed has few slots, so that its image's length fits 32 bits; and where each part of it begins.
 use Prim.Native.Nat.{ℕ, suc, _+_, _≤_, _<_}
-use mathlib.Core.Path.{_≡_, refl, ap, _∙_}
+use mathlib.Core.Path.{_≡_, ap, _∙_}
 use mathlib.Core.List.{List, [], _∷_, _++_, map}
 use native.Mathlib.Omega.{arith}
 use lib.ListN.{length, length-append}
@@ -17,7 +17,7 @@ use Rattle.image_rules.specs.Write.{headerBytesOf, sizesOf, tagsOf, recordsOf, 
 use Rattle.image_rules.proofs.Bytes.{length-fields}
 use Rattle.image_rules.proofs.Lengths.{length-sizes}
 use Rattle.image_rules.proofs.Counting.{total-most}
-use Rattle.image_put.proofs.Stores.{sets-more}
+use Rattle.tree_rules.proofs.Stores.{sets-more}
 use Rattle.image_write.proofs.Runs.{slots-length}
 
 -- the slots of all buckets are as many as the built sizes add up to
@@ -36,33 +36,33 @@ slots-most {t} p =
 
 -- the four parts of an image
 module _ (t : Table) where
-  unfoldable pub headPart : List ℕ
-  headPart = headerBytesOf (orderOf t) (tableSpace t)
+  unfoldable pub headerPart : List ℕ
+  headerPart = headerBytesOf (orderOf t) (tableSpace t)
 
   unfoldable pub sizesPart : List ℕ
   sizesPart = sizesOf (orderOf t) (builtOf t) (liveOf t)
 
-  pub length-head : length headPart ≡ headerBytes
-  unfolding headPart headerBytesOf headerBytes
-  length-head = length-fields headerFields (orderOf t ∷ tableSpace t .metric ∷ 0 ∷ [])
+  pub length-header : length headerPart ≡ headerBytes
+  unfolding headerPart headerBytesOf headerBytes
+  length-header = length-fields headerFields (orderOf t ∷ tableSpace t .metric ∷ 0 ∷ [])
 
-  pub length-front : length headPart + length sizesPart ≡ sizesEnd (orderOf t)
+  pub length-front : length headerPart + length sizesPart ≡ sizesEnd (orderOf t)
   unfolding sizesPart sizesEnd
-  length-front = omega (arith, length-head, length-sizes (orderOf t) (builtOf t) (liveOf t))
+  length-front = omega (arith, length-header, length-sizes (orderOf t) (builtOf t) (liveOf t))
 
   pub length-parts : length (imageOf t) ≡ sizesEnd (orderOf t) + length (tagsOf (allSlots t)) + length (recordsOf (allSlots t))
-  unfolding imageOf headPart sizesPart
+  unfolding imageOf headerPart sizesPart
   length-parts = simp length-append (omega (arith, length-front))
 
   -- put one after the other, each where the one before it ends, they are the image put whole
   pub parts-put : (l : List ℕ) (a b c : ℕ) → a ≡ headerBytes → b ≡ sizesEnd (orderOf t) → c ≡ sizesEnd (orderOf t) + length (tagsOf (allSlots t))
-      → sets (sets (sets (sets l 0 headPart) a sizesPart) b (tagsOf (allSlots t))) c (recordsOf (allSlots t)) ≡ sets l 0 (imageOf t)
-  unfolding imageOf headPart sizesPart
+      → sets (sets (sets (sets l 0 headerPart) a sizesPart) b (tagsOf (allSlots t))) c (recordsOf (allSlots t)) ≡ sets l 0 (imageOf t)
+  unfolding imageOf headerPart sizesPart
   parts-put l a b c ea eb ec =
       let tags = tagsOf (allSlots t) in
       let records = recordsOf (allSlots t) in
-      ap (λ (r : List ℕ). sets (sets r b tags) c records) (sets-more l 0 a headPart sizesPart (omega (arith, length-head)))
+      ap (λ (r : List ℕ). sets (sets r b tags) c records) (sets-more l 0 a headerPart sizesPart (omega (arith, length-header)))
       ∙ ap (λ (r : List ℕ). sets r c records)
-      (sets-more l 0 b (headPart ++ sizesPart) tags (omega (arith, length-append headPart sizesPart, length-front)))
-      ∙ sets-more l 0 c (headPart ++ sizesPart ++ tags) records
-      (omega (arith, length-append (headPart ++ sizesPart) tags, length-append headPart sizesPart, length-front))
+      (sets-more l 0 b (headerPart ++ sizesPart) tags (omega (arith, length-append headerPart sizesPart, length-front)))
+      ∙ sets-more l 0 c (headerPart ++ sizesPart ++ tags) records
+      (omega (arith, length-append (headerPart ++ sizesPart) tags, length-append headerPart sizesPart, length-front))

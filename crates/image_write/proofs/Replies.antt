@@ -10,7 +10,6 @@ use borrow.Author.Tests.{le-leb, lt-leb}
 use Rattle.bucket_rules.specs.Refusals.{resultShort}
 use Rattle.bucket_rules.specs.Table.{Table}
 use Rattle.bucket_rules.specs.Checks.{readRefusal}
-use Rattle.image_rules.specs.declared.Written.{Written}
 use Rattle.image_rules.specs.Write.{imageOf, writeRefusal, writeReply, imageAfterWrite}
 
 module _ (t : Table) (area : List ℕ) where

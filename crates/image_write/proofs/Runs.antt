@@ -1,6 +1,7 @@
--- What the buckets have, put one after the other, is what all of them have; a bucket of a table that passed has as many slots as its built size.
+-- What the buckets have, put one after the other, is what all of them have: their sizes, and their tags and records at once; a bucket of a table that
+-- passed has as many slots as its built size.
 use Prim.Native.Nat.{ℕ, zero, suc, _+_, _*_, _≤_, _<_}
-use mathlib.Core.Path.{_≡_, refl, sym, ap, _∙_}
+use mathlib.Core.Path.{_≡_, refl, sym, ap, ap₂, _∙_}
 use mathlib.Core.List.{List, [], _∷_, _++_, map, map-append, flatten}
 use native.Mathlib.Nat.{lt-of-not-le, mul-suc}
 use native.Mathlib.Numerals.{add-one}
@@ -10,26 +11,28 @@ use lib.ListN.{length, drop, length-append, length-take, length-drop}
 use lib.Seq.{sets}
 use Rattle.metric_rules.specs.Lists.{countFrom}
 use Rattle.metric_rules.specs.Row.{Row}
-use Rattle.tree_rules.proofs.Lists.{all-always}
 use Rattle.bucket_rules.specs.Geometry.{bucketsOf, sizesRow, firstSlot}
 use Rattle.bucket_rules.specs.Table.{Table, orderOf, builtOf, slotsOf}
 use Rattle.bucket_rules.specs.Passed.{Passed}
 use Rattle.bucket_rules.proofs.Passing.{sizes-inside, built-inside}
-use Rattle.image_rules.specs.Write.{allSlots}
-use Rattle.image_rules.proofs.Blocks.{length-blocks}
+use Rattle.image_rules.specs.Write.{tagsOf, recordsOf, allSlots}
 use Rattle.image_rules.proofs.Counting.{flatten-append, flatten-more}
-use Rattle.image_put.proofs.Stores.{sets-more}
+use Rattle.tree_rules.proofs.Stores.{sets-more, sets-apart}
+use Rattle.image_put.proofs.Stores.{tagBlock, recordBlock, length-tags, length-records}
 
 module _ (f : ℕ → List ℕ) where
   -- what the first n buckets have
   unfoldable pub run : ℕ → List ℕ
   run n = flatten (map f (countFrom 0 n))
 
-  pub length-run : (k : ℕ) → length (run (suc k)) ≡ length (run k) + length (f k)
+  pub run-next : (k : ℕ) → run (suc k) ≡ run k ++ f k
   unfolding run
-  length-run k = ap length (flatten-more f k) ∙ length-append (flatten (map f (countFrom 0 k))) (f k)
+  run-next k = flatten-more f k
 
-  pub run-within : (k n : ℕ) → k ≤ n → length (run k) ≤ length (run n)
+  length-run : (k : ℕ) → length (run (suc k)) ≡ length (run k) + length (f k)
+  length-run k = ap length (run-next k) ∙ length-append (run k) (f k)
+
+  run-within : (k n : ℕ) → k ≤ n → length (run k) ≤ length (run n)
   run-within k zero h = let e : k ≡ zero = omega arith in rw e (omega arith)
   run-within k (suc n) h =
       elim (decLe k n) [
@@ -45,9 +48,8 @@ module _ (f : ℕ → List ℕ) where
   -- a turn of the loop that stores them
   pub run-more : (l before : List ℕ) (at place k : ℕ) → place ≡ at + length (run k) → before ≡ sets l at (run k)
       → sets before place (f k) ≡ sets l at (run (suc k))
-  unfolding run
   run-more l before at place k e was =
-      ap (λ (r : List ℕ). sets r place (f k)) was ∙ sets-more l at place (run k) (f k) e ∙ ap (sets l at) (sym (flatten-more f k))
+      ap (λ (r : List ℕ). sets r place (f k)) was ∙ sets-more l at place (run k) (f k) e ∙ ap (sets l at) (sym (run-next k))
 
 -- blocks of the elements of all lists, and of the elements list by list
 pub blocks-by-list : {A : Type 0} (b : A → List ℕ) (s : ℕ → List A) (ks : List ℕ)
@@ -69,62 +71,80 @@ module _ {t : Table} {order k : ℕ} (e : order ≡ orderOf t) (p : Passed t) (h
   pub sizes-in : sizesRow k < length t
   sizes-in = omega (arith, sizes-inside (orderOf t) k (omega arith), p .framed .long)
 
--- the blocks of all slots, bucket by bucket
-module _ (t : Table) (b : Row → List ℕ) where
-  unfoldable pub blocksOf : ℕ → List ℕ
-  blocksOf k = flatten (map b (slotsOf t k))
+-- two runs, each made longer at its end, while the first stays before the second
+both-more : (l : List ℕ) (a b : ℕ) (xs ys x y : List ℕ) {image : List ℕ} {i j : ℕ} → image ≡ sets (sets l a xs) b ys
+    → i ≡ a + length xs → i + length x ≤ b → j ≡ b + length ys
+    → sets (sets image i x) j y ≡ sets (sets l a (xs ++ x)) b (ys ++ y)
+both-more l a b xs ys x y {image} {i} {j} was first apart second =
+    ap (λ (m : List ℕ). sets (sets m i x) j y) was
+    ∙ ap (λ (m : List ℕ). sets m j y) (sets-apart (sets l a xs) i b x ys apart ∙ ap (λ (m : List ℕ). sets m b ys) (sets-more l a i xs x first))
+    ∙ sets-more (sets l a (xs ++ x)) b j ys y second
 
-  all-blocks : flatten (map b (allSlots t)) ≡ run blocksOf (suc (orderOf t))
-  unfolding blocksOf allSlots bucketsOf run
-  all-blocks = blocks-by-list b (slotsOf t) (countFrom 0 (suc (orderOf t)))
+-- the tags and the records of a bucket, and those of all slots bucket by bucket
+module _ (t : Table) where
+  unfoldable pub tagsAt : ℕ → List ℕ
+  tagsAt k = tagsOf (slotsOf t k)
 
-  -- the loop that stores them from a place on: those of the first k buckets are stored, and the place in hand is behind them
-  pub record Stored (first : List ℕ) (from : ℕ) (image : List ℕ) (at k : ℕ) : Type 0 where
+  unfoldable pub recordsAt : ℕ → List ℕ
+  recordsAt k = recordsOf (slotsOf t k)
+
+  all-tags : run tagsAt (suc (orderOf t)) ≡ tagsOf (allSlots t)
+  unfolding tagsAt tagsOf allSlots bucketsOf run
+  all-tags = sym (blocks-by-list tagBlock (slotsOf t) (countFrom 0 (suc (orderOf t))))
+
+  all-records : run recordsAt (suc (orderOf t)) ≡ recordsOf (allSlots t)
+  unfolding recordsAt recordsOf allSlots bucketsOf run
+  all-records = sym (blocks-by-list recordBlock (slotsOf t) (countFrom 0 (suc (orderOf t))))
+
+  -- the loop that stores them from two places on: those of the first k buckets are stored, and the places in hand are behind them
+  pub record Stored (tags records : ℕ) (first image : List ℕ) (tag bytes k : ℕ) : Type 0 where
     pub within : k ≤ suc (orderOf t)
     pub same : length image ≡ length first
-    pub place : at ≡ from + length (run blocksOf k)
-    pub area : image ≡ sets first from (run blocksOf k)
+    pub tagPlace : tag ≡ tags + length (run tagsAt k)
+    pub recordPlace : bytes ≡ records + length (run recordsAt k)
+    pub area : image ≡ sets (sets first tags (run tagsAt k)) records (run recordsAt k)
 
-  pub none-stored : (first : List ℕ) (from : ℕ) → Stored first from first from 0
+  pub none-stored : (tags records : ℕ) (first : List ℕ) → Stored tags records first first tags records 0
   unfolding run countFrom flatten
-  none-stored first from = record { within = omega arith; same = refl; place = omega arith; area = refl }
+  none-stored tags records first = record { within = omega arith; same = refl; tagPlace = omega arith; recordPlace = omega arith; area = refl }
 
-module _ {t : Table} {b : Row → List ℕ} {first : List ℕ} {from : ℕ} {image : List ℕ} {at k : ℕ} (s : Stored t b first from image at k) where
-  pub all-stored : orderOf t < k
-      → (at ≡ from + length (flatten (map b (allSlots t)))) × (image ≡ sets first from (flatten (map b (allSlots t))))
+module _ {t : Table} {tags records : ℕ} {first image : List ℕ} {tag bytes k : ℕ} (s : Stored t tags records first image tag bytes k) where
+  pub all-stored : orderOf t < k → image ≡ sets (sets first tags (tagsOf (allSlots t))) records (recordsOf (allSlots t))
   all-stored h =
       let done : k ≡ suc (orderOf t) = omega (arith, s .within) in
-      let all : run (blocksOf t b) k ≡ flatten (map b (allSlots t)) = ap (run (blocksOf t b)) done ∙ sym (all-blocks t b) in
-      (s .place ∙ ap (λ (bs : List ℕ). from + length bs) all, s .area ∙ ap (sets first from) all)
+      s .area
+      ∙ ap (λ (n : ℕ). sets (sets first tags (run (tagsAt t) n)) records (run (recordsAt t) n)) done
+      ∙ ap₂ (λ (ts bs : List ℕ). sets (sets first tags ts) records bs) (all-tags t) (all-records t)
 
-  -- a turn: the slots of bucket k are in hand, and a block has w bytes
-  module _ {w : ℕ} (wide : (row : Row) → length (b row) ≡ w) (h : k ≤ orderOf t) {rows : List Row} (e : rows ≡ slotsOf t k) where
-    place-more : length (run (blocksOf t b) (suc k)) ≡ length (run (blocksOf t b) k) + w * length rows
-    unfolding blocksOf
-    place-more =
-        rw e (omega (arith, length-run (blocksOf t b) k, length-blocks b w (slotsOf t k) (all-always {P = λ row. length (b row) ≡ w} wide (slotsOf t k))))
+  -- a turn: the slots of bucket k are in hand
+  module _ (h : k ≤ orderOf t) {rows : List Row} (e : rows ≡ slotsOf t k) (apart : tags + length (tagsOf (allSlots t)) ≤ records) where
+    tags-within : tag + length (tagsAt t k) ≤ records
+    tags-within = omega (arith, s .tagPlace, length-run (tagsAt t) k, run-within (tagsAt t) (suc k) (suc (orderOf t)) (omega arith), ap length (all-tags t))
 
-    pub blocks-fit : from + length (flatten (map b (allSlots t))) ≤ length first → at + w * length rows ≤ length image
-    blocks-fit room =
-        omega (
-          arith,
-          s .same,
-          s .place,
-          place-more,
-          ap length (all-blocks t b),
-          run-within (blocksOf t b) (suc k) (suc (orderOf t)) (omega arith),
+    pub slots-fit : records + length (recordsOf (allSlots t)) ≤ length first
+        → (tag + length (tagsOf rows) ≤ bytes) × (bytes + length (recordsOf rows) ≤ length image)
+    unfolding tagsAt recordsAt
+    slots-fit fits =
+        rw e (
+          omega (arith, tags-within, s .recordPlace),
+          omega (arith, s .same, s .recordPlace, length-run (recordsAt t) k, run-within (recordsAt t) (suc k) (suc (orderOf t)) (omega arith), ap length (all-records t)),
         )
 
-    pub more-stored : {next : List ℕ} → length next ≡ length image → next ≡ sets image at (flatten (map b rows))
-        → Stored t b first from next (at + w * length rows) (k + 1)
-    unfolding blocksOf
+    pub more-stored : {next : List ℕ} → length next ≡ length image → next ≡ sets (sets image tag (tagsOf rows)) bytes (recordsOf rows)
+        → Stored t tags records first next (tag + 8 * length rows) (bytes + 40 * length rows) (k + 1)
+    unfolding tagsAt recordsAt
     more-stored {next} same put =
+        let tagged = run-next (tagsAt t) k in
+        let recorded = run-next (recordsAt t) k in
         rw (add-one k)
         (record {
           within = omega arith;
           same = same ∙ s .same;
-          place = omega (arith, s .place, place-more);
+          tagPlace = omega (arith, s .tagPlace, length-run (tagsAt t) k, length-tags rows, ap (λ (rs : List Row). length (tagsOf rs)) e);
+          recordPlace = omega (arith, s .recordPlace, length-run (recordsAt t) k, length-records rows, ap (λ (rs : List Row). length (recordsOf rs)) e);
           area =
-              put ∙ ap (λ (rs : List Row). sets image at (flatten (map b rs))) e
-              ∙ run-more (blocksOf t b) first image from at k (s .place) (s .area);
+              put
+              ∙ ap (λ (rs : List Row). sets (sets image tag (tagsOf rs)) bytes (recordsOf rs)) e
+              ∙ both-more first tags records (run (tagsAt t) k) (run (recordsAt t) k) (tagsAt t k) (recordsAt t k) (s .area) (s .tagPlace) tags-within (s .recordPlace)
+              ∙ sym (ap₂ (λ (ts bs : List ℕ). sets (sets first tags ts) records bs) tagged recorded);
         })

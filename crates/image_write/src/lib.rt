@@ -8,13 +8,19 @@ ghost use Rattle.metric_rules.specs.Row.{word};
 ghost use Rattle.metric_rules.specs.Distance.{spaceOf};
 ghost use Rattle.bucket_rules.specs.Table.{orderOf, builtOf, liveOf};
 ghost use Rattle.bucket_rules.specs.Passed.{Passed};
-ghost use Rattle.image_rules.specs.Bytes.{bytesOf, headerBytes, sizeBytes, sizesEnd};
+ghost use Rattle.image_rules.specs.Bytes.{bytesOf, headerBytes, sizeBytes, pairBytes, sizesEnd};
 ghost use Rattle.image_rules.specs.Write.{headerBytesOf, sizesOf, tagsOf, recordsOf, allSlots, imageOf, writeReply, imageAfterWrite};
 use bucket_rules::RESULT_SHORT;
 use image_put::put_records;
 use image_put::put_tags;
 use image_put::put16;
 use image_read::sizes_end;
+use image_rules::HEADER_BYTES;
+use image_rules::PAIR_BYTES;
+use image_rules::RECORD_BYTES;
+use image_rules::SIZE_BYTES;
+use image_rules::SLOT_BYTES;
+use image_rules::TAG_BYTES;
 use image_rules::Written;
 use metric_rules::METRIC_AT;
 use metric_rules::Row;
@@ -39,11 +45,11 @@ fn put_header(image: &mut [u8], header: Row)
 
 // The sizes of a bucket.
 fn put_pair(image: &mut [u8], at: usize, built: u32, live: u32)
-    requires { ⌜ at + 4 ≤ length (now image) ⌝ }
+    requires { ⌜ at + pairBytes ≤ length (now image) ⌝ }
     ensures { λ _. ⌜ now (image .exit) ≡ sets (now (image .entry)) at (bytesOf sizeBytes built ++ bytesOf sizeBytes live) ⌝ }
 {
     put16(image, at, built);
-    put16(image, at + 2, live);
+    put16(image, at + SIZE_BYTES, live);
 }
 
 // Those of every bucket, behind the header.
@@ -55,44 +61,33 @@ fn put_sizes(image: &mut [u8], table: &[Row], order: Order)
     let mut k = 0;
     while k <= t {
         let built = built_of(table, k);
-        put_pair(image, 4 + 4 * k as usize, built, live_of(table, k));
+        put_pair(
+            image,
+            HEADER_BYTES + PAIR_BYTES * k as usize,
+            built,
+            live_of(table, k),
+        );
         k += 1;
     }
 }
 
-// The tags of all buckets from a place on, and likewise their records. The reply is the place behind them.
-fn put_all_tags(image: &mut [u8], from: usize, table: &[Row], order: Order) -> usize
-    requires { ⌜ (order .t ≡ orderOf (now table)) × Passed (now table) × (from + length (tagsOf (allSlots (now table))) ≤ length (now image)) ⌝ }
-    ensures place { λ r. ⌜ r ≡ from + length (tagsOf (allSlots (now (table .entry)))) ⌝ }
-    ensures area { λ _. ⌜ now (image .exit) ≡ sets (now (image .entry)) from (tagsOf (allSlots (now (table .entry)))) ⌝ }
+// The slots of all buckets, one bucket after the other: their tags from one place on, and behind all of them their records from another on.
+fn put_all_slots(image: &mut [u8], tags: usize, records: usize, table: &[Row], order: Order)
+    requires { ⌜ (order .t ≡ orderOf (now table)) × Passed (now table) × (tags + length (tagsOf (allSlots (now table))) ≤ records) × (records + length (recordsOf (allSlots (now table))) ≤ length (now image)) ⌝ }
+    ensures { λ _. ⌜ now (image .exit) ≡ sets (sets (now (image .entry)) tags (tagsOf (allSlots (now (table .entry))))) records (recordsOf (allSlots (now (table .entry)))) ⌝ }
 {
     let t = order.t;
-    let mut at = from;
+    let mut tag_at = tags;
+    let mut record_at = records;
     let mut k = 0;
     while k <= t {
         let slots = slots_of(table, order, k);
-        put_tags(image, at, slots);
-        at += 8 * slots.len();
+        put_tags(image, tag_at, slots);
+        put_records(image, record_at, slots);
+        tag_at += TAG_BYTES * slots.len();
+        record_at += RECORD_BYTES * slots.len();
         k += 1;
     }
-    at
-}
-
-fn put_all_records(image: &mut [u8], from: usize, table: &[Row], order: Order) -> usize
-    requires { ⌜ (order .t ≡ orderOf (now table)) × Passed (now table) × (from + length (recordsOf (allSlots (now table))) ≤ length (now image)) ⌝ }
-    ensures place { λ r. ⌜ r ≡ from + length (recordsOf (allSlots (now (table .entry)))) ⌝ }
-    ensures area { λ _. ⌜ now (image .exit) ≡ sets (now (image .entry)) from (recordsOf (allSlots (now (table .entry)))) ⌝ }
-{
-    let t = order.t;
-    let mut at = from;
-    let mut k = 0;
-    while k <= t {
-        let slots = slots_of(table, order, k);
-        put_records(image, at, slots);
-        at += 40 * slots.len();
-        k += 1;
-    }
-    at
 }
 
 // The built slots of all buckets.
@@ -114,7 +109,7 @@ fn image_length(table: &[Row], order: Order) -> usize
     requires { ⌜ (order .t ≡ orderOf (now table)) × Passed (now table) ⌝ }
     ensures { λ r. ⌜ r ≡ length (imageOf (now (table .entry))) ⌝ }
 {
-    sizes_end(order.t) + 48 * slots_in_all(table, order)
+    sizes_end(order.t) + SLOT_BYTES * slots_in_all(table, order)
 }
 
 fn put_image(image: &mut [u8], table: &[Row], order: Order)
@@ -123,8 +118,9 @@ fn put_image(image: &mut [u8], table: &[Row], order: Order)
 {
     put_header(image, table[HEADER_ROW]);
     put_sizes(image, table, order);
-    let records = put_all_tags(image, sizes_end(order.t), table, order);
-    put_all_records(image, records, table, order);
+    let tags = sizes_end(order.t);
+    let records = tags + TAG_BYTES * slots_in_all(table, order);
+    put_all_slots(image, tags, records, table, order);
 }
 
 // The whole call: 23 and 24, then 6, then the image.

@@ -2,7 +2,7 @@
 ghost use mathlib.Core.Path.{_≡_};
 ghost use mathlib.Core.Bool.{true, false};
 ghost use Prim.Native.Nat.{_+_, _*_, _≤_, _<_, _^_};
-ghost use lib.ListN.{length, drop};
+ghost use lib.ListN.{drop};
 ghost use Rattle.text_rules.specs.Text.{digitOf, isDigit};
 ghost use Rattle.list_line.specs.InTurn.{readNumber, readSize, readMeasure, readLine};
 ghost use Rattle.list_line.specs.Places.{NumberAt, MeasureAt, SizeFits, signedSize, LineAt};
@@ -112,7 +112,7 @@ fn measure(list: &[u8], at: usize, mark: u8) -> MeasureRead
     signed(size(list, at + 1, 0, 4, digit(first), mark), false)
 }
 
-// The reply to a line not of the form.
+// The reply to a line not of the form. Its tag, profile and next place are left free: all that holds of them is their type.
 fn malformed() -> LineRead
     ensures { λ r. ⌜ r .item ≡ false ⌝ }
 {
@@ -127,7 +127,8 @@ fn malformed() -> LineRead
     }
 }
 
-// A whole line with its line feed: a tag, four measures, the code zero.
+// A whole line with its line feed: a tag, four measures, the code zero. Of a line that is no item, tag, profile and next place are left free: all that
+// holds of them is their type.
 pub fn line(list: &[u8], at: usize) -> LineRead
     ensures { λ r. ⌜ LineAt (now (list .entry)) at (readLine (drop at (now (list .entry)))) r ⌝ }
 {

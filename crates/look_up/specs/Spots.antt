@@ -1,4 +1,4 @@
--- Where the code finds a head: the place that each case of `Spot` names.
+-- Where the code finds an item: the place that each case of `Spot` names.
 use Prim.Native.Nat.{ℕ}
 use mathlib.Core.Bool.{true, false}
 use mathlib.Core.List.{List, []}

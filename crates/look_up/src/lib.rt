@@ -1,4 +1,4 @@
-// The finding of a live head by its tag, and look up.
+// The finding of a live item by its tag, and look up.
 ghost use mathlib.Core.Path.{_≡_};
 ghost use mathlib.Core.Bool.{_&&_};
 ghost use Prim.Native.Nat.{ℕ};
@@ -20,7 +20,7 @@ use table::order_in;
 use table::slots_of;
 use table_checks::read_refusal;
 
-// Where a live head stands.
+// Where a live item stands.
 pub enum Spot {
     At { bucket: u32, slot: usize },
     Nowhere,

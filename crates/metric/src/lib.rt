@@ -1,4 +1,4 @@
-// The distance between two rows, and between a row and a query, by a table's metric; and which tags and measures are valid.
+// The distance between two rows by a table's metric, and which tags and measures are valid.
 ghost use mathlib.Core.Path.{_≡_};
 ghost use lib.IntN.{_-ℤ_, natAbs};
 ghost use mir.Syntax.{w32};
@@ -19,7 +19,6 @@ use metric_rules::METRIC_AT;
 use metric_rules::Profile;
 use metric_rules::Row;
 use rows::joined;
-use rows::row_of;
 
 // What a larger sum is taken as.
 const MOST_DISTANCE: u32 = 0xffff_ffff;
@@ -106,13 +105,6 @@ pub fn distance_between(header: &Row, a: Row, b: Row) -> u32
     } else {
         measure_distance(metric, a, b)
     }
-}
-
-// The distance between a row's profile and a query.
-pub fn distance_to(header: &Row, row: Row, query: Profile) -> u32
-    ensures { λ r. ⌜ r ≡ distance (spaceOf (now (header .entry))) (profileOf row) query ⌝ }
-{
-    distance_between(header, row, row_of(0, query, 0, 0))
 }
 
 // A tag is country · 10^12 + national: the least of country 1, the first of no country, and the last national, of 38 bits.

@@ -125,15 +125,14 @@ fn header(metric: u32) -> Row {
     [0, metric, 0, 0, 0, 0, 0, 0, 0, 0, 0, 0]
 }
 
-// The distance of two rows, and of a row and a query, by a metric's number.
+// The distance of two rows, and of a row and a query as a search makes it a row, by a metric's number.
 fn between(metric: u32, a: Row, b: Row) -> u64 {
     let by = header(metric);
     metric::distance_between(&by, a, b) as u64
 }
 
 fn to_query(metric: u32, a: Row, query: Profile) -> u64 {
-    let by = header(metric);
-    metric::distance_to(&by, a, query) as u64
+    between(metric, a, rows::row_of(0, query, 0, 0))
 }
 
 // The distances of objects i and j: by each metric and by a number that is none, then from a row to a query.

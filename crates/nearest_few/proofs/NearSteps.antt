@@ -219,7 +219,7 @@ module _ (dist : Profile → Profile → ℕ) (query : Profile) (reports : Row �
   near-empty [] t e = sym (nearest-none dist query reports k t)
   near-empty (s ∷ rest) t e = absurd (omega arith)
 
-  -- a tree is its first slot's own head, and then the halves
+  -- a tree is its first slot's own item, and then the halves
   pub near-first : (slots : List Row) (t : Tally) → 0 < length slots
       → nearInHalves dist query reports k (toQuery dist query (getD slots 0 [])) (thresholdOf (getD slots 0 [])) (take (length slots - 1) (drop 1 slots)) (takenAt reports k t (getD slots 0 []) (toQuery dist query (getD slots 0 [])))
       ≡ nearestTree dist query reports k t slots
@@ -312,7 +312,7 @@ module _ (dist : Profile → Profile → ℕ) (query : Profile) (reports : Row �
           subst (λ (n : ℕ). Sound k n t (nearInHalves dist query reports k d m rest t)) (add-comm _ _ ∙ parts-sum rest)
           (subst (Sound k _ t) (halves-far d m rest t (omega arith)) (sound-then a (sound-left d m rest (rightTurn d m rest t) (a .in-order) (a .few))))
 
-  -- a tree's two steps, the first slot's own head and the halves, the first of which has been made at distance d
+  -- a tree's two steps, the first slot's own item and the halves, the first of which has been made at distance d
   module _ (slots : List Row) (some : 0 < length slots) (area : List Entry) (near : Nearby) (p : Ready k (length slots) area near)
       (d : ℕ) (at : d ≡ toQuery dist query (getD slots 0 [])) (mid : List Entry) (r : Nearby) (l : Leaves (takenAt reports k (tallyOf area near) (getD slots 0 []) d) area mid r) where
     rest : List Row

@@ -1,5 +1,5 @@
 -- A tree in one loop: what is kept and the turns of the parts to come, the last part first, make up the tree's search at any time.
--- A part that is entered is its first slot's own head and the turns of its halves, so that these may come in its place.
+-- A part that is entered is its first slot's own item and the turns of its halves, so that these may come in its place.
 use Prim.Native.Nat.{ℕ, _+_, _-_, _/_, _≤_, _<_, _^_}
 use mathlib.Core.Path.{_≡_, refl, sym, ap, ap₂, subst, _∙_}
 use mathlib.Core.Bool.{Bool, true, false, _||_, or-true}
@@ -155,7 +155,7 @@ module _ (dist : Profile → Profile → ℕ) (query : Profile) (reports : Row �
             ∙ ap (leftTurn dist query reports k d m rest) (right-turn d m u)
             ∙ halves-far dist query reports k d m rest u (leb-false d m e)
 
-    -- a part that is entered: its first slot's own head, and its halves wait
+    -- a part that is entered: its first slot's own item, and its halves wait
     entered : (t : Tally) (d m : ℕ) → d ≡ toQuery dist query (getD slots (startOf p) []) → m ≡ thresholdOf (getD slots (startOf p) [])
         → opens k (entersLeft (getD p 2 0) 0) (t .kept) ≡ true → after (takenAt reports k t (getD slots (startOf p) []) d) (sent p d m) ≡ partTurn p t
     unfolding partTurn rest
@@ -251,9 +251,9 @@ module _ {dist : Profile → Profile → ℕ} {query : Profile} {reports : Row �
     fewer-shut : slotsOf parts < slotsOf (parts ++ (p ∷ []))
     fewer-shut = omega (arith, sum, fits .some)
 
-    -- it is entered: its first slot's own head is taken in, and there is room for its halves
-    head-ready : Ready k 1 area near
-    head-ready = ready-less (omega (arith, sum, fits .some)) (g .ready)
+    -- it is entered: its first slot's own item is taken in, and there is room for its halves
+    item-ready : Ready k 1 area near
+    item-ready = ready-less (omega (arith, sum, fits .some)) (g .ready)
 
     next-fit : (d m : ℕ) → Stacked (length slots) 8 (parts ++ sent p d m)
     next-fit d m = stacked-instead (length slots) 8 parts p (sent p d m) (g .fit) (stacked-sent (length slots) (8 - length parts) p d m fits)
@@ -377,7 +377,7 @@ module _ {dist : Profile → Profile → ℕ} {query : Profile} {reports : Row �
     turn-room d m = omega (arith, room waiting (inHand t) here d m, length-take-le (t .depth) pending (s .places), s .size)
 
     pub turn-ready : Ready k 1 area near
-    turn-ready = head-ready waiting (inHand t) here
+    turn-ready = item-ready waiting (inHand t) here
 
     -- the part is beyond reach
     pub turn-beyond : t .gap < 2 ^ 64 → bound < t .gap → {r : Turn} → r ≡ record { depth = t .depth; start = 0; size = 0; gap = 0 }

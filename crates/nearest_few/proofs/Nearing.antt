@@ -1,4 +1,4 @@
--- The steps of a nearest search on an area: how far it reaches with the entries kept there, and taking a slot's own head in.
+-- The steps of a nearest search on an area: how far it reaches with the entries kept there, and taking a slot's own item in.
 -- The entries kept are in order, so keeping one more is putting it in its place.
 use Prim.Native.Nat.{ℕ, suc, _+_, _-_, _≤_, _<_, _^_}
 use mathlib.Core.Path.{_≡_, refl, sym, ap, subst, _∙_}
@@ -6,8 +6,8 @@ use mathlib.Core.Bool.{Bool, true, false, _||_}
 use mathlib.Core.List.{List, [], _∷_, _++_, foldl}
 use lib.ListN.{length, take, drop, getD, length-take, take-append-drop, drop-of-length-le}
 use lib.Seq.{length-take-le, getD-take, take-all, take-at, take-suc}
-use lib.Dec.{leb, ltb, eqb}
-use borrow.Author.Tests.{lt-ltb, le-ltb, le-leb, lt-leb, leb-true, leb-false, eq-eqb, ne-eqb, eqb-true, eqb-false}
+use lib.Dec.{leb, ltb}
+use borrow.Author.Tests.{lt-ltb, le-ltb, le-leb, lt-leb, leb-true, leb-false}
 use native.Mathlib.Decide.{decLe}
 use native.Mathlib.Omega.{arith}
 use Rattle.metric_rules.specs.Row.{Row, tagOf}
@@ -18,8 +18,7 @@ use Rattle.search_rules.specs.Range.{Entry, entry, entryDistance, entryKey, ord
 use Rattle.search_rules.specs.Nearest.{Tally, keep, worst, opens}
 use Rattle.nearest_few.specs.Nearby.{reach, tallyOf, Ready, Leaves, takenAt}
 use Rattle.tree_rules.proofs.Lists.{perm-length}
-use Rattle.tree_rules.proofs.Sorting.{NotAfter, insert-perm, insert-append}
-use Rattle.entries.proofs.Keys.{key-differ}
+use Rattle.tree_rules.proofs.Sorting.{NotAfter, key-le-differ, insert-perm, insert-append}
 use Rattle.entries.proofs.Sliding.{sorted-of-ordered, front-ordered, insert-split, before-last}
 
 last-from : (d : ℕ) (e : Entry) (es : List Entry) → foldl (λ n x. entryDistance x) d (e ∷ es) ≡ entryDistance (getD (e ∷ es) (length es) [])
@@ -139,7 +138,7 @@ module _ (reports : Row → Bool) (k : ℕ) (row : Row) (d : ℕ) (area : List E
       in
       leaves-as area area _ (sym t) (leaves-held (record { kept = before; count = suc (n .count) }) area area (n .kept) (n .count + 1) (r .within) before-size (omega arith) whole)
 
-  -- the head may be put among the first `end` entries, and then those before place end + 1 are kept
+  -- the item may be put among the first `end` entries, and then those before place end + 1 are kept
   pub record Puts (end : ℕ) : Type 0 where
     pub inside : end < length area
     pub in-front : ordered (take end area) ≡ take end area
@@ -149,7 +148,7 @@ module _ (reports : Row → Bool) (k : ℕ) (row : Row) (d : ℕ) (area : List E
     new : Entry
     new = entry (tagOf row) d
 
-    -- the head is put among the entries kept, of which k stay
+    -- the item is put among the entries kept, of which k stay
     taken-live : takenAt reports k (tallyOf area n) row d ≡ record { kept = take k (insertBy entryKey new before); count = suc (n .count) }
     unfolding takenAt before new
     taken-live =
@@ -226,7 +225,7 @@ module _ (reports : Row → Bool) (k : ℕ) (row : Row) (d : ℕ) (area : List E
           let zero′ : 0 ≡ n .kept = omega arith in
           unchanged (ap (λ (m : ℕ). take m (insertBy entryKey new before)) nil ∙ ap (λ (m : ℕ). take m area) zero′)
 
-  -- a head beyond reach is dropped, if it is live at all: k entries are kept, and it is after the last of them
+  -- an item beyond reach is dropped, if it is live at all: k entries are kept, and it is after the last of them
   pub leaves-beyond : d < 2 ^ 64 → (bound : ℕ) → bound ≡ reach k (take (n .kept) area) → bound < d
       → Leaves (takenAt reports k (tallyOf area n) row d) area area (record { kept = n .kept; count = n .count + 1; over = false })
   unfolding entryKey entryDistance entry
@@ -241,4 +240,4 @@ module _ (reports : Row → Bool) (k : ℕ) (row : Row) (d : ℕ) (area : List E
           let last : ℕ = getD (getD area (n .kept - 1) []) 1 0 in
           let below : last < d = omega (arith, reach-last area (n .kept) k (r .within) full (omega arith)) in
           leaves-after live full (omega arith)
-          (key-differ d last (tagOf row ∷ []) (getD (getD area (n .kept - 1) []) 0 0 ∷ []) (λ same. omega arith) ∙ le-ltb d last (omega arith))
+          (key-le-differ d last (tagOf row ∷ []) (getD (getD area (n .kept - 1) []) 0 0 ∷ []) (λ same. omega arith) ∙ le-ltb d last (omega arith))

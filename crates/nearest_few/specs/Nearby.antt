@@ -36,7 +36,7 @@ pub record Leaves (t : Tally) (area after : List Entry) (n : Nearby) : Type 0 wh
   pub entries : length (t .kept) ≤ length area → after ≡ t .kept ++ drop (length (t .kept)) area
   pub short : length area < length (t .kept) → n .over ≡ true
 
--- a slot's own head, at distance d from the query, is taken in
+-- a slot's own item, at distance d from the query, is taken in
 unfoldable pub takenAt : (Row → Bool) → ℕ → Tally → Row → ℕ → Tally
 unfolding keep entry tagOf
 takenAt reports k t row d = record { kept = elim (reports row) [ true ↦ keep k (entry (tagOf row) d ∷ t .kept) | false ↦ t .kept ]; count = suc (t .count) }

@@ -35,7 +35,7 @@ fn passed(near: Nearby) -> Nearby
     }
 }
 
-// A slot's own head is taken in where it is live: in its order, the last of k giving way.
+// A slot's own item is taken in where it is live: in its order, the last of k giving way.
 pub fn take_in(row: Row, d: u32, k: u32, area: &mut [Entry], near: Nearby) -> Nearby
     requires { ⌜ Ready k 1 (now area) near ⌝ }
     ensures { λ r. ⌜ Leaves (takenAt isLive k (tallyOf (now (area .entry)) near) row d) (now (area .entry)) (now (area .exit)) r ⌝ }

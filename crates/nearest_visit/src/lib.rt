@@ -1,5 +1,4 @@
 // Nearest over one tree by a tally that is lent: the running count and the kept bound pass through every step.
-ghost use mathlib.Core.Path.{_≡_};
 ghost use lib.ListN.{length};
 ghost use Rattle.metric_rules.specs.Row.{profileOf, isLive};
 ghost use Rattle.metric_rules.specs.Distance.{distance, spaceOf};

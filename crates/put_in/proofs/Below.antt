@@ -1,4 +1,4 @@
--- The buckets below another, one after the other: one bucket more gathers its live head behind those before, and is emptied after those before.
+-- The buckets below another, one after the other: one bucket more gathers its live items behind those before, and is emptied after those before.
 -- Assumes nothing.
 use Prim.Native.Nat.{ℕ, zero, suc, _+_, _-_, _≤_, _<_}
 use native.Mathlib.Omega.{arith}
@@ -13,37 +13,37 @@ use Rattle.bucket_rules.specs.Table.{Table, orderOf, inUse, liveSlots, putBucke
 use Rattle.bucket_rules.specs.Rebuild.{liveItems}
 use Rattle.bucket_rules.specs.Add.{emptyFrom, lowestEmpty}
 
-head-then : (t : Table) (first m : ℕ) → liveItems t (countFrom first (suc m)) ≡ liveItems t (countFrom first m) ++ liveSlots t (first + m)
+items-then : (t : Table) (first m : ℕ) → liveItems t (countFrom first (suc m)) ≡ liveItems t (countFrom first m) ++ liveSlots t (first + m)
 unfolding liveItems flatten countFrom
-head-then t first zero =
+items-then t first zero =
     let e : first ≡ first + 0 = omega arith in
     append-nil (liveSlots t first) ∙ ap (liveSlots t) e
-head-then t first (suc m) =
+items-then t first (suc m) =
     let e : suc first + m ≡ first + suc m = omega arith in
-    ap (λ (r : List Row). liveSlots t first ++ r) (head-then t (suc first) m ∙ ap (λ (k : ℕ). liveItems t (countFrom (suc first) m) ++ liveSlots t k) e)
+    ap (λ (r : List Row). liveSlots t first ++ r) (items-then t (suc first) m ∙ ap (λ (k : ℕ). liveItems t (countFrom (suc first) m) ++ liveSlots t k) e)
     ∙ sym (append-assoc (liveSlots t first) (liveItems t (countFrom (suc first) m)) (liveSlots t (first + suc m)))
 
-pub head-next : (t : Table) (k : ℕ) → liveItems t (countFrom 0 (k + 1)) ≡ liveItems t (countFrom 0 k) ++ liveSlots t k
-head-next t k =
+pub items-next : (t : Table) (k : ℕ) → liveItems t (countFrom 0 (k + 1)) ≡ liveItems t (countFrom 0 k) ++ liveSlots t k
+items-next t k =
     let e : 0 + k ≡ k = omega arith in
-    ap (λ (m : ℕ). liveItems t (countFrom 0 m)) (add-one k) ∙ head-then t 0 k ∙ ap (λ (j : ℕ). liveItems t (countFrom 0 k) ++ liveSlots t j) e
+    ap (λ (m : ℕ). liveItems t (countFrom 0 m)) (add-one k) ∙ items-then t 0 k ∙ ap (λ (j : ℕ). liveItems t (countFrom 0 k) ++ liveSlots t j) e
 
-head-more : (t : Table) (first i k : ℕ) → i ≤ k → length (liveItems t (countFrom first i)) ≤ length (liveItems t (countFrom first k))
+items-more : (t : Table) (first i k : ℕ) → i ≤ k → length (liveItems t (countFrom first i)) ≤ length (liveItems t (countFrom first k))
 unfolding liveItems flatten countFrom
-head-more t first zero k h = omega arith
-head-more t first (suc i) zero h = absurd (omega arith)
-head-more t first (suc i) (suc k) h =
+items-more t first zero k h = omega arith
+items-more t first (suc i) zero h = absurd (omega arith)
+items-more t first (suc i) (suc k) h =
     omega (
       arith,
-      head-more t (suc first) i k (omega arith),
+      items-more t (suc first) i k (omega arith),
       length-append (liveSlots t first) (liveItems t (countFrom (suc first) i)),
       length-append (liveSlots t first) (liveItems t (countFrom (suc first) k)),
     )
 
--- bucket i is one of those below k, so that its live head are counted too
-pub head-within : (t : Table) (i k : ℕ) → i < k → length (liveItems t (countFrom 0 i)) + length (liveSlots t i) ≤ length (liveItems t (countFrom 0 k))
-head-within t i k h =
-    omega (arith, head-more t 0 (i + 1) k (omega arith), ap length (head-next t i), length-append (liveItems t (countFrom 0 i)) (liveSlots t i))
+-- bucket i is one of those below k, so that its live items are counted too
+pub items-within : (t : Table) (i k : ℕ) → i < k → length (liveItems t (countFrom 0 i)) + length (liveSlots t i) ≤ length (liveItems t (countFrom 0 k))
+items-within t i k h =
+    omega (arith, items-more t 0 (i + 1) k (omega arith), ap length (items-next t i), length-append (liveItems t (countFrom 0 i)) (liveSlots t i))
 
 emptied-then : (t : Table) (first m : ℕ) → emptied (countFrom first (suc m)) t ≡ putBucket (first + m) [] 0 (emptied (countFrom first m) t)
 unfolding emptied countFrom

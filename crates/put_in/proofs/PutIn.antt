@@ -1,4 +1,4 @@
--- An accepted add, step by step: what stands in the work area are the head gathered, they fit the bucket that is built, and the steps in turn are the rebuild.
+-- An accepted add, step by step: what stands in the work area are the items gathered, they fit the bucket that is built, and the steps in turn are the rebuild.
 -- Assumes nothing.
 use Prim.Native.Nat.{ℕ, _+_, _≤_}
 use native.Mathlib.Omega.{arith}
@@ -21,7 +21,7 @@ use Rattle.bucket_rules.proofs.Passing.{bucket-within}
 use Rattle.bucket_rules.proofs.Puts.{emptied-only}
 use Rattle.bucket_rules.proofs.Adding.{Target, gathered-buckets}
 use Rattle.bucket_rules.proofs.Fill.{rooms-grow, room-most, Changeable, changeable, add-accepted, add-fits}
-use Rattle.gather.proofs.Stored.{sets-front}
+use Rattle.tree_rules.proofs.Stores.{sets-front}
 use Rattle.rebuild.proofs.Filling.{cleared-stored, rebuilt-by}
 use Rattle.buckets.proofs.Places.{lent-only}
 use Rattle.buckets.specs.Lent.{Lent, Housed}
@@ -44,7 +44,7 @@ module _ {t : Table} {work : List Row} {tag : ℕ} {p : Profile} (accepted : Acc
   pub target : Target t (countFrom 0 (lowestEmpty t)) (addTarget t tag p) (length (gathered t tag p))
   target = add-fits t work tag p (accepted .none)
 
-  -- so few head that the work area has room for them
+  -- so few items that the work area has room for them
   pub few : (length (gathered t tag p) ≤ workRows (orderOf t)) × (length (gathered t tag p) ≤ 4096)
   unfolding workRows
   few = (

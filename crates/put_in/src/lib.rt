@@ -1,4 +1,4 @@
-// An accepted add: the lowest empty bucket, the head below it gathered behind the new one, and all of them built in one bucket.
+// An accepted add: the lowest empty bucket, the items below it gathered behind the new one, and all of them built in one bucket.
 ghost use mathlib.Core.Path.{_≡_};
 ghost use Prim.Native.Nat.{_+_, _≤_, _<_};
 ghost use lib.ListN.{length};
@@ -36,7 +36,7 @@ fn lowest_empty(table: &[Row], order: Order) -> u32
     k
 }
 
-// The live head of buckets 0 to k - 1, in slot order, behind the first n rows of the work area. The reply is the number of rows there now.
+// The live items of buckets 0 to k - 1, in slot order, behind the first n rows of the work area. The reply is the number of rows there now.
 fn gather_below(table: &[Row], order: Order, k: u32, work: &mut [Row], n: usize) -> usize
     requires { ⌜ Housed (now table) (order .t) × (k ≤ order .t + 1) × (n + length (liveItems (now table) (countFrom 0 k)) ≤ length (now work)) ⌝ }
     ensures { λ r. ⌜ (r ≡ n + length (liveItems (now (table .entry)) (countFrom 0 k))) × (now (work .exit) ≡ sets (now (work .entry)) n (liveItems (now (table .entry)) (countFrom 0 k))) ⌝ }
@@ -62,7 +62,7 @@ fn empty_below(table: &mut [Row], order: Order, k: u32)
     }
 }
 
-// Where n head are built whose lowest empty bucket is k: in k if they are more than half its room, else in k - 1.
+// Where n items are built whose lowest empty bucket is k: in k if they are more than half its room, else in k - 1.
 fn add_bucket(k: u32, n: usize) -> u32
     requires { ⌜ (k < 32) × (1 ≤ n) × (n ≤ 4096) ⌝ }
     ensures { λ r. ⌜ r ≡ addBucket k n ⌝ }
@@ -70,7 +70,7 @@ fn add_bucket(k: u32, n: usize) -> u32
     if Order::room(k) < 2 * n { k } else { k - 1 }
 }
 
-// The accepted call: the new head, then those of the buckets below the lowest empty one, all built in one bucket.
+// The accepted call: the new item, then those of the buckets below the lowest empty one, all built in one bucket.
 pub fn put_in(
     table: &mut [Row],
     work: &mut [Row],

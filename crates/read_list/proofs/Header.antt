@@ -5,12 +5,12 @@ use mathlib.Core.Bool.{Bool, true, false, false≢true}
 use mathlib.Core.List.{List}
 use native.Mathlib.Omega.{arith}
 use lib.Dec.{leb}
-use lib.ListN.{length, take, drop, length-take}
+use lib.ListN.{length, take, length-take}
 use borrow.Author.Tests.{leb-true, leb-false}
 use Rattle.metric_rules.specs.Row.{Row}
 use Rattle.bucket_rules.specs.Table.{Table}
 use Rattle.list_rules.specs.declared.ListRead.{ListRead}
-use Rattle.list_rules.specs.Lines.{listHeader, hasHeader, linesOf, itemLines}
+use Rattle.list_rules.specs.Lines.{listHeader, hasHeader, itemLines}
 use Rattle.list_rules.specs.ReadList.{badListHeader, stopped, reading, listReading, readListReply, tableAfterReadList, workAfterReadList}
 use Rattle.read_list.proofs.Alike.{other-length}
 
@@ -18,7 +18,8 @@ pub no-room : (list : List ℕ) → length list < 22 → hasHeader list ≡ fals
 unfolding hasHeader listHeader
 no-room list h = other-length (take 22 list) listHeader (λ e. omega (arith, length-take 22 list, e))
 
-pub header-room : (list : List ℕ) → hasHeader list ≡ true → 22 ≤ length list
+pub header-room : (list : List ℕ) → hasHeader list ≡ true → length listHeader ≤ length list
+unfolding listHeader
 header-room list h = by (leb 22 (length list)) refl
   where
     by : (t : Bool) → leb 22 (length list) ≡ t → 22 ≤ length list
@@ -32,9 +33,9 @@ Read t₀ work₀ list reply t work =
 
 module _ (t₀ : Table) (work₀ : List Row) (list : List ℕ) where
   by-header : {b : Bool} → hasHeader list ≡ b
-      → listReading t₀ work₀ list ≡ elim b [ false ↦ stopped badListHeader 1 t₀ work₀ | true ↦ reading t₀ work₀ 2 (linesOf (drop 22 list)) ]
-  unfolding listReading itemLines listHeader
-  by-header e = ap (λ b. elim b [ false ↦ stopped badListHeader 1 t₀ work₀ | true ↦ reading t₀ work₀ 2 (linesOf (drop 22 list)) ]) e
+      → listReading t₀ work₀ list ≡ elim b [ false ↦ stopped badListHeader 1 t₀ work₀ | true ↦ reading t₀ work₀ 2 (itemLines list) ]
+  unfolding listReading
+  by-header e = ap (λ b. elim b [ false ↦ stopped badListHeader 1 t₀ work₀ | true ↦ reading t₀ work₀ 2 (itemLines list) ]) e
 
   pub without-header : hasHeader list ≡ false → Read t₀ work₀ list (record { refusal = 30; line = 1; added = 0; distances = 0 }) t₀ work₀
   unfolding readListReply tableAfterReadList workAfterReadList stopped
@@ -43,8 +44,8 @@ module _ (t₀ : Table) (work₀ : List Row) (list : List ℕ) where
       (ap (λ r. r .reply) all, (ap (λ r. r .table) all, ap (λ r. r .work) all))
 
   pub with-header : hasHeader list ≡ true → {reply : ListRead} {t : Table} {work : List Row}
-      → reply ≡ reading t₀ work₀ 2 (linesOf (drop 22 list)) .reply → t ≡ reading t₀ work₀ 2 (linesOf (drop 22 list)) .table
-      → work ≡ reading t₀ work₀ 2 (linesOf (drop 22 list)) .work → Read t₀ work₀ list reply t work
+      → reply ≡ reading t₀ work₀ 2 (itemLines list) .reply → t ≡ reading t₀ work₀ 2 (itemLines list) .table
+      → work ≡ reading t₀ work₀ 2 (itemLines list) .work → Read t₀ work₀ list reply t work
   unfolding readListReply tableAfterReadList workAfterReadList
   with-header e f g h =
       let all = sym (by-header e) in

@@ -12,7 +12,7 @@ use Rattle.bucket_rules.specs.Table.{Table, liveTotal}
 use Rattle.bucket_rules.specs.Add.{addRefusal, addTarget, added, addReply, tableAfterAdd, workAfterAdd}
 use Rattle.text_rules.specs.Text.{parted}
 use Rattle.list_rules.specs.declared.ListRead.{ListRead}
-use Rattle.list_rules.specs.Lines.{linesFrom, linesOf}
+use Rattle.list_rules.specs.Lines.{listHeader, linesFrom, linesOf, itemLines}
 use Rattle.list_rules.specs.Lines.ListLine.{anItem}
 use Rattle.list_rules.specs.ReadList.{Reading, stopped, oneMore, reading}
 use Rattle.list_rules.proofs.Growing.{live-below-most, few-distances, live-one-more}
@@ -77,9 +77,10 @@ pub record SoFar (t₀ : Table) (work₀ : List Row) (list : List ℕ) (t : Tabl
   pub sum : distances ≤ 49152 * added
   pub table-long : length t ≡ length t₀
   pub work-long : length work ≡ length work₀
-  pub whole : reading t₀ work₀ 2 (linesOf (drop 22 list)) ≡ after added distances (reading t work (added + 2) (linesOf (drop at list)))
+  pub whole : reading t₀ work₀ 2 (itemLines list) ≡ after added distances (reading t work (added + 2) (linesOf (drop at list)))
 
-pub at-first : (t : Table) (work : List Row) (list : List ℕ) → 22 ≤ length list → SoFar t work list t work 22 0 0
+pub at-first : (t : Table) (work : List Row) (list : List ℕ) → length listHeader ≤ length list → SoFar t work list t work 22 0 0
+unfolding itemLines listHeader
 at-first t work list h =
     record {
       within = h;
@@ -88,14 +89,14 @@ at-first t work list h =
       sum = omega arith;
       table-long = refl;
       work-long = refl;
-      whole = after-none (reading t work 2 (linesOf (drop 22 list)));
+      whole = after-none (reading t work 2 (itemLines list));
     }
 
 -- the reading so far, where the rest stops at once
 abbrev pub Ends : Table → List Row → List ℕ → ListRead → Table → List Row → Type 0
 Ends t₀ work₀ list reply t work =
-    (reply ≡ reading t₀ work₀ 2 (linesOf (drop 22 list)) .reply)
-    × ((t ≡ reading t₀ work₀ 2 (linesOf (drop 22 list)) .table) × (work ≡ reading t₀ work₀ 2 (linesOf (drop 22 list)) .work))
+    (reply ≡ reading t₀ work₀ 2 (itemLines list) .reply)
+    × ((t ≡ reading t₀ work₀ 2 (itemLines list) .table) × (work ≡ reading t₀ work₀ 2 (itemLines list) .work))
 
 module _ {t₀ : Table} {work₀ : List Row} {list : List ℕ} {t : Table} {work : List Row} {at added distances : ℕ} (so-far : SoFar t₀ work₀ list t work at added distances) where
   stops : {refusal line : ℕ} → reading t work (added + 2) (linesOf (drop at list)) ≡ stopped refusal line t work

@@ -38,7 +38,7 @@ pub fn clear(work: &mut [Row], order: Order, n: usize)
     zero_rows(&mut work[n..end]);
 }
 
-// Bucket k is built of the first n rows of the work area, all of them live, and the work area is left zero. At most 2^12 head are built, and so few
+// Bucket k is built of the first n rows of the work area, all of them live, and the work area is left zero. At most 2^12 items are built, and so few
 // distances fit 32 bits.
 pub fn build_bucket(table: &mut [Row], order: Order, k: u32, work: &mut [Row], n: usize) -> u32
     requires { ⌜ Lent (now table) (order .t) × (k ≤ order .t) × (n ≤ room k) × (workRows (order .t) ≤ length (now work)) ⌝ }

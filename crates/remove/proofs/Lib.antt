@@ -1,3 +1,3 @@
--- Laws of the head found, and of the refusals.
+-- Laws of the item found, and of the refusals.
 pub mod Leaving
 pub mod Refusing

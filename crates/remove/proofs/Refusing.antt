@@ -78,7 +78,7 @@ module _ (t : Table) (work : List Row) (tag : ℕ) where
     unfolding replyBy tableBy workBy
     refused-missing e f = by-refusal (stopped passes e (live-by none (sym f)))
 
-    -- an accepted call settles the bucket of the head found
+    -- an accepted call settles the bucket of the item found
     pub accepted-call :
         validTag tag ≡ true → (place : Place) → find t tag ≡ some place
         → (record { refusal = 0; distances = settled (marked t place) (place .bucket) .distances } ≡ removeReply t work tag)

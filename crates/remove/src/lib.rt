@@ -23,7 +23,7 @@ use table::live_of;
 use table::order_in;
 use table_checks::change_refusal;
 
-// The row of a head that is no longer live. A row by value has all its words, and says so for the rows of a table, of which nothing else does.
+// The row of an item that is no longer live. A row by value has all its words, and says so for the rows of a table, of which nothing else does.
 fn dead(row: Row) -> Row
     ensures { λ r. ⌜ (r ≡ withMark 1 row) × (length row ≡ rowWidth) ⌝ }
 {
@@ -55,7 +55,7 @@ fn refused(refusal: u32) -> Removed
     }
 }
 
-// A head is taken out, for every table, work area and tag.
+// An item is taken out, for every table, work area and tag.
 pub fn remove(table: &mut [Row], work: &mut [Row], tag: u64) -> Removed
     ensures reply { λ r. ⌜ r ≡ removeReply (now (table .entry)) (now (work .entry)) tag ⌝ }
     ensures table { λ _. ⌜ now (table .exit) ≡ tableAfterRemove (now (table .entry)) (now (work .entry)) tag ⌝ }

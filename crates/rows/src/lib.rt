@@ -1,11 +1,9 @@
 // The row codec: a row from its fields, and each field of a row.
 ghost use mathlib.Core.Path.{_≡_};
-ghost use Prim.Native.Nat.{ℕ, _+_, _*_, _/_, _%_, _^_, _<_};
-ghost use mathlib.Core.List.{[]};
-ghost use lib.ListN.{length, getD};
+ghost use Prim.Native.Nat.{_+_, _*_, _/_, _%_, _^_};
 ghost use mir.Syntax.{w32};
 ghost use mir.Val.{toZ, ofZ};
-ghost use Rattle.metric_rules.specs.Row.{IsRow, tagOf, profileOf, thresholdOf, markOf, isLive, rowOf};
+ghost use Rattle.metric_rules.specs.Row.{tagOf, profileOf, thresholdOf, markOf, isLive, rowOf};
 use metric_rules::CODE_0_HIGH;
 use metric_rules::CODE_0_LOW;
 use metric_rules::CODE_1_HIGH;
@@ -82,7 +80,7 @@ pub fn mark_of(row: Row) -> u32
     row[MARK_AT]
 }
 
-// Whether the row's head is live; any mark but 0 is dead.
+// Whether the row's item is live; any mark but 0 is dead.
 pub fn is_live(row: Row) -> bool
     ensures { λ r. ⌜ r ≡ isLive row ⌝ }
 {
@@ -122,19 +120,4 @@ pub fn row_of(tag: u64, profile: Profile, threshold: u32, mark: u32) -> Row
         threshold,
         mark,
     ]
-}
-
-// Nothing is done here, and nothing is compiled: the caller learns that the row is twelve words of 32 bits. A row that was read from a slice comes
-// without that fact, and a parameter has it by its type.
-pub fn row_fits(row: Row)
-    ensures { λ _. ⌜ IsRow row ⌝ }
-{}
-
-// The same of every row of a slice. The loop has no effect, so it is compiled away.
-pub fn rows_fit(rows: &[Row])
-    ensures { λ _. ⌜ ((i : ℕ) → i < length (now (rows .entry)) → IsRow (getD (now (rows .entry)) i [])) ⌝ }
-{
-    for i in 0..rows.len() {
-        row_fits(rows[i]);
-    }
 }

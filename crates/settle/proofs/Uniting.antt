@@ -1,4 +1,4 @@
--- Buckets united in one, step by step: what stands in the work area are their live head in the order listed, and the steps in turn are the rebuild.
+-- Buckets united in one, step by step: what stands in the work area are their live items in the order listed, and the steps in turn are the rebuild.
 -- Assumes nothing.
 use Prim.Native.Nat.{ℕ, _+_, _≤_}
 use native.Mathlib.Omega.{arith}
@@ -17,42 +17,42 @@ use Rattle.bucket_rules.specs.Rebuild.{liveItems, rebuilt}
 use Rattle.bucket_rules.specs.Remove.{united}
 use Rattle.bucket_rules.proofs.Puts.{emptied-only}
 use Rattle.bucket_rules.proofs.Fill.{rooms-grow}
-use Rattle.gather.proofs.Stored.{sets-then, sets-front}
+use Rattle.tree_rules.proofs.Stores.{sets-more, sets-front}
 use Rattle.buckets.specs.Lent.{Lent, Housed}
 use Rattle.buckets.proofs.Places.{lent-only}
 use Rattle.rebuild.proofs.Filling.{cleared-stored, rebuilt-by}
 
--- the n rows that a work area begins with are the live head of the buckets listed
+-- the n rows that a work area begins with are the live items of the buckets listed
 pub record Gathered (t : Table) (ks : List ℕ) (work : List Row) (n : ℕ) (used : List Row) : Type 0 where
   pub number : n ≡ length (liveItems t ks)
   pub stored : used ≡ sets work 0 (liveItems t ks)
 
-pub head-one : (t : Table) (k : ℕ) → liveItems t (k ∷ []) ≡ liveSlots t k
+pub items-one : (t : Table) (k : ℕ) → liveItems t (k ∷ []) ≡ liveSlots t k
 unfolding liveItems flatten
-head-one t k = append-nil (liveSlots t k)
+items-one t k = append-nil (liveSlots t k)
 
-pub head-two : (t : Table) (k j : ℕ) → liveItems t (k ∷ j ∷ []) ≡ liveSlots t k ++ liveSlots t j
+pub items-two : (t : Table) (k j : ℕ) → liveItems t (k ∷ j ∷ []) ≡ liveSlots t k ++ liveSlots t j
 unfolding liveItems flatten
-head-two t k j = ap (λ (r : List Row). liveSlots t k ++ r) (append-nil (liveSlots t j))
+items-two t k j = ap (λ (r : List Row). liveSlots t k ++ r) (append-nil (liveSlots t j))
 
 pub one-gathered : (t : Table) (k : ℕ) (work : List Row) (n : ℕ) (used : List Row) → n ≡ 0 + length (liveSlots t k) → used ≡ sets work 0 (liveSlots t k) → Gathered t (k ∷ []) work n used
 one-gathered t k work n used e f =
-    record { number = omega (arith, e, ap length (head-one t k)); stored = f ∙ ap (sets work 0) (sym (head-one t k)) }
+    record { number = omega (arith, e, ap length (items-one t k)); stored = f ∙ ap (sets work 0) (sym (items-one t k)) }
 
 pub two-gathered :
     (t : Table) (k j : ℕ) (work : List Row) (first n : ℕ) (half used : List Row) → first ≡ 0 + length (liveSlots t k) → half ≡ sets work 0 (liveSlots t k)
     → n ≡ first + length (liveSlots t j) → used ≡ sets half first (liveSlots t j) → Gathered t (k ∷ j ∷ []) work n used
 two-gathered t k j work first n half used e f g h =
     record {
-      number = omega (arith, e, g, ap length (head-two t k j), length-append (liveSlots t k) (liveSlots t j));
+      number = omega (arith, e, g, ap length (items-two t k j), length-append (liveSlots t k) (liveSlots t j));
       stored =
           h
           ∙ ap (λ (w : List Row). sets w first (liveSlots t j)) f
-          ∙ sets-then (liveSlots t k) work 0 first (liveSlots t j) e
-          ∙ ap (sets work 0) (sym (head-two t k j));
+          ∙ sets-more work 0 first (liveSlots t k) (liveSlots t j) e
+          ∙ ap (sets work 0) (sym (items-two t k j));
     }
 
--- the buckets listed are the table's, and the one to be built has room for their live head, the work area likewise
+-- the buckets listed are the table's, and the one to be built has room for their live items, the work area likewise
 pub record Fits (t : Table) (order : ℕ) (ks : List ℕ) (to : ℕ) (work : List Row) : Type 0 where
   pub housed : Housed t order
   pub inside : All (λ k. k ≤ orderOf t) ks

@@ -1,4 +1,4 @@
--- What the steps after the marking rest on: a table whose bucket k has just lost a head.
+-- What the steps after the marking rest on: a table whose bucket k has just lost an item.
 use Prim.Native.Nat.{ℕ, suc, _*_, _≤_, _<_}
 use mathlib.Core.Path.{_≡_}
 use mathlib.Core.Bool.{true}
@@ -7,7 +7,7 @@ use Rattle.bucket_rules.specs.Geometry.{room}
 use Rattle.bucket_rules.specs.Table.{Table, orderOf, builtOf, liveOf, liveSlots}
 use Rattle.bucket_rules.specs.Checks.{sizePasses}
 
--- with that head more than a quarter was live; the other buckets' sizes pass; and each bucket's live size numbers its live slots
+-- with that item more than a quarter was live; the other buckets' sizes pass; and each bucket's live size numbers its live slots
 pub record Lost (t : Table) (k : ℕ) : Type 0 where
   pub inOrder : k ≤ orderOf t
   pub before : room k < 4 * suc (liveOf t k)

@@ -1,4 +1,4 @@
-// A bucket that has lost a head: it is emptied, left as it is, or built anew where it has become too thin.
+// A bucket that has lost an item: it is emptied, left as it is, or built anew where it has become too thin.
 ghost use mathlib.Core.Path.{_≡_};
 ghost use mathlib.Core.List.{[], _∷_};
 ghost use Prim.Native.Nat.{_*_, _≤_, _<_};
@@ -19,7 +19,7 @@ use rebuild::clear;
 use table::in_use;
 use table::live_of;
 
-// The live head of bucket k, and behind them those of another, built in one bucket.
+// The live items of bucket k, and behind them those of another, built in one bucket.
 fn unite(table: &mut [Row], order: Order, k: u32, other: u32, target: u32, work: &mut [Row]) -> u32
     requires { ⌜ Housed (now table) (order .t) × (k ≤ order .t) × (other ≤ order .t) × (target ≤ order .t) × (length (liveItems (now table) (k ∷ other ∷ [])) ≤ room target) × (workRows (order .t) ≤ length (now work)) ⌝ }
     ensures table { λ _. ⌜ now (table .exit) ≡ united (now (table .entry)) (k ∷ other ∷ []) target .table ⌝ }
@@ -33,7 +33,7 @@ fn unite(table: &mut [Row], order: Order, k: u32, other: u32, target: u32, work:
     build_bucket(table, order, target, work, n)
 }
 
-// The live head of bucket k alone, built in another.
+// The live items of bucket k alone, built in another.
 fn move_down(table: &mut [Row], order: Order, k: u32, target: u32, work: &mut [Row]) -> u32
     requires { ⌜ Housed (now table) (order .t) × (k ≤ order .t) × (target ≤ order .t) × (length (liveItems (now table) (k ∷ [])) ≤ room target) × (workRows (order .t) ≤ length (now work)) ⌝ }
     ensures table { λ _. ⌜ now (table .exit) ≡ united (now (table .entry)) (k ∷ []) target .table ⌝ }
@@ -64,7 +64,7 @@ fn thin(table: &mut [Row], order: Order, k: u32, work: &mut [Row]) -> u32
     move_down(table, order, k, k - 2, work)
 }
 
-// After the marking: no live head empties the bucket, enough of them is the end, else it is too thin.
+// After the marking: no live item empties the bucket, enough of them is the end, else it is too thin.
 pub fn settle(table: &mut [Row], order: Order, k: u32, work: &mut [Row]) -> u32
     requires { ⌜ Housed (now table) (order .t) × Lost (now table) k × (workRows (order .t) ≤ length (now work)) ⌝ }
     ensures table { λ _. ⌜ now (table .exit) ≡ settled (now (table .entry)) k .table ⌝ }

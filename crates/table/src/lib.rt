@@ -85,7 +85,7 @@ pub fn in_use(table: &[Row], k: u32) -> bool
     built_of(table, k) != 0
 }
 
-// How many head are live in buckets 0 to T.
+// How many items are live in buckets 0 to T.
 pub fn live_total(table: &[Row], order: Order) -> u64
     requires { ⌜ (order .t < 31) × (sizesRow (order .t) < length (now table)) ⌝ }
     ensures { λ r. ⌜ r ≡ total (map (liveOf (now (table .entry))) (bucketsOf (order .t))) ⌝ }

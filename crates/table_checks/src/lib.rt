@@ -1,7 +1,7 @@
 // What stops a call on a lent table, by 01's numbers in their order: 23 and 24. The table's content and length are any.
 ghost use mathlib.Core.Path.{_≡_};
 ghost use mathlib.Core.Bool.{true};
-ghost use Prim.Native.Nat.{_≤_, _<_};
+ghost use Prim.Native.Nat.{_<_};
 ghost use lib.Dec.{leb};
 ghost use lib.ListN.{length};
 ghost use Rattle.metric_rules.specs.Lists.{every};

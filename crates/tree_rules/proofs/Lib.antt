@@ -3,6 +3,7 @@ pub mod Lists
 pub mod Tests
 pub mod Parts
 pub mod Filled
+pub mod Stores
 pub mod Brought
 pub mod Sorting
 pub mod Cost

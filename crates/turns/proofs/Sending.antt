@@ -12,7 +12,7 @@ use borrow.Author.Tests.{eqb-true, eqb-false, eq-eqb, ne-eqb, le-leb, lt-leb}
 use native.Mathlib.Omega.{arith}
 use Rattle.turns.specs.declared.Turn.{Turn}
 use Rattle.turns.specs.Waiting.{Part, waits, leftPart, rightPart, sent, Pushed, inHand, upcoming, ToCome, TakenUp, Slotted}
-use Rattle.turns.proofs.Pending.{startOf, sizeOf, Fits, parts-one-more, parts-one-less, left-fits, right-fits, fits-more, Stacked, stacked-append, slotsOf}
+use Rattle.turns.proofs.Pending.{startOf, sizeOf, Fits, parts-one-more, parts-one-less, left-fits, right-fits, fits-more, Stacked, slotsOf}
 
 pub waits-none : (p : Part) → sizeOf p ≡ 0 → waits p ≡ []
 unfolding waits

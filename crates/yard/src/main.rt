@@ -7,6 +7,7 @@ ghost use Rattle.yard_session.specs.Fed.{Midway, fed};
 ghost use Rattle.yard_session.specs.Stands.{Stands};
 use libc::STDIN_FILENO;
 use libc::STDOUT_FILENO;
+use metric_rules::ROW_WIDTH;
 use metric_rules::Row;
 use search_rules::Entry;
 use yard_session::Place;
@@ -89,8 +90,8 @@ fn converse(
 }
 
 fn main() {
-    let mut table = [[0u32; 12]; TABLE_ROWS];
-    let mut work = [[0u32; 12]; WORK_ROWS];
+    let mut table = [[0u32; ROW_WIDTH]; TABLE_ROWS];
+    let mut work = [[0u32; ROW_WIDTH]; WORK_ROWS];
     let mut result = [[0u64; 2]; ENTRIES];
     let mut out = [0u8; OUT];
     let mut area = [0u8; LINE];

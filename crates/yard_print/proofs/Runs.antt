@@ -5,20 +5,15 @@ use mathlib.Core.List.{List, [], _∷_, _++_, append-assoc, append-nil}
 use native.Mathlib.Omega.{arith}
 use native.Mathlib.Numerals.{add-one}
 use lib.ListN.{length, set, getD, take, length-append}
-use lib.Seq.{sets, set-comm, take-suc, take-all}
+use lib.Seq.{sets, take-suc, take-all}
+use Rattle.tree_rules.proofs.Stores.{sets-more, sets-apart}
 use Rattle.text_rules.specs.Text.{digits, decimal, space, lineFeed}
 use Rattle.search_rules.specs.Range.{Entry}
 use Rattle.yard_rules.specs.Reply.{spaced, replyLine, entryText, entriesText}
 use Rattle.yard_print.proofs.Widths.{length-digits}
 
-pub sets-more : (l : List ℕ) (i j : ℕ) (a b : List ℕ) → j ≡ i + length a → sets (sets l i a) j b ≡ sets l i (a ++ b)
-sets-more l i j [] b e = let same : j ≡ i = omega arith in ap (λ (k : ℕ). sets l k b) same
-sets-more l i j (x ∷ a) b e = sets-more _ (suc i) j a b (omega arith)
-
 sets-last : (l : List ℕ) (i j : ℕ) (xs : List ℕ) (d : ℕ) → j ≡ i + length xs → sets (set l j d) i xs ≡ sets l i (xs ++ (d ∷ []))
-sets-last l i j [] d e = let same : j ≡ i = omega arith in ap (λ (k : ℕ). set l k d) same
-sets-last l i j (x ∷ xs) d e =
-    ap (λ m. sets m (suc i) xs) (set-comm l j i d x (λ w. omega arith)) ∙ sets-last (set l i x) (suc i) j xs d (omega arith)
+sets-last l i j xs d e = sets-apart l i j xs (d ∷ []) (omega arith) ∙ sets-more l i j xs (d ∷ []) e
 
 -- a digit stored leaves the digits before it to store
 pub digit-first : (l : List ℕ) (at i j n : ℕ) → i ≡ suc j → sets (set l (at + j) (48 + n % 10)) at (digits j (n / 10)) ≡ sets l at (digits i n)

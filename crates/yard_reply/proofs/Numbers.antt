@@ -5,6 +5,7 @@ use mathlib.Core.Path.{_≡_, refl, ap, sym, _∙_}
 use mathlib.Core.List.{List, [], _∷_, _++_}
 use lib.ListN.{length, length-append}
 use lib.Seq.{sets}
+use Rattle.tree_rules.proofs.Stores.{sets-more}
 use Rattle.yard_rules.specs.Reply.{replyNumbers}
 use Rattle.yard_reply.specs.Put.{Puts}
 
@@ -17,13 +18,9 @@ unfolding replyNumbers
 refused zero ns h = absurd (h refl)
 refused (suc n) ns h = refl
 
-sets-on : (l : List ℕ) (i j : ℕ) (a b : List ℕ) → j ≡ i + length a → sets (sets l i a) j b ≡ sets l i (a ++ b)
-sets-on l i j [] b e = let same : j ≡ i = omega arith in ap (λ (k : ℕ). sets l k b) same
-sets-on l i j (x ∷ a) b e = sets-on _ (suc i) j a b (omega arith)
-
 -- a run of bytes and the run after it
 pub both-put : (l middle after : List ℕ) (at end : ℕ) (xs ys : List ℕ) → middle ≡ sets l 0 xs → at ≡ length xs → after ≡ sets middle at ys → end ≡ at + length ys → end ≤ length l
     → Puts l after end (xs ++ ys)
 both-put l middle after at end xs ys e place f long fits =
     let from : at ≡ 0 + length xs = omega arith in
-    (f ∙ ap (λ m. sets m at ys) e ∙ sets-on l 0 at xs ys from, omega (arith, length-append xs ys), fits)
+    (f ∙ ap (λ m. sets m at ys) e ∙ sets-more l 0 at xs ys from, omega (arith, length-append xs ys), fits)

@@ -98,29 +98,27 @@ takes-both m xs ys {areas} {area} {out} {later} {r} f t =
 module _ {m : Midway} {areas : Areas} {area : List ℕ} {at : Place} (later : List ℕ) (g : Gathered) (piece : List ℕ) (from : ℕ)
     (inside : from < length piece) (gathers : Gathers area (record { length = at .length; over = at .over }) piece from later g)
     (st : Stands m areas area at) where
-  goes-until : (next : ℕ)
-      → Stands (fed m (untilFeed (drop from piece))) areas later (record { stage = at .stage; number = at .number; length = g .length; over = g .over; from = next; printed = 0 })
-  goes-until next =
-      goes-on later (record { length = g .length; over = g .over }) (untilFeed (drop from piece)) next (until-free (drop from piece)) st (gathers .holds (m .pending) (st .line-is))
+  abbrev gathered : Place
+  gathered = record { stage = at .stage; number = at .number; length = g .length; over = g .over; from = length piece; printed = 0 }
 
-  pub piece-ends : (out : List ℕ) → length piece ≤ g .end
-      → Takes m (stretch piece from (length piece)) areas later out out (record { stage = at .stage; number = at .number; length = g .length; over = g .over; from = length piece; printed = 0 })
+  goes-until : Stands (fed m (untilFeed (drop from piece))) areas later gathered
+  goes-until =
+      goes-on later (record { length = g .length; over = g .over }) (untilFeed (drop from piece)) (length piece) (until-free (drop from piece)) st (gathers .holds (m .pending) (st .line-is))
+
+  pub piece-ends : (out : List ℕ) → length piece ≤ g .end → Takes m (stretch piece from (length piece)) areas later out out gathered
   piece-ends out h =
-      subst
-      (λ (bytes : List ℕ). Takes m bytes areas later out out (record { stage = at .stage; number = at .number; length = g .length; over = g .over; from = length piece; printed = 0 }))
+      subst (λ (bytes : List ℕ). Takes m bytes areas later out out gathered)
       (sym (stretch-end piece from inside (omega (arith, gathers .place))))
-      (record { stands = goes-until (length piece); text-is = nothing-printed m out (untilFeed (drop from piece)) (until-free (drop from piece)) })
+      (record { stands = goes-until; text-is = nothing-printed m out (untilFeed (drop from piece)) (until-free (drop from piece)) })
 
-  pub line-ends : (areas' : Areas) (out after : List ℕ) (r : Place) (next : ℕ) → g .end < length piece → r .from ≡ g .end + 1
-      → ((n : Midway) → Stands n areas later (record { stage = at .stage; number = at .number; length = g .length; over = g .over; from = next; printed = 0 })
-      → Takes n (lineFeed ∷ []) areas' later out after r)
+  pub line-ends : (areas' : Areas) (out after : List ℕ) (r : Place) → g .end < length piece → r .from ≡ g .end + 1
+      → ((n : Midway) → Stands n areas later gathered → Takes n (lineFeed ∷ []) areas' later out after r)
       → Takes m (stretch piece from (r .from)) areas' later out after r
-  line-ends areas' out after r next h e step =
+  line-ends areas' out after r h e step =
       let line : List ℕ = untilFeed (drop from piece) in
-      subst
-      (λ (bytes : List ℕ). Takes m bytes areas' later out after r)
+      subst (λ (bytes : List ℕ). Takes m bytes areas' later out after r)
       (sym (ap (stretch piece from) (e ∙ ap (λ n. n + 1) (gathers .place)) ∙ stretch-feed piece from inside (omega (arith, gathers .place))))
-      (takes-both m line (lineFeed ∷ []) (until-free (drop from piece)) (step (fed m line) (goes-until next)))
+      (takes-both m line (lineFeed ∷ []) (until-free (drop from piece)) (step (fed m line) goes-until))
 
 -- whether there is a last line
 some-last : (lines : ℕ) (line : List ℕ) → 0 < length line → lastOf lines line ≡ line ∷ []

@@ -104,26 +104,18 @@ pub fn take_line(
     };
     let more = yard_lines::gather(area, held, piece, from);
     let stage = at.stage;
-    let number = at.number;
-    if piece.len() <= more.end {
-        return Place {
-            stage,
-            number,
-            length: more.length,
-            over: more.over,
-            from: piece.len(),
-            printed: 0,
-        };
-    }
-    let ending = Place {
+    let gathered = Place {
         stage,
-        number,
+        number: at.number,
         length: more.length,
         over: more.over,
-        from,
+        from: piece.len(),
         printed: 0,
     };
-    end_line(table, work, result, out, area, ending, more.end + 1)
+    if piece.len() <= more.end {
+        return gathered;
+    }
+    end_line(table, work, result, out, area, gathered, more.end + 1)
 }
 
 // After the last line feed there is a line where there is a byte; no line at all is an empty first line.

@@ -7,15 +7,6 @@ use Rattle.add.proofs.Refusing.{refused-call, accepted-call}
 use Rattle.add.proofs.add.Statement.{statement}
 use Rattle.add.proofs.add.Tie as tie
 
-add-refusal-requires : tie.Need-add-refusal-requires
-add-refusal-requires c κs = search needs
-
-same-length : tie.Need-same-length
-same-length c = search needs
-
-same-length-2 : tie.Need-same-length-2
-same-length-2 c = search needs
-
 returns : tie.Need-returns
 returns c =
     let a = c .before .before .before .before .args in
@@ -29,15 +20,6 @@ order-in-requires c κs =
     let e = sym (c .before .before .add-refusal .ensures) ∙ c .before .if1 .left in
     framed-rows (changeable (a .work .now) (a .table .now) (add-accepted (a .table .now) (a .work .now) (a .tag) (a .profile) e .0) .passed .framed)
 
-put-in-requires : tie.Need-put-in-requires
-put-in-requires c κs = search needs
-
-same-length-3 : tie.Need-same-length-3
-same-length-3 c = search needs
-
-same-length-4 : tie.Need-same-length-4
-same-length-4 c = search needs
-
 returns-2 : tie.Need-returns-2
 returns-2 c =
     let a = c .before .before .before .before .before .before .before .before .before .before .before .args in
@@ -49,12 +31,8 @@ pub add-spec : {M : Type 1} → statement M
 add-spec =
     tie.close
     (tie.spec
-    add-refusal-requires
-    same-length
-    same-length-2
+    (λ c κs. search needs) (λ c. search needs) (λ c. search needs)
     returns
     order-in-requires
-    put-in-requires
-    same-length-3
-    same-length-4
+    (λ c κs. search needs) (λ c. search needs) (λ c. search needs)
     returns-2)

@@ -40,25 +40,16 @@ good-tag c = sym (c .before .valid-tag .ensures) ∙ not-false (c .before .valid
 good-measures : (c : tie.Else3) → validMeasures (c .before .before .before .before .before .before .args .profile) ≡ true
 good-measures c = sym (c .before .valid-measures .ensures) ∙ not-false (c .before .valid-measures .result) (c .if3 .left)
 
-change-refusal-requires : tie.Need-change-refusal-requires
-change-refusal-requires c κs = search needs
-
 returns : tie.Need-returns
 returns c =
     let a = c .before .before .args in
     let f = c .before .change-refusal in
     refused-first (a .table .now) (a .work .now) (a .tag) (a .profile) (f .result) (first (c .before .before) (f .result) (f .ensures)) (c .if1 .taken)
 
-valid-tag-requires : tie.Need-valid-tag-requires
-valid-tag-requires c κs = search needs
-
 returns-2 : tie.Need-returns-2
 returns-2 c =
     let a = c .before .before .before .before .args in
     refused-tag (a .table .now) (a .work .now) (a .tag) (a .profile) (past-first (c .before .before)) (bad-tag c)
-
-valid-measures-requires : tie.Need-valid-measures-requires
-valid-measures-requires c κs = search needs
 
 returns-3 : tie.Need-returns-3
 returns-3 c =
@@ -84,9 +75,6 @@ live-total-requires c κs =
       omega (arith, sizes-inside (orderOf t) (o .result .t) (omega (arith, o .ensures)), p .framed .long),
     )
 
-last-refusal-requires : tie.Need-last-refusal-requires
-last-refusal-requires c κs = search needs
-
 returns-4 : tie.Need-returns-4
 returns-4 c =
     let a = c .before .before .before .before .before .before .before .before .before .before .before .args in
@@ -102,15 +90,15 @@ pub add-refusal-spec : {M : Type 1} → statement M
 add-refusal-spec =
     tie.close
     (tie.spec
-    change-refusal-requires
+    (λ c κs. search needs)
     returns
-    valid-tag-requires
+    (λ c κs. search needs)
     returns-2
-    valid-measures-requires
+    (λ c κs. search needs)
     returns-3
     is-live-tag-requires
     order-in-requires
     work-rows-requires
     live-total-requires
-    last-refusal-requires
+    (λ c κs. search needs)
     returns-4)

@@ -6,9 +6,6 @@ use Rattle.add.specs.LastStop.{lastStop}
 use Rattle.add.proofs.last_refusal.Statement.{statement}
 use Rattle.add.proofs.last_refusal.Tie as tie
 
-returns : tie.Need-returns
-returns c = search needs
-
 returns-2 : tie.Need-returns-2
 returns-2 c = sym (ap₂ lastStop (c .before .if1 .left) (not-true _ (c .if2 .taken)))
 
@@ -16,4 +13,4 @@ returns-3 : tie.Need-returns-3
 returns-3 c = sym (ap₂ lastStop (c .before .if1 .left) (not-false _ (c .if2 .left)))
 
 pub last-refusal-spec : {M : Type 1} → statement M
-last-refusal-spec = tie.close (tie.spec returns returns-2 returns-3)
+last-refusal-spec = tie.close (tie.spec (λ c. search needs) returns-2 returns-3)

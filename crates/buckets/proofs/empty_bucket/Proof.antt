@@ -16,29 +16,14 @@ use Rattle.buckets.proofs.empty_bucket.Tie as tie
 inside : (c : tie.Start) → firstSlot (c .args .order .t) (c .args .k) + room (c .args .k) ≤ length (c .args .table .now)
 inside c = room-inside (c .pre .0) (c .args .k) (c .pre .1)
 
-first-slot-requires : tie.Need-first-slot-requires
-first-slot-requires c κs = search needs
-
-room-requires : tie.Need-room-requires
-room-requires c κs = search needs
-
 add-end : tie.Need-add-end
 add-end c = omega (arith, inside (c .before .before))
 
 mul-zero-rows : tie.Need-mul-zero-rows
 mul-zero-rows c = omega (arith, inside (c .before .before))
 
-sub-zero-rows : tie.Need-sub-zero-rows
-sub-zero-rows c = search needs
-
-part-zero-rows-start : tie.Need-part-zero-rows-start
-part-zero-rows-start c = search needs
-
 part-zero-rows-end : tie.Need-part-zero-rows-end
 part-zero-rows-end c = omega (arith, inside (c .before .before))
-
-zero-rows-requires : tie.Need-zero-rows-requires
-zero-rows-requires c κs = search needs
 
 put-sizes-requires : tie.Need-put-sizes-requires
 put-sizes-requires c κs =
@@ -47,9 +32,6 @@ put-sizes-requires c κs =
     let first : ℕ = c .before .before .before .before .before .first-slot .result in
     let size : ℕ = c .before .before .before .before .room .result in
     omega (arith, same-len-mid first (first + size - first) (s .args .table .now) (z .last .0) (z .kept .0), sizes-inside (s .pre .0) (s .args .k) (s .pre .1))
-
-same-length : tie.Need-same-length
-same-length c = search needs
 
 returns : tie.Need-returns
 returns c =
@@ -68,14 +50,12 @@ pub empty-bucket-spec : {M : Type 1} → statement M
 empty-bucket-spec =
     tie.close
     (tie.spec
-    first-slot-requires
-    room-requires
+    (λ c κs. search needs) (λ c κs. search needs)
     add-end
     mul-zero-rows
-    sub-zero-rows
-    part-zero-rows-start
+    (λ c. search needs) (λ c. search needs)
     part-zero-rows-end
-    zero-rows-requires
+    (λ c κs. search needs)
     put-sizes-requires
-    same-length
+    (λ c. search needs)
     returns)

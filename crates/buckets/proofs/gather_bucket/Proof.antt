@@ -18,26 +18,14 @@ use Rattle.buckets.proofs.gather_bucket.Tie as tie
 inside : (c : tie.Start) → firstSlot (c .args .order .t) (c .args .k) + builtOf (c .args .table .now) (c .args .k) ≤ length (c .args .table .now)
 inside c = omega (arith, c .pre .2, room-inside (c .pre .0) (c .args .k) (c .pre .1))
 
-first-slot-requires : tie.Need-first-slot-requires
-first-slot-requires c κs = search needs
-
 built-of-requires : tie.Need-built-of-requires
 built-of-requires c κs = sizes-inside (c .before .pre .0) (c .before .args .k) (c .before .pre .1)
-
-cast-end : tie.Need-cast-end
-cast-end c = search needs
 
 add-end : tie.Need-add-end
 add-end c = omega (arith, inside (c .before .before))
 
 mul-gather-live : tie.Need-mul-gather-live
 mul-gather-live c = omega (arith, inside (c .before .before .before))
-
-sub-gather-live : tie.Need-sub-gather-live
-sub-gather-live c = search needs
-
-part-gather-live-start : tie.Need-part-gather-live-start
-part-gather-live-start c = search needs
 
 part-gather-live-end : tie.Need-part-gather-live-end
 part-gather-live-end c = omega (arith, inside (c .before .before .before))
@@ -49,9 +37,6 @@ gather-live-requires c κs =
     subst⁻¹ (λ (rows : List Row). s .args .n + length (select isLive rows) ≤ length (s .args .work .now))
     (lent-slots (s .pre .0) (s .args .k) (c .before .before .before .first-slot .result) (c .before .before .built-of .result) (c .before .before .before .first-slot .ensures) (c .before .before .built-of .ensures))
     (s .pre .3)
-
-same-length : tie.Need-same-length
-same-length c = search needs
 
 returns : tie.Need-returns
 unfolding liveSlots
@@ -68,14 +53,13 @@ pub gather-bucket-spec : {M : Type 1} → statement M
 gather-bucket-spec =
     tie.close
     (tie.spec
-    first-slot-requires
+    (λ c κs. search needs)
     built-of-requires
-    cast-end
+    (λ c. search needs)
     add-end
     mul-gather-live
-    sub-gather-live
-    part-gather-live-start
+    (λ c. search needs) (λ c. search needs)
     part-gather-live-end
     gather-live-requires
-    same-length
+    (λ c. search needs)
     returns)

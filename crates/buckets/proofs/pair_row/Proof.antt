@@ -6,15 +6,9 @@ use Rattle.bucket_rules.specs.Table.{pairRow}
 use Rattle.buckets.proofs.pair_row.Statement.{statement}
 use Rattle.buckets.proofs.pair_row.Tie as tie
 
-array-write-row : tie.Need-array-write-row
-array-write-row c = search needs
-
-array-write-row-2 : tie.Need-array-write-row-2
-array-write-row-2 c = search needs
-
 returns : tie.Need-returns
 unfolding pairRow zeroRow
 returns c = refl
 
 pub pair-row-spec : {M : Type 1} → statement M
-pair-row-spec = tie.close (tie.spec array-write-row array-write-row-2 returns)
+pair-row-spec = tie.close (tie.spec (λ c. search needs) (λ c. search needs) returns)

@@ -8,21 +8,6 @@ use Rattle.bucket_rules.specs.Table.{putSizes}
 use Rattle.buckets.proofs.put_sizes.Statement.{statement}
 use Rattle.buckets.proofs.put_sizes.Tie as tie
 
-pair-row-requires : tie.Need-pair-row-requires
-pair-row-requires c κs = search needs
-
-sizes-row-requires : tie.Need-sizes-row-requires
-sizes-row-requires c κs = search needs
-
-mul-t7 : tie.Need-mul-t7
-mul-t7 c = search needs
-
-slice-set-from-table : tie.Need-slice-set-from-table
-slice-set-from-table c = search needs
-
-same-length : tie.Need-same-length
-same-length c = search needs
-
 returns : tie.Need-returns
 unfolding putSizes
 returns c = ap₂ (λ (i : ℕ) (row : Row). set (c .before .before .args .table .now) i row) (c .sizes-row .ensures) (c .before .pair-row .ensures)
@@ -30,4 +15,4 @@ returns c = ap₂ (λ (i : ℕ) (row : Row). set (c .before .before .args .table
 pub put-sizes-spec : {M : Type 1} → statement M
 put-sizes-spec =
     tie.close
-    (tie.spec pair-row-requires sizes-row-requires mul-t7 slice-set-from-table same-length returns)
+    (tie.spec (λ c κs. search needs) (λ c κs. search needs) (λ c. search needs) (λ c. search needs) (λ c. search needs) returns)

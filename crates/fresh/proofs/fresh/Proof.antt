@@ -29,18 +29,6 @@ metric-told c = sym (c .before .valid-metric .ensures) ∙ not-false (c .before 
 rows-told : (c : tie.After-table-rows) → c .table-rows .result ≡ tableRows (c .before .before .before .before .before .before .before .args .order)
 rows-told c = c .table-rows .ensures ∙ ap tableRows (order-is (c .before .before .before .before) .0)
 
-new-requires : tie.Need-new-requires
-new-requires c κs = search needs
-
-enum-told : tie.Need-enum-told
-enum-told c = search needs
-
-enum-known-valid : tie.Need-enum-known-valid
-enum-known-valid c = search needs
-
-valid-metric-requires : tie.Need-valid-metric-requires
-valid-metric-requires c κs = search needs
-
 returns : tie.Need-returns
 returns c =
     let v = c .before .before .before in
@@ -66,9 +54,6 @@ returns-3 c =
     let a = c .before .before .before .args in
     order-refused (a .order) (record { metric = a .metric }) (a .table .now) (no-order (a .order) (ap answerOf (sym (c .enum-told .given .1)) ∙ c .before .before .new .ensures))
 
-same-length : tie.Need-same-length
-same-length c = search needs
-
 returns-4 : tie.Need-returns-4
 returns-4 c =
     let r = c .before .before .before .before in
@@ -82,14 +67,11 @@ pub fresh-spec : {M : Type 1} → statement M
 fresh-spec =
     tie.close
     (tie.spec
-    new-requires
-    enum-told
-    enum-known-valid
-    valid-metric-requires
+    (λ c κs. search needs) (λ c. search needs) (λ c. search needs) (λ c κs. search needs)
     returns
     table-rows-requires
     returns-2
     write-fresh-requires
     returns-3
-    same-length
+    (λ c. search needs)
     returns-4)

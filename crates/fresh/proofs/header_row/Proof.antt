@@ -8,15 +8,9 @@ use borrow.Author.Needs.{needs}
 use Rattle.fresh.proofs.header_row.Statement.{statement}
 use Rattle.fresh.proofs.header_row.Tie as tie
 
-array-write-row : tie.Need-array-write-row
-array-write-row c = search needs
-
-array-write-row-2 : tie.Need-array-write-row-2
-array-write-row-2 c = search needs
-
 returns : tie.Need-returns
 unfolding headerOf zeroRow metricAt
 returns c = refl
 
 pub header-row-spec : {M : Type 1} → statement M
-header-row-spec = tie.close (tie.spec array-write-row array-write-row-2 returns)
+header-row-spec = tie.close (tie.spec (λ c. search needs) (λ c. search needs) returns)

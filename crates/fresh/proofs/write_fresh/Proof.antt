@@ -11,23 +11,8 @@ use borrow.Author.Needs.{needs}
 use Rattle.fresh.proofs.write_fresh.Statement.{statement}
 use Rattle.fresh.proofs.write_fresh.Tie as tie
 
-slice-relend-prefix-zero-rows : tie.Need-slice-relend-prefix-zero-rows
-slice-relend-prefix-zero-rows c = search needs
-
 slice-aggregate-zero-rows : tie.Need-slice-aggregate-zero-rows
 slice-aggregate-zero-rows c = omega (arith, length-take (c .before .args .rows) (c .before .args .table .now))
-
-zero-rows-requires : tie.Need-zero-rows-requires
-zero-rows-requires c κs = search needs
-
-header-row-requires : tie.Need-header-row-requires
-header-row-requires c κs = search needs
-
-slice-set-from-table : tie.Need-slice-set-from-table
-slice-set-from-table c = search needs
-
-same-length : tie.Need-same-length
-same-length c = search needs
 
 returns : tie.Need-returns
 returns c =
@@ -41,10 +26,7 @@ pub write-fresh-spec : {M : Type 1} → statement M
 write-fresh-spec =
     tie.close
     (tie.spec
-    slice-relend-prefix-zero-rows
+    (λ c. search needs)
     slice-aggregate-zero-rows
-    zero-rows-requires
-    header-row-requires
-    slice-set-from-table
-    same-length
+    (λ c κs. search needs) (λ c κs. search needs) (λ c. search needs) (λ c. search needs)
     returns)

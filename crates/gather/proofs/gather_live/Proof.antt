@@ -11,7 +11,8 @@ use lib.ListN.{length, take, set, getD, length-append, length-set}
 use lib.Seq.{sets, take-all}
 use Rattle.metric_rules.specs.Lists.{select}
 use Rattle.metric_rules.specs.Row.{Row, isLive}
-use Rattle.gather.proofs.Stored.{sets-then, selected-next, passed-over, selected-within}
+use Rattle.tree_rules.proofs.Stores.{sets-more}
+use Rattle.gather.proofs.Selected.{selected-next, passed-over, selected-within}
 use Rattle.gather.proofs.gather_live.Statement.{statement}
 use Rattle.gather.proofs.gather_live.Tie as tie
 
@@ -35,7 +36,7 @@ module _ (work₀ : List Row) (n : ℕ) (slots work : List Row) (end i : ℕ) (s
         omega arith,
         omega (arith, ap length e, length-append (lives slots i) (x ∷ [])),
         simp length-set (s .2),
-        ap (λ (w : List Row). set w end x) (s .3) ∙ sets-then (lives slots i) work₀ n end (x ∷ []) (s .1) ∙ ap (sets work₀ n) (sym e),
+        ap (λ (w : List Row). set w end x) (s .3) ∙ sets-more work₀ n end (lives slots i) (x ∷ []) (s .1) ∙ ap (sets work₀ n) (sym e),
       )
 
   left-out : isLive (getD slots i []) ≡ false → State work₀ n slots work end (i + 1)
@@ -62,9 +63,6 @@ mul-row c = omega arith
 
 shared-slice-copy-out-row : tie.Need-shared-slice-copy-out-row Inv-loop μ-loop
 shared-slice-copy-out-row c = omega arith
-
-is-live-requires : tie.Need-is-live-requires Inv-loop μ-loop
-is-live-requires c κs = search needs
 
 room-here : (c : tie.Then1 Inv-loop μ-loop) → c .before .before .before .before .loop .end < length (c .before .before .before .before .loop .work)
 room-here c =
@@ -117,7 +115,7 @@ gather-live-spec =
     loop-holds
     mul-row
     shared-slice-copy-out-row
-    is-live-requires
+    (λ c κs. search needs)
     mul-row-2
     slice-set-from-row
     add-end

@@ -22,12 +22,6 @@ abbrev μ-loop : tie.MeasureT-loop
 loop-holds : tie.Need-loop-holds Inv-loop μ-loop
 loop-holds c = (omega arith, refl, refl)
 
-slot-in-requires : tie.Need-slot-in-requires Inv-loop μ-loop
-slot-in-requires c κs = search needs
-
-tag-of-requires : tie.Need-tag-of-requires Inv-loop μ-loop
-tag-of-requires c κs = search needs
-
 tag-entry-requires : tie.Need-tag-entry-requires Inv-loop μ-loop
 tag-entry-requires c κs = let a = c .before .before .before .before .before .before .args in
     let l = c .before .before .before .before .loop in
@@ -35,18 +29,6 @@ tag-entry-requires c κs = let a = c .before .before .before .before .before .be
     let h : l .i < a .at .count = omega arith in
     let tag : c .tag-of .result ≡ tagOf (slotIn (a .image .now) (a .at) (l .i)) = c .tag-of .ensures ∙ ap tagOf (c .before .slot-in .ensures) in
     (subst (λ (t : ℕ). t < 2 ^ 50) (sym tag) (p .3 (l .i) h), omega (arith, p .1))
-
-mul-t9 : tie.Need-mul-t9 Inv-loop μ-loop
-mul-t9 c = search needs
-
-slice-set-from-entries : tie.Need-slice-set-from-entries Inv-loop μ-loop
-slice-set-from-entries c = search needs
-
-add-i : tie.Need-add-i Inv-loop μ-loop
-add-i c = search needs
-
-loop-less : tie.Need-loop-less Inv-loop μ-loop
-loop-less c = search needs
 
 loop-again : tie.Need-loop-again Inv-loop μ-loop
 loop-again c = let a = c .before .before .before .before .before .before .before .args in
@@ -62,9 +44,6 @@ loop-again c = let a = c .before .before .before .before .before .before .before
           (l .entries) (c .tag-entry .result) (l .i) (omega (arith, p .2)) (l .inv .2) (is ∙ sym (slot-entry-at slot (a .at .count) (l .i) h)),
     )
 
-same-length : tie.Need-same-length Inv-loop μ-loop
-same-length c = search needs
-
 returns : tie.Need-returns Inv-loop μ-loop
 returns c = let a = c .before .before .before .before .args in
     let l = c .before .before .loop in
@@ -79,13 +58,9 @@ enter-slots-spec =
     Inv-loop
     μ-loop
     loop-holds
-    slot-in-requires
-    tag-of-requires
+    (λ c κs. search needs) (λ c κs. search needs)
     tag-entry-requires
-    mul-t9
-    slice-set-from-entries
-    add-i
-    loop-less
+    (λ c. search needs) (λ c. search needs) (λ c. search needs) (λ c. search needs)
     loop-again
-    same-length
+    (λ c. search needs)
     returns)

@@ -2,19 +2,16 @@
 use borrow.Author.Needs.{needs}
 use native.Mathlib.Omega.{arith}
 use Rattle.image_entries.specs.InImage.{slotIn}
-use Rattle.image_entries.proofs.Reading.{slots-few}
+use Rattle.image_read.proofs.Slots.{few-slots}
 use Rattle.image_entries.proofs.slot_in.Statement.{statement}
 use Rattle.image_entries.proofs.slot_in.Tie as tie
 
 add-row-in : tie.Need-add-row-in
-add-row-in c = omega (arith, c .before .before .pre .0 .within, c .before .before .pre .1, slots-few (c .before .before .pre .0 .places))
-
-row-in-requires : tie.Need-row-in-requires
-row-in-requires c κs = search needs
+add-row-in c = omega (arith, c .before .before .pre .0 .within, c .before .before .pre .1, few-slots (c .before .before .pre .0 .places))
 
 returns : tie.Need-returns
 unfolding slotIn
 returns c = search needs
 
 pub slot-in-spec : {M : Type 1} → statement M
-slot-in-spec = tie.close (tie.spec add-row-in row-in-requires returns)
+slot-in-spec = tie.close (tie.spec add-row-in (λ c κs. search needs) returns)

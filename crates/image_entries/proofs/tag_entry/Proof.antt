@@ -7,9 +7,6 @@ use Rattle.image_entries.specs.Entries.{places, tagEntry}
 use Rattle.image_entries.proofs.tag_entry.Statement.{statement}
 use Rattle.image_entries.proofs.tag_entry.Tie as tie
 
-mul-t3 : tie.Need-mul-t3
-mul-t3 c = search needs
-
 add-t5 : tie.Need-add-t5
 unfolding places
 add-t5 c = omega (arith, c .pre .0, c .pre .1)
@@ -19,4 +16,4 @@ unfolding tagEntry entry places
 returns c = refl
 
 pub tag-entry-spec : {M : Type 1} → statement M
-tag-entry-spec = tie.close (tie.spec mul-t3 add-t5 returns)
+tag-entry-spec = tie.close (tie.spec (λ c. search needs) add-t5 returns)

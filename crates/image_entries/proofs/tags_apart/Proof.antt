@@ -53,38 +53,14 @@ Inv-loop entries i₀ i = (i ≤ length entries) × (distinct (drop i (map entry
 abbrev μ-loop : tie.MeasureT-loop
 μ-loop entries i₀ i = length entries - i
 
-sort-entries-requires : tie.Need-sort-entries-requires Inv-loop μ-loop
-sort-entries-requires c κs = search needs
-
 loop-holds : tie.Need-loop-holds Inv-loop μ-loop
 loop-holds c = (omega arith, refl)
-
-add-loop : tie.Need-add-loop Inv-loop μ-loop
-add-loop c = search needs
-
-mul-if1 : tie.Need-mul-if1 Inv-loop μ-loop
-mul-if1 c = search needs
-
-index-1-if1 : tie.Need-index-1-if1 Inv-loop μ-loop
-index-1-if1 c = search needs
-
-index-2-if1 : tie.Need-index-2-if1 Inv-loop μ-loop
-index-2-if1 c = search needs
-
-add-if1 : tie.Need-add-if1 Inv-loop μ-loop
-add-if1 c = search needs
 
 mul-if1-2 : tie.Need-mul-if1-2 Inv-loop μ-loop
 mul-if1-2 c = omega arith
 
 index-1-if1-2 : tie.Need-index-1-if1-2 Inv-loop μ-loop
 index-1-if1-2 c = omega arith
-
-index-2-if1-2 : tie.Need-index-2-if1-2 Inv-loop μ-loop
-index-2-if1-2 c = search needs
-
-same-length : tie.Need-same-length Inv-loop μ-loop
-same-length c = search needs
 
 returns : tie.Need-returns Inv-loop μ-loop
 returns c = let es : List Entry = c .before .before .before .before .before .before .before .before .args .entries .now in
@@ -93,21 +69,12 @@ returns c = let es : List Entry = c .before .before .before .before .before .bef
     let sorted : s ≡ ordered es = sorted-is es s (c .before .before .before .before .before .before .before .before .pre) (c .before .before .before .before .before .before .sort-entries .ensures) in
     (sym (sorted-equal es s (c .before .before .before .before .before .before .before .before .pre) sorted (l .i) (omega arith) (l .inv .1) (c .if1 .taken)), sorted)
 
-add-i : tie.Need-add-i Inv-loop μ-loop
-add-i c = search needs
-
-loop-less : tie.Need-loop-less Inv-loop μ-loop
-loop-less c = search needs
-
 loop-again : tie.Need-loop-again Inv-loop μ-loop
 loop-again c = let es : List Entry = c .before .before .before .before .before .before .before .before .args .entries .now in
     let s : List Entry = c .before .before .before .before .before .before .sort-entries .last .0 in
     let l = c .before .before .before .before .loop in
     let sorted : s ≡ ordered es = sorted-is es s (c .before .before .before .before .before .before .before .before .pre) (c .before .before .before .before .before .before .sort-entries .ensures) in
     (omega arith, sorted-apart es s (c .before .before .before .before .before .before .before .before .pre) sorted (l .i) (omega arith) (l .inv .1) (c .if1 .left))
-
-same-length-2 : tie.Need-same-length-2 Inv-loop μ-loop
-same-length-2 c = search needs
 
 returns-2 : tie.Need-returns-2 Inv-loop μ-loop
 returns-2 c = let es : List Entry = c .before .before .before .before .before .args .entries .now in
@@ -122,20 +89,14 @@ tags-apart-spec =
     (tie.spec
     Inv-loop
     μ-loop
-    sort-entries-requires
+    (λ c κs. search needs)
     loop-holds
-    add-loop
-    mul-if1
-    index-1-if1
-    index-2-if1
-    add-if1
+    (λ c. search needs) (λ c. search needs) (λ c. search needs) (λ c. search needs) (λ c. search needs)
     mul-if1-2
     index-1-if1-2
-    index-2-if1-2
-    same-length
+    (λ c. search needs) (λ c. search needs)
     returns
-    add-i
-    loop-less
+    (λ c. search needs) (λ c. search needs)
     loop-again
-    same-length-2
+    (λ c. search needs)
     returns-2)

@@ -10,7 +10,7 @@ use Rattle.metric_rules.specs.Lists.{total, countFrom, every}
 use Rattle.bucket_rules.specs.Geometry.{bucketsOf}
 use Rattle.bucket_rules.proofs.Buckets.{bucketsFrom, buckets-all, bucket-fails, bucket-passes, buckets-pass}
 use Rattle.image_rules.specs.Bytes.{headerFields, headerBytes, sizesEnd}
-use Rattle.image_rules.specs.Read.{orderIn, builtIn, liveIn, slotsBefore, rowIn, bucketIn}
+use Rattle.image_rules.specs.Read.{liveIn, slotsBefore, rowIn, bucketIn}
 use Rattle.image_fields.specs.SlotsRead.{slotsRead}
 use Rattle.image_read.proofs.Slots.{pair-inside, few-slots, sizes-within, bucket-inside, before-more}
 use Rattle.image_fields.proofs.buckets_read.Statement.{statement}

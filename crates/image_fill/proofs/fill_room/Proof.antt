@@ -1,9 +1,8 @@
 -- `image_fill::fill_room` meets its contract. The loop's invariant: the first i rows are those of the room.
 use Prim.Native.Nat.{ℕ, _+_, _-_, _≤_}
-use mathlib.Core.Path.{_≡_, refl, sym, _∙_, ap}
+use mathlib.Core.Path.{_≡_, refl, sym, _∙_}
 use mathlib.Core.List.{List, [], _++_, map}
 use native.Mathlib.Omega.{arith}
-use borrow.Author.Needs.{needs}
 use lib.ListN.{length, getD, replicate, length-append, length-replicate, length-set}
 use lib.Seq.{paste}
 use Rattle.metric_rules.specs.Lists.{countFrom}

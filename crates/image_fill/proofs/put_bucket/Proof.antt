@@ -1,6 +1,6 @@
 -- `image_fill::put_bucket` meets its contract: the room given back with the slots and zeros, and the sizes written, are the bucket put.
 use Prim.Native.Nat.{ℕ, _+_, _-_, _≤_}
-use mathlib.Core.Path.{_≡_, sym, _∙_, ap, ap₂}
+use mathlib.Core.Path.{_≡_, sym, _∙_, ap₂}
 use mathlib.Core.List.{List, _++_, map}
 use native.Mathlib.Omega.{arith}
 use borrow.Author.Needs.{needs}
@@ -87,13 +87,11 @@ pub put-bucket-spec : {M : Type 1} → statement M
 put-bucket-spec =
     tie.close
     (tie.spec
-    (λ c κs. search needs)
-    (λ c κs. search needs)
+    (λ c κs. search needs) (λ c κs. search needs)
     add-end
     built-in-requires
     mul-fill-room
-    (λ c. search needs)
-    (λ c. search needs)
+    (λ c. search needs) (λ c. search needs)
     part-fill-room-end
     (λ c. search needs)
     fill-room-requires

@@ -2,7 +2,6 @@
 use mathlib.Core.Path.{_∙_, sym}
 use mathlib.Core.List.{map}
 use native.Mathlib.Omega.{arith}
-use borrow.Author.Needs.{needs}
 use lib.ListN.{List·getD-eq-default}
 use Rattle.metric_rules.specs.Lists.{countFrom}
 use Rattle.metric_rules.specs.Row.{rowWidth, zeroRow}

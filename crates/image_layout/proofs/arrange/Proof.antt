@@ -10,18 +10,6 @@ use borrow.Author.Needs.{needs}
 use Rattle.image_layout.proofs.arrange.Statement.{statement}
 use Rattle.image_layout.proofs.arrange.Tie as tie
 
-least-at-requires : tie.Need-least-at-requires
-least-at-requires c κs = search needs
-
-bring-first-requires : tie.Need-bring-first-requires
-bring-first-requires c κs = search needs
-
-index-1-slot-in : tie.Need-index-1-slot-in
-index-1-slot-in c = search needs
-
-index-2-slot-in : tie.Need-index-2-slot-in
-index-2-slot-in c = search needs
-
 slot-in-requires : tie.Need-slot-in-requires
 unfolding entryPlace places
 slot-in-requires c κs = let s = c .before .before .before .before .before .before .before in
@@ -29,23 +17,11 @@ slot-in-requires c κs = let s = c .before .before .before .before .before .befo
     let b = c .before .before .bring-first in
     (s .pre .0, first-within (slotIn (s .args .image .now) (s .args .at)) (distance (spaceOf (s .args .header .now))) (s .args .at .count) (s .args .entries .now) (at .result) (at .ensures .0) (at .ensures .1) (s .pre .2) (b .last .0) (b .ensures))
 
-sub-sort-from : tie.Need-sub-sort-from
-sub-sort-from c = search needs
-
-part-sort-from-start : tie.Need-part-sort-from-start
-part-sort-from-start c = search needs
-
-part-sort-from-end : tie.Need-part-sort-from-end
-part-sort-from-end c = search needs
-
 sort-from-requires : tie.Need-sort-from-requires
 sort-from-requires c κs = let s = c .before .before .before .before .before .before .before .before .before in
     let at = c .before .before .before .before .before .before .least-at in
     let b = c .before .before .before .before .bring-first in
     (s .pre .0, rest-sound (slotIn (s .args .image .now) (s .args .at)) (distance (spaceOf (s .args .header .now))) (s .args .at .count) (s .args .entries .now) (at .result) (at .ensures .0) (at .ensures .1) (s .pre .2) (b .last .0) (b .ensures))
-
-same-length : tie.Need-same-length
-same-length c = search needs
 
 returns : tie.Need-returns
 unfolding entryPlace places
@@ -64,14 +40,9 @@ pub arrange-spec : {M : Type 1} → statement M
 arrange-spec =
     tie.close
     (tie.spec
-    least-at-requires
-    bring-first-requires
-    index-1-slot-in
-    index-2-slot-in
+    (λ c κs. search needs) (λ c κs. search needs) (λ c. search needs) (λ c. search needs)
     slot-in-requires
-    sub-sort-from
-    part-sort-from-start
-    part-sort-from-end
+    (λ c. search needs) (λ c. search needs) (λ c. search needs)
     sort-from-requires
-    same-length
+    (λ c. search needs)
     returns)

@@ -18,15 +18,9 @@ use borrow.Author.Needs.{needs}
 use Rattle.image_layout.proofs.bucket_stands.Statement.{statement}
 use Rattle.image_layout.proofs.bucket_stands.Tie as tie
 
-enter-slots-requires : tie.Need-enter-slots-requires
-enter-slots-requires c κs = search needs
-
 tags-apart-requires : tie.Need-tags-apart-requires
 tags-apart-requires c κs = let a = c .before .before .before .before .before .args in
     subst (All Fresh) (sym (c .before .before .enter-slots .ensures)) (entries-fresh (slotIn (a .image .now) (a .at)) (a .at .count))
-
-same-length : tie.Need-same-length
-same-length c = search needs
 
 returns : tie.Need-returns
 unfolding slotsAt
@@ -51,9 +45,6 @@ first-fault-requires c κs = let s = c .before .before .before .before .before .
           (b .ensures .0 ∙ ap (λ (l : List Entry). distinct (map entryTag l)) (e .ensures)) (not-false (b .result) (c .before .if1 .left)),
     )
 
-same-length-2 : tie.Need-same-length-2
-same-length-2 c = search needs
-
 returns-2 : tie.Need-returns-2
 unfolding slotsAt
 returns-2 c = let s = c .before .before .before .before .before .before .before .before .before .before .before .before in
@@ -71,10 +62,10 @@ pub bucket-stands-spec : {M : Type 1} → statement M
 bucket-stands-spec =
     tie.close
     (tie.spec
-    enter-slots-requires
+    (λ c κs. search needs)
     tags-apart-requires
-    same-length
+    (λ c. search needs)
     returns
     first-fault-requires
-    same-length-2
+    (λ c. search needs)
     returns-2)

@@ -14,29 +14,11 @@ use borrow.Author.Needs.{needs}
 use Rattle.image_layout.proofs.first_seated.Statement.{statement}
 use Rattle.image_layout.proofs.first_seated.Tie as tie
 
-index-1-if1 : tie.Need-index-1-if1
-index-1-if1 c = search needs
-
-index-2-if1 : tie.Need-index-2-if1
-index-2-if1 c = search needs
-
 returns : tie.Need-returns
 unfolding entryPlace places
 returns c = let a = c .before .before .before .args in
     sym (ap (λ (b : Bool). b && eqb (lastOf (take (length (a .entries .now) / 2) (drop 1 (a .entries .now)))) (thresholdOf (slotIn (a .image .now) (a .at) (a .place))))
     (ne-eqb (entryPlace (getD (a .entries .now) 0 [])) (a .place) (c .if1 .taken)))
-
-slot-in-requires : tie.Need-slot-in-requires
-slot-in-requires c κs = search needs
-
-threshold-of-requires : tie.Need-threshold-of-requires
-threshold-of-requires c κs = search needs
-
-last-distance-requires : tie.Need-last-distance-requires
-last-distance-requires c κs = search needs
-
-cast-result : tie.Need-cast-result
-cast-result c = search needs
 
 returns-2 : tie.Need-returns-2
 unfolding entryPlace places
@@ -49,11 +31,7 @@ pub first-seated-spec : {M : Type 1} → statement M
 first-seated-spec =
     tie.close
     (tie.spec
-    index-1-if1
-    index-2-if1
+    (λ c. search needs) (λ c. search needs)
     returns
-    slot-in-requires
-    threshold-of-requires
-    last-distance-requires
-    cast-result
+    (λ c κs. search needs) (λ c κs. search needs) (λ c κs. search needs) (λ c. search needs)
     returns-2)

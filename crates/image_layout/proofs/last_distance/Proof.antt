@@ -9,15 +9,6 @@ use Rattle.image_entries.proofs.Arranging.{last-entry}
 use Rattle.image_layout.proofs.last_distance.Statement.{statement}
 use Rattle.image_layout.proofs.last_distance.Tie as tie
 
-mul-result : tie.Need-mul-result
-mul-result c = search needs
-
-index-1-result : tie.Need-index-1-result
-index-1-result c = search needs
-
-index-2-result : tie.Need-index-2-result
-index-2-result c = search needs
-
 returns : tie.Need-returns
 unfolding lastOf
 returns c = ap (λ (l : ℕ). lastOf (take l (drop 1 (c .before .args .entries .now)))) (sym (c .if1 .taken))
@@ -28,4 +19,4 @@ returns-2 c = sym (last-entry (c .before .before .args .entries .now) (c .before
 
 pub last-distance-spec : {M : Type 1} → statement M
 last-distance-spec =
-    tie.close (tie.spec mul-result index-1-result index-2-result returns returns-2)
+    tie.close (tie.spec (λ c. search needs) (λ c. search needs) (λ c. search needs) returns returns-2)

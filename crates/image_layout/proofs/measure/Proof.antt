@@ -51,20 +51,11 @@ mul-word c = omega arith
 index-1-word : tie.Need-index-1-word Inv-loop μ-loop
 index-1-word c = omega arith
 
-index-2-word : tie.Need-index-2-word Inv-loop μ-loop
-index-2-word c = search needs
-
 slot-in-requires : tie.Need-slot-in-requires Inv-loop μ-loop
 slot-in-requires c κs = let a = c .before .before .before .before .args in
     let p = c .before .before .before .before .pre in
     let l = c .before .before .loop in
     (p .0, place-within (slotIn (a .image .now) (a .at)) (distance (spaceOf (a .header .now))) (a .v) (a .at .count) (a .entries .now) (l .entries) (l .i) (p .1) (omega arith) (l .inv .2))
-
-distance-between-requires : tie.Need-distance-between-requires Inv-loop μ-loop
-distance-between-requires c κs = search needs
-
-cast-t14 : tie.Need-cast-t14 Inv-loop μ-loop
-cast-t14 c = search needs
 
 mul-t9 : tie.Need-mul-t9 Inv-loop μ-loop
 mul-t9 c = omega arith
@@ -93,9 +84,6 @@ loop-again c = let a = c .before .before .before .before .before .before .args i
           (c .distance-between .ensures ∙ ap (λ (r : Row). dist (profileOf (a .v)) (profileOf r)) (c .before .slot-in .ensures))),
     )
 
-same-length : tie.Need-same-length Inv-loop μ-loop
-same-length c = search needs
-
 returns : tie.Need-returns Inv-loop μ-loop
 returns c = let a = c .before .before .before .args in
     let l = c .before .loop in
@@ -112,14 +100,13 @@ measure-spec =
     loop-holds
     mul-word
     index-1-word
-    index-2-word
+    (λ c. search needs)
     slot-in-requires
-    distance-between-requires
-    cast-t14
+    (λ c κs. search needs) (λ c. search needs)
     mul-t9
     slice-set-from-entries
     add-i
     loop-less
     loop-again
-    same-length
+    (λ c. search needs)
     returns)

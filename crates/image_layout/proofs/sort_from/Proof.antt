@@ -10,15 +10,6 @@ use borrow.Author.Needs.{needs}
 use Rattle.image_layout.proofs.sort_from.Statement.{statement}
 use Rattle.image_layout.proofs.sort_from.Tie as tie
 
-measure-requires : tie.Need-measure-requires
-measure-requires c κs = search needs
-
-sort-entries-requires : tie.Need-sort-entries-requires
-sort-entries-requires c κs = search needs
-
-same-length : tie.Need-same-length
-same-length c = search needs
-
 returns : tie.Need-returns
 unfolding measuredIn entry
 returns c = let a = c .before .before .before .before .before .before .before .args in
@@ -27,4 +18,4 @@ returns c = let a = c .before .before .before .before .before .before .before .a
     c .before .sort-entries .ensures (subst (All Pair) (sym measured) (all-map m Pair (a .entries .now) (all-always (λ e. refl) (a .entries .now)))) ∙ ap ordered measured
 
 pub sort-from-spec : {M : Type 1} → statement M
-sort-from-spec = tie.close (tie.spec measure-requires sort-entries-requires same-length returns)
+sort-from-spec = tie.close (tie.spec (λ c κs. search needs) (λ c κs. search needs) (λ c. search needs) returns)

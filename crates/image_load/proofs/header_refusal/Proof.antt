@@ -2,17 +2,16 @@
 use Prim.Native.Nat.{ℕ, _≤_}
 use mathlib.Core.Path.{_≡_, refl, sym, ap, _∙_}
 use mathlib.Core.Bool.{true, false}
-use native.Mathlib.Omega.{arith}
 use borrow.Author.Needs.{needs}
 use borrow.Author.Tests.{leb-true, leb-false, lt-ltb, le-ltb, eq-eqb, ne-eqb, not-true, not-false}
-use lib.Dec.{leb, ltb, eqb}
+use lib.Dec.{leb, ltb}
 use lib.ListN.{length}
 use Rattle.metric_rules.specs.Lists.{total}
 use Rattle.metric_rules.specs.Distance.{validSpace}
 use Rattle.bucket_rules.specs.Geometry.{validOrder}
 use Rattle.image_rules.specs.Bytes.{headerFields, headerBytes}
 use Rattle.image_rules.specs.Read.{orderIn, spaceIn, zerosIn}
-use Rattle.image_load.specs.Steps.{headBy, headerRefusal}
+use Rattle.image_load.specs.Steps.{headerBy, headerRefusal}
 use Rattle.image_load.proofs.header_refusal.Statement.{statement}
 use Rattle.image_load.proofs.header_refusal.Tie as tie
 
@@ -40,7 +39,7 @@ space-told : (c : tie.Else3) → validSpace (spaceIn (c .before .before .before 
 space-told c = space-tested (c .before) ∙ not-false (c .before .valid-metric .result) (c .if3 .left)
 
 returns : tie.Need-returns
-unfolding headerRefusal headBy headerBytes headerFields total
+unfolding headerRefusal headerBy headerBytes headerFields total
 returns c =
     let image = c .before .before .before .args .image .now in
     rw (lt-ltb (length image) 4 (leb-false 4 (length image) (long-tested (c .before) ∙ not-true (c .before .has-bytes .result) (c .if1 .taken)))) refl
@@ -49,7 +48,7 @@ order-in-requires : tie.Need-order-in-requires
 order-in-requires c κs = enough c
 
 returns-2 : tie.Need-returns-2
-unfolding headerRefusal headBy
+unfolding headerRefusal headerBy
 returns-2 c =
     rw (long-told (c .before .before .before), order-tested (c .before) ∙ not-true (c .before .is-order .result) (c .if2 .taken)) refl
 
@@ -57,7 +56,7 @@ metric-in-requires : tie.Need-metric-in-requires
 metric-in-requires c κs = enough (c .before .before .before)
 
 returns-3 : tie.Need-returns-3
-unfolding headerRefusal headBy
+unfolding headerRefusal headerBy
 returns-3 c =
     rw (long-told (c .before .before .before .before .before .before), order-told (c .before .before .before), space-tested (c .before) ∙ not-true (c .before .valid-metric .result) (c .if3 .taken)) refl
 
@@ -65,13 +64,13 @@ zeros-in-requires : tie.Need-zeros-in-requires
 zeros-in-requires c κs = enough (c .before .before .before .before .before .before)
 
 returns-4 : tie.Need-returns-4
-unfolding headerRefusal headBy
+unfolding headerRefusal headerBy
 returns-4 c =
     let image = c .before .before .before .before .before .before .before .before .before .before .before .args .image .now in
     rw (long-told (c .before .before .before .before .before .before .before .before), order-told (c .before .before .before .before .before), space-told (c .before .before), ne-eqb (zerosIn image) 0 (λ e. c .if4 .taken (c .before .zeros-in .ensures ∙ e))) refl
 
 returns-5 : tie.Need-returns-5
-unfolding headerRefusal headBy
+unfolding headerRefusal headerBy
 returns-5 c =
     let image = c .before .before .before .before .before .before .before .before .before .before .before .args .image .now in
     rw (long-told (c .before .before .before .before .before .before .before .before), order-told (c .before .before .before .before .before), space-told (c .before .before), eq-eqb (zerosIn image) 0 (sym (c .before .zeros-in .ensures) ∙ c .if4 .left)) refl

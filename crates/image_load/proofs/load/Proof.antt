@@ -1,21 +1,18 @@
 -- `image_load::load` meets its contract: nothing is written until every check has passed, and then the table is fresh with each bucket put.
-use Prim.Native.Nat.{ℕ, _+_, _*_, _≤_}
-use mathlib.Core.Path.{_≡_, refl, sym, ap, ap₂, _∙_}
-use mathlib.Core.List.{List, foldl}
+use Prim.Native.Nat.{ℕ, _≤_}
+use mathlib.Core.Path.{_≡_, sym, ap, ap₂, _∙_}
+use mathlib.Core.List.{foldl}
 use native.Mathlib.Omega.{arith}
 use borrow.Author.Needs.{needs}
 use lib.ListN.{length}
-use Rattle.metric_rules.specs.Lists.{total}
 use Rattle.bucket_rules.specs.Geometry.{bucketsOf}
 use Rattle.bucket_rules.specs.Table.{Table, putBucket}
-use Rattle.bucket_rules.specs.Checks.{sizesPass}
 use Rattle.bucket_rules.specs.Fresh.{freshTable, tableAfterFresh}
 use Rattle.bucket_rules.proofs.Buckets.{order-most}
-use Rattle.image_rules.specs.Bytes.{headerFields, headerBytes, sizesEnd, imageLength}
-use Rattle.image_rules.specs.Read.{orderIn, spaceIn, builtIn, liveIn, slotsIn, bucketIn}
+use Rattle.image_rules.specs.Bytes.{headerBytes, sizesEnd, imageLength}
+use Rattle.image_rules.specs.Read.{orderIn, spaceIn, liveIn, bucketIn}
 use Rattle.image_rules.specs.Load.{loadRefusal}
 use Rattle.image_rules.proofs.Accepting.{Accepted, accepted}
-use Rattle.buckets.specs.Lent.{Lent}
 use Rattle.image_load.proofs.Steps.{slots-few, places}
 use Rattle.image_load.proofs.Loading.{fresh-accepted, fresh-lent, load-puts, load-stops}
 use Rattle.image_load.proofs.load.Statement.{statement}
@@ -28,9 +25,9 @@ goes c = sym (c .before .load-refusal .ensures) ∙ c .if1 .left
 ok : (c : tie.Else1) → Accepted (length (c .before .before .before .args .table .now)) (c .before .before .before .args .image .now)
 ok c = accepted (length (c .before .before .before .args .table .now)) (c .before .before .before .args .image .now) (goes c)
 
-head-inside : (c : tie.Else1) → headerBytes ≤ length (c .before .before .before .args .image .now)
+header-inside : (c : tie.Else1) → headerBytes ≤ length (c .before .before .before .args .image .now)
 unfolding imageLength sizesEnd
-head-inside c = omega (arith, ok c .long)
+header-inside c = omega (arith, ok c .long)
 
 returns : tie.Need-returns
 returns c =
@@ -39,10 +36,10 @@ returns c =
     (r .ensures, load-stops (a .image .now) (a .table .now) (r .result) (r .ensures) (c .if1 .taken))
 
 order-in-requires : tie.Need-order-in-requires
-order-in-requires c κs = head-inside c
+order-in-requires c κs = header-inside c
 
 metric-in-requires : tie.Need-metric-in-requires
-metric-in-requires c κs = head-inside (c .before .before)
+metric-in-requires c κs = header-inside (c .before .before)
 
 slots-in-requires : tie.Need-slots-in-requires
 unfolding imageLength
@@ -107,8 +104,7 @@ load-spec =
     returns
     order-in-requires
     metric-in-requires
-    (λ c κs. search needs)
-    (λ c κs. search needs)
+    (λ c κs. search needs) (λ c κs. search needs)
     slots-in-requires
     mul-put-buckets
     add-put-buckets

@@ -1,22 +1,20 @@
 -- `image_load::load_refusal` meets its contract: the first step that refuses counts.
-use Prim.Native.Nat.{ℕ, _+_, _*_, _≤_}
-use mathlib.Core.Path.{_≡_, refl, sym, ap, _∙_}
-use mathlib.Core.Bool.{true, false}
+use Prim.Native.Nat.{ℕ, _≤_}
+use mathlib.Core.Path.{_≡_, sym, ap, _∙_}
 use native.Mathlib.Omega.{arith}
 use borrow.Author.Needs.{needs}
 use borrow.Author.Tests.{not-true, not-false}
-use lib.ListN.{length}
 use Rattle.image_rules.specs.Bytes.{sizesEnd, imageLength}
 use Rattle.image_rules.specs.Read.{orderIn}
 use Rattle.image_rules.specs.Load.{slotsPass, loadRefusal}
 use Rattle.image_load.specs.Steps.{headerRefusal, sizesRefusal}
-use Rattle.image_load.proofs.Steps.{slots-few, andThen, stop-first, slotsBy, load-steps, head-passed, sizes-passed, places}
+use Rattle.image_load.proofs.Steps.{slots-few, andThen, stop-first, slotsBy, load-steps, header-passed, sizes-passed, places}
 use Rattle.image_load.proofs.load_refusal.Statement.{statement}
 use Rattle.image_load.proofs.load_refusal.Tie as tie
 
 -- the steps that passed
-head-zero : (c : tie.Else1) → headerRefusal (c .before .before .before .args .image .now) ≡ 0
-head-zero c = sym (c .before .header-refusal .ensures) ∙ c .if1 .left
+header-zero : (c : tie.Else1) → headerRefusal (c .before .before .before .args .image .now) ≡ 0
+header-zero c = sym (c .before .header-refusal .ensures) ∙ c .if1 .left
 
 sizes-zero : (c : tie.Else2) → sizesRefusal (c .before .before .before .before .before .args .rows) (c .before .before .before .before .before .args .image .now) ≡ 0
 sizes-zero c = sym (c .before .sizes-refusal .ensures) ∙ c .if2 .left
@@ -29,7 +27,7 @@ returns c =
     sym (load-steps (a .rows) (a .image .now) ∙ ap (λ (n : ℕ). andThen n rest) (sym (h .ensures)) ∙ stop-first (h .result) rest (c .if1 .taken))
 
 sizes-refusal-requires : tie.Need-sizes-refusal-requires
-sizes-refusal-requires c κs = let p = head-passed (c .before .before .before .args .image .now) (head-zero c) in (p .1, p .0)
+sizes-refusal-requires c κs = let p = header-passed (c .before .before .before .args .image .now) (header-zero c) in (p .1, p .0)
 
 returns-2 : tie.Need-returns-2
 unfolding andThen
@@ -37,18 +35,18 @@ returns-2 c =
     let a = c .before .before .before .before .before .args in
     let z = c .before .sizes-refusal in
     sym (load-steps (a .rows) (a .image .now)
-    ∙ ap (λ (n : ℕ). andThen n (andThen (sizesRefusal (a .rows) (a .image .now)) (slotsBy (slotsPass (a .image .now))))) (head-zero (c .before .before))
+    ∙ ap (λ (n : ℕ). andThen n (andThen (sizesRefusal (a .rows) (a .image .now)) (slotsBy (slotsPass (a .image .now))))) (header-zero (c .before .before))
     ∙ ap (λ (n : ℕ). andThen n (slotsBy (slotsPass (a .image .now)))) (sym (z .ensures))
     ∙ stop-first (z .result) (slotsBy (slotsPass (a .image .now))) (c .if2 .taken))
 
 order-in-requires : tie.Need-order-in-requires
-order-in-requires c κs = head-passed (c .before .before .before .before .before .args .image .now) (head-zero (c .before .before)) .0
+order-in-requires c κs = header-passed (c .before .before .before .before .before .args .image .now) (header-zero (c .before .before)) .0
 
 slots-in-requires : tie.Need-slots-in-requires
 unfolding imageLength
 slots-in-requires c κs =
     let s = c .before .before .before .before .before .before .before in (
-      head-passed (s .args .image .now) (head-zero (c .before .before .before .before)) .1,
+      header-passed (s .args .image .now) (header-zero (c .before .before .before .before)) .1,
       omega (arith, sizes-passed (s .args .rows) (s .args .image .now) (sizes-zero (c .before .before)) .1),
     )
 
@@ -58,7 +56,7 @@ place c =
     let s = c .before .before .before .before .before .before .before .before in
     let image = s .args .image .now in (
       c .before .sizes-end .ensures ∙ ap sizesEnd (c .before .before .order-in .ensures),
-      omega (arith, c .slots-in .ensures, slots-few image (head-passed image (head-zero (c .before .before .before .before .before)) .1) (sizes-passed (s .args .rows) image (sizes-zero (c .before .before .before)) .0)),
+      omega (arith, c .slots-in .ensures, slots-few image (header-passed image (header-zero (c .before .before .before .before .before)) .1) (sizes-passed (s .args .rows) image (sizes-zero (c .before .before .before)) .0)),
     )
 
 mul-records : tie.Need-mul-records
@@ -74,7 +72,7 @@ slots-pass-requires : tie.Need-slots-pass-requires
 slots-pass-requires c κs =
     let s = c .before .before .before .before .before .before .before .before in
     let image = s .args .image .now in
-    let h = head-passed image (head-zero (c .before .before .before .before .before)) in
+    let h = header-passed image (header-zero (c .before .before .before .before .before)) in
     let z = sizes-passed (s .args .rows) image (sizes-zero (c .before .before .before)) in
     (places image (c .before .sizes-end .result) (c .slots-in .result) (z .1) (place c .0) (c .slots-in .ensures), h .1, h .0, z .0)
 
@@ -84,7 +82,7 @@ unfolding andThen
 slots-decide c =
     let a = c .before .before .before .before .before .before .before .before .before .args in
     load-steps (a .rows) (a .image .now)
-    ∙ ap (λ (n : ℕ). andThen n (andThen (sizesRefusal (a .rows) (a .image .now)) (slotsBy (slotsPass (a .image .now))))) (head-zero (c .before .before .before .before .before .before))
+    ∙ ap (λ (n : ℕ). andThen n (andThen (sizesRefusal (a .rows) (a .image .now)) (slotsBy (slotsPass (a .image .now))))) (header-zero (c .before .before .before .before .before .before))
     ∙ ap (λ (n : ℕ). andThen n (slotsBy (slotsPass (a .image .now)))) (sizes-zero (c .before .before .before .before))
     ∙ ap slotsBy (sym (c .slots-pass .ensures))
 

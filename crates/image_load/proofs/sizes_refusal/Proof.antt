@@ -1,16 +1,15 @@
 -- `image_load::sizes_refusal` meets its contract: each test in its order.
 use Prim.Native.Nat.{ℕ, _+_, _*_, _≤_}
 use mathlib.Core.Path.{_≡_, refl, sym, ap, _∙_}
-use mathlib.Core.Bool.{Bool, true, false}
+use mathlib.Core.Bool.{true}
 use native.Mathlib.Omega.{arith}
 use borrow.Author.Needs.{needs}
 use borrow.Author.Tests.{leb-true, leb-false, le-leb, lt-leb, eq-eqb, ne-eqb, not-true, not-false}
-use lib.Dec.{leb, eqb}
 use lib.ListN.{length}
 use Rattle.metric_rules.specs.Lists.{total}
 use Rattle.bucket_rules.specs.Geometry.{tableRows}
 use Rattle.bucket_rules.specs.Checks.{sizesPass}
-use Rattle.image_rules.specs.Bytes.{headerFields, tagFields, recordFields, headerBytes, tagBytes, recordBytes, sizeBytes, pairBytes, sizesEnd, imageLength}
+use Rattle.image_rules.specs.Bytes.{tagFields, recordFields, tagBytes, recordBytes, sizesEnd, imageLength}
 use Rattle.image_rules.specs.Read.{orderIn, builtIn, liveIn, slotsIn}
 use Rattle.image_load.specs.Steps.{sizesBy, sizesRefusal}
 use Rattle.image_load.proofs.Steps.{slots-few}
@@ -115,8 +114,7 @@ sizes-refusal-spec =
     tie.close
     (tie.spec
     order-in-requires
-    (λ c κs. search needs)
-    (λ c κs. search needs)
+    (λ c κs. search needs) (λ c κs. search needs)
     returns
     sizes-pass-requires
     returns-2

@@ -1,14 +1,12 @@
 -- `image_load::slots_pass` meets its contract: the slots one by one, and then tags and layouts, are all that is asked of them.
 use Prim.Native.Nat.{ℕ}
-use mathlib.Core.Path.{_≡_, refl, sym, ap, _∙_}
-use mathlib.Core.Bool.{Bool, true, _&&_}
+use mathlib.Core.Path.{_≡_, sym, ap, _∙_}
+use mathlib.Core.Bool.{Bool, _&&_}
 use borrow.Author.Needs.{needs}
 use borrow.Author.Tests.{not-true, not-false}
 use Rattle.metric_rules.specs.Lists.{every}
-use Rattle.metric_rules.specs.Row.{Row}
 use Rattle.metric_rules.specs.Distance.{Space, spaceOf}
-use Rattle.bucket_rules.specs.Geometry.{bucketsOf}
-use Rattle.bucket_rules.specs.Table.{headerOf}
+use Rattle.bucket_rules.specs.Geometry.{mostOrder, bucketsOf}
 use Rattle.image_rules.specs.Read.{orderIn, spaceIn}
 use Rattle.image_fields.specs.SlotsRead.{slotsRead}
 use Rattle.image_test.specs.Standing.{bucketRead, slotsStand}
@@ -51,8 +49,6 @@ slots-pass-spec =
     (tie.spec
     (λ c κs. search needs)
     returns
-    (λ c κs. search needs)
-    (λ c κs. search needs)
-    (λ c κs. search needs)
+    (λ c κs. search needs) (λ c κs. search needs) (λ c κs. search needs)
     slots-stand-requires
     returns-2)

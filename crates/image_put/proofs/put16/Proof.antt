@@ -1,6 +1,5 @@
 -- `image_put::put16` meets its contract: two stores, each next to the other.
-use Prim.Native.Nat.{suc, _+_}
-use mathlib.Core.Path.{_≡_, refl}
+use mathlib.Core.Path.{refl}
 use native.Mathlib.Numerals.{add-one}
 use native.Mathlib.Omega.{arith}
 use borrow.Author.Needs.{needs}

@@ -4,11 +4,12 @@ use mathlib.Core.Path.{_≡_, refl, sym, ap, _∙_}
 use mathlib.Core.List.{List, map, flatten}
 use native.Mathlib.Omega.{arith}
 use borrow.Author.Needs.{needs}
-use lib.ListN.{length, take, drop, length-drop}
+use lib.ListN.{length, drop, length-drop}
 use lib.Seq.{sets, take-all}
+use Rattle.metric_rules.specs.Lists.{total}
 use Rattle.metric_rules.specs.Row.{rowWidth}
 use Rattle.metric_rules.proofs.Values.{is-row}
-use Rattle.image_rules.specs.Bytes.{bytesOf, recordFields, tagFields, tagWords}
+use Rattle.image_rules.specs.Bytes.{bytesOf, recordFields, tagFields, recordBytes, tagWords}
 use Rattle.image_put.proofs.Stores.{word-bytes}
 use Rattle.image_put.proofs.put_record.Statement.{statement}
 use Rattle.image_put.proofs.put_record.Tie as tie
@@ -25,4 +26,5 @@ returns c =
     (ap (λ (ws : List ℕ). flatten (map (bytesOf 4) ws)) (take-all 10 words (omega arith)) ∙ sym (word-bytes recordFields words long ((refl, (refl, (refl, (refl, (refl, (refl, (refl, (refl, (refl, (refl, tt)))))))))))))
 
 pub put-record-spec : {M : Type 1} → statement M
+unfolding rowWidth recordBytes recordFields total
 put-record-spec = tie.close (tie.spec (λ c κs. search needs) (λ c. search needs) returns)

@@ -3,8 +3,10 @@ use Prim.Native.Nat.{_-_}
 use mathlib.Core.List.{[]}
 use native.Mathlib.Omega.{arith}
 use lib.ListN.{length}
+use Rattle.metric_rules.specs.Lists.{total}
+use Rattle.image_rules.specs.Bytes.{recordFields, recordBytes}
 use Rattle.image_rules.specs.Write.{recordsOf}
-use Rattle.image_put.proofs.Stores.{Stored, none-stored, all-stored, more-stored, recordBlock, length-record}
+use Rattle.image_put.proofs.Stores.{Stored, none-stored, all-stored, more-stored, recordBlock, length-record, length-records}
 use Rattle.image_put.proofs.put_records.Statement.{statement}
 use Rattle.image_put.proofs.put_records.Tie as tie
 
@@ -13,6 +15,12 @@ Inv-loop image₀ at rows i₀ image i = Stored recordBlock at rows image₀ ima
 
 abbrev μ-loop : tie.MeasureT-loop
 μ-loop image₀ at rows i₀ image i = length rows - i
+
+put-record-requires : tie.Need-put-record-requires Inv-loop μ-loop
+unfolding recordBytes recordFields total
+put-record-requires c κs =
+    let s = c .before .before .before .before .before in
+    omega (arith, s .pre, length-records (s .args .rows .now), c .before .before .before .loop .inv .same)
 
 loop-again : tie.Need-loop-again Inv-loop μ-loop
 loop-again c =
@@ -30,11 +38,11 @@ put-records-spec =
     Inv-loop
     μ-loop
     (λ c. none-stored _ _ _ _)
-    (λ c. omega (arith, c .before .before .before .before .pre))
-    (λ c. omega (arith, c .before .before .before .before .pre))
+    (λ c. let s = c .before .before .before .before in omega (arith, s .pre, length-records (s .args .rows .now)))
+    (λ c. let s = c .before .before .before .before in omega (arith, s .pre, length-records (s .args .rows .now)))
     (λ c. omega arith)
     (λ c. omega arith)
-    (λ c κs. omega (arith, c .before .before .before .before .before .pre, c .before .before .before .loop .inv .same))
+    put-record-requires
     (λ c. omega arith)
     (λ c. omega arith)
     loop-again

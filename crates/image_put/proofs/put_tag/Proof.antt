@@ -1,14 +1,13 @@
 -- `image_put::put_tag` meets its contract: the tag's fields are words.
-use Prim.Native.Nat.{ℕ}
 use mathlib.Core.Path.{_≡_, refl, sym, ap, _∙_}
-use mathlib.Core.List.{List, map, flatten}
 use native.Mathlib.Omega.{arith}
 use borrow.Author.Needs.{needs}
 use lib.ListN.{length, take, length-take}
 use lib.Seq.{sets}
+use Rattle.metric_rules.specs.Lists.{total}
 use Rattle.metric_rules.specs.Row.{rowWidth}
 use Rattle.metric_rules.proofs.Values.{is-row}
-use Rattle.image_rules.specs.Bytes.{bytesOf, tagFields, tagWords}
+use Rattle.image_rules.specs.Bytes.{tagFields, tagBytes, tagWords}
 use Rattle.image_put.proofs.Stores.{word-bytes}
 use Rattle.image_put.proofs.put_tag.Statement.{statement}
 use Rattle.image_put.proofs.put_tag.Tie as tie
@@ -25,4 +24,5 @@ returns c =
     (sym (word-bytes tagFields words long (refl, (refl, tt))))
 
 pub put-tag-spec : {M : Type 1} → statement M
+unfolding rowWidth tagBytes tagFields total
 put-tag-spec = tie.close (tie.spec (λ c κs. search needs) (λ c. search needs) returns)

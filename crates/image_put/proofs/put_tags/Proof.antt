@@ -3,8 +3,10 @@ use Prim.Native.Nat.{_-_}
 use mathlib.Core.List.{[]}
 use native.Mathlib.Omega.{arith}
 use lib.ListN.{length}
+use Rattle.metric_rules.specs.Lists.{total}
+use Rattle.image_rules.specs.Bytes.{tagFields, tagBytes}
 use Rattle.image_rules.specs.Write.{tagsOf}
-use Rattle.image_put.proofs.Stores.{Stored, none-stored, all-stored, more-stored, tagBlock, length-tag}
+use Rattle.image_put.proofs.Stores.{Stored, none-stored, all-stored, more-stored, tagBlock, length-tag, length-tags}
 use Rattle.image_put.proofs.put_tags.Statement.{statement}
 use Rattle.image_put.proofs.put_tags.Tie as tie
 
@@ -13,6 +15,12 @@ Inv-loop image₀ at rows i₀ image i = Stored tagBlock at rows image₀ image 
 
 abbrev μ-loop : tie.MeasureT-loop
 μ-loop image₀ at rows i₀ image i = length rows - i
+
+put-tag-requires : tie.Need-put-tag-requires Inv-loop μ-loop
+unfolding tagBytes tagFields total
+put-tag-requires c κs =
+    let s = c .before .before .before .before .before in
+    omega (arith, s .pre, length-tags (s .args .rows .now), c .before .before .before .loop .inv .same)
 
 loop-again : tie.Need-loop-again Inv-loop μ-loop
 loop-again c =
@@ -30,11 +38,11 @@ put-tags-spec =
     Inv-loop
     μ-loop
     (λ c. none-stored _ _ _ _)
-    (λ c. omega (arith, c .before .before .before .before .pre))
-    (λ c. omega (arith, c .before .before .before .before .pre))
+    (λ c. let s = c .before .before .before .before in omega (arith, s .pre, length-tags (s .args .rows .now)))
+    (λ c. let s = c .before .before .before .before in omega (arith, s .pre, length-tags (s .args .rows .now)))
     (λ c. omega arith)
     (λ c. omega arith)
-    (λ c κs. omega (arith, c .before .before .before .before .before .pre, c .before .before .before .loop .inv .same))
+    put-tag-requires
     (λ c. omega arith)
     (λ c. omega arith)
     loop-again

@@ -1,6 +1,6 @@
 -- `image_put::put_words` meets its contract. The loop's invariant: the bytes of the first j words are stored.
 use Prim.Native.Nat.{ℕ, _+_, _-_, _*_, _<_}
-use mathlib.Core.Path.{_≡_, sym, ap, _∙_}
+use mathlib.Core.Path.{sym, ap, _∙_}
 use native.Mathlib.Omega.{arith}
 use lib.ListN.{length, take, drop, length-take, length-drop}
 use lib.Seq.{sets}
@@ -38,6 +38,7 @@ returns c =
     all-stored (c .before .loop .inv) (omega (arith, length-take (a .n) (drop (a .first) (a .t3))))
 
 pub put-words-spec : {M : Type 1} → statement M
+unfolding rowWidth
 put-words-spec =
     tie.close
     (tie.spec

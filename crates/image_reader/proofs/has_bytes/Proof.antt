@@ -42,7 +42,7 @@ use denote.Exit.{yes}
 use Rattle.image_reader.specs.declared.Reader.{Reader}
 use Rattle.image_reader.proofs.Reader as T
 use Rattle.image_reader.proofs.Reader.Laws as T′
-use Rattle.image_reader.proofs.reader_at as make
+use Rattle.image_reader.proofs.Making.{Make, to-make, asked-make, Made, make-said}
 use Rattle.image_reader.proofs.reader_at.Symbol as make-def
 use Rattle.image_reader.proofs.reader_at.Symbol.{name as #image-reader·reader-at}
 use Rattle.image_reader.proofs.reader_at.Met as make-thm
@@ -63,10 +63,7 @@ abbrev stayed : Stays (self.ended .signature .params) (self.ended .kept)
 stayed = (stay-dropped (shrSliceOf (0 ∷ []) tt (plain (λ _. u8))) yes, (stay-dropped (plain (λ _. usize)) yes, (stay-dropped (plain (λ _. usize)) yes, tt)))
 
 module _ {M : Type 1} (𝓤 : URA M) (H : Heap 𝓤) (A : Atoms 𝓤) (mem : Memory → SProp 𝓤) (run : Routine → Fun 𝓤) where
-  -- the contracts that the proof cites
-  abbrev Make : Contract 𝓤
-  Make = tripleOf 𝓤 H A make.signature (make.spec 𝓤 H A mem run)
-
+  -- the contract that the proof cites beside `Make`
   abbrev Left : Contract 𝓤
   Left = tripleOf 𝓤 H A left.signature (left.spec 𝓤 H A mem run)
 
@@ -90,22 +87,6 @@ module _ {M : Type 1} (𝓤 : URA M) (H : Heap 𝓤) (A : Atoms 𝓤) (W : Given
 
   abbrev Post : Val → SProp 𝓤
   Post = walkOf 𝓤 H A self.ended stayed (self.clauses 𝓤 H A mem run) .post (((κ, tt), (q, tt), tt, x, vals), tt)
-
-  -- the call of `reader_at`
-  abbrev x₀ : Args make.signature (κ, tt)
-  x₀ = (s, (n, tt))
-
-  abbrev vals₀ : Vals make.signature (κ, tt)
-  vals₀ = (v ∷ [], (vint w64 n ∷ [], tt))
-
-  abbrev to-make : Make 𝓤 H A mem run .Ghost
-  to-make = (((κ, tt), (q, tt), tt, x₀, vals₀), tt)
-
-  asked-make : ent 𝓤 (onEntry 𝓤 H A make.signature (κ, tt) (q, tt) x₀ vals₀) (Make 𝓤 H A mem run .pre to-make)
-  asked-make = qed W ((‵ (flft κ q) ⊛ ‵ ftrue) ∷ ‵ (owns (ShrSlice (named 0) κ u8 ∷ usize ∷ []) x₀ vals₀) ∷ []) ∵ join ! $ frame ! $ done !
-
-  make-said : (r : Reader) → ent 𝓤 (ensured 𝓤 H A make.ended (make.clauses 𝓤 H A mem run) (κ, tt) x₀ tt r) (fact 𝓤 ((r .image ≡ s) × (r .at ≡ n)))
-  make-said r = exE 𝓤 _ (λ ws. snd∗ 𝓤 (sem 𝓤 H A (lasts make.ended (κ, tt) x₀ ws)) (fact 𝓤 ((r .image ≡ s) × (r .at ≡ n))))
 
   -- the call of `left`, at the reader r with the machine value u
   module _ (r : Reader) (u : Val) where
@@ -138,10 +119,10 @@ module _ {M : Type 1} (𝓤 : URA M) (H : Heap 𝓤) (A : Atoms 𝓤) (W : Given
         pass1 ! (init ! 6 refl (tt, (tt, (record { fits = room .0 }, tt)))) $ pass1 ! (init ! 4 refl (tt, record { fits = n-fits })) $ pass1 ! (init ! 2 refl (tt, record { fits = m-fits })) $ pass0 ! $
         -- [_4; …; _3; …; _2; …; _1; …; room for _0; …; the token; what is owned]
         move ! (11 ∷ []) $ fsplit ! $ move ! (1 ∷ []) $ fsplit ! $ nothing ! $ move ! (1 ∷ 0 ∷ []) $ fjoin ! $ move ! (2 ∷ 0 ∷ []) $ fjoin ! $ move ! (12 ∷ 0 ∷ []) $
-        use2 W (raw (Make 𝓤 H A mem run .pre to-make)) asked-make $
-        calls-at ! fm (Make 𝓤 H A mem run) known-make to-make (and-then ! (load ! (from ! (stop !)) (look ! 8 refl)) (and-then ! (load ! (from ! (stop !)) (look ! 6 refl)) (no-more !))) (λ u.
-        use1 W (later (some (λ (r : Reader). ((‵ (flft κ q) ⊛ ‵ ftrue) ⊛ ‵ (B κ .own r (u ∷ []))) ⊛ raw (ensured 𝓤 H A make.ended (make.clauses 𝓤 H A mem run) (κ, tt) x₀ tt r)))) (id⊢ 𝓤 _) $ await ! tt $ pick ! (λ r.
-        split ! $ move ! (1 ∷ []) $ use1 W (raw (fact 𝓤 ((r .image ≡ s) × (r .at ≡ n)))) (make-said r) $ heard ! ((r .image ≡ s) × (r .at ≡ n)) (λ e. split ! $ move ! (1 ∷ []) $
+        use2 W (raw (Make 𝓤 H A mem run .pre (to-make 𝓤 H A mem run W κ q s n))) (asked-make 𝓤 H A mem run W κ q s n) $
+        calls-at ! fm (Make 𝓤 H A mem run) known-make (to-make 𝓤 H A mem run W κ q s n) (and-then ! (load ! (from ! (stop !)) (look ! 8 refl)) (and-then ! (load ! (from ! (stop !)) (look ! 6 refl)) (no-more !))) (λ u.
+        use1 W (later (some (λ (r : Reader). ((‵ (flft κ q) ⊛ ‵ ftrue) ⊛ ‵ (B κ .own r (u ∷ []))) ⊛ raw (Made 𝓤 H A mem run W κ q s n r)))) (id⊢ 𝓤 _) $ await ! tt $ pick ! (λ r.
+        split ! $ move ! (1 ∷ []) $ use1 W (raw (fact 𝓤 ((r .image ≡ s) × (r .at ≡ n)))) (make-said 𝓤 H A mem run W κ q s n r) $ heard ! ((r .image ≡ s) × (r .at ≡ n)) (λ e. split ! $ move ! (1 ∷ []) $
         -- [what the reader owns; the token; what n owns; room for _4; …]
         peeks ! (B κ) (Is (B κ)) (shows 𝓤 H A (B κ)) r (u ∷ []) (λ is.
         land ! (from ! (stop !)) (init ! 3 refl (LL.lawful (T.the-type αᵉ) (T′.the-laws αᵉ) 𝓤 H A W .typed r _ is .0)) $

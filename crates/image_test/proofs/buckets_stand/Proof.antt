@@ -16,8 +16,8 @@ use Rattle.bucket_rules.specs.Geometry.{bucketsOf}
 use Rattle.image_rules.specs.Read.{orderIn, slotsBefore, bucketIn}
 use Rattle.image_entries.specs.Entries.{places}
 use Rattle.image_test.specs.Standing.{standing}
-use Rattle.image_test.proofs.Buckets.{head-fits, sizes-fit, before-next, bucket-within, buckets-length, buckets-more, bucket-asks, bucket-tests}
-use Rattle.image_entries.proofs.Reading.{slots-few}
+use Rattle.image_test.proofs.Buckets.{header-fits, sizes-fit, before-next, bucket-within, buckets-length, buckets-more, bucket-asks, bucket-tests}
+use Rattle.image_read.proofs.Slots.{few-slots}
 use Rattle.image_test.proofs.buckets_stand.Statement.{statement}
 use Rattle.image_test.proofs.buckets_stand.Tie as tie
 
@@ -28,7 +28,7 @@ abbrev μ-loop : tie.MeasureT-loop
 μ-loop image tags records header entries₀ buckets first₀ k₀ entries first k = buckets - k
 
 order-in-requires : tie.Need-order-in-requires Inv-loop μ-loop
-order-in-requires c κs = head-fits (c .before .pre .0)
+order-in-requires c κs = header-fits (c .before .pre .0)
 
 add-buckets : tie.Need-add-buckets Inv-loop μ-loop
 add-buckets c = omega (arith, c .order-in .ensures, c .before .before .pre .1)
@@ -42,9 +42,6 @@ built-in-requires c κs =
     let s = c .before .before .before .before in
     let l = c .before .loop in
     sizes-fit (s .pre .0) (l .k) (omega (arith, l .inv .1))
-
-cast-count : tie.Need-cast-count Inv-loop μ-loop
-cast-count c = search needs
 
 slice-relend-prefix-bucket-stands : tie.Need-slice-relend-prefix-bucket-stands Inv-loop μ-loop
 slice-relend-prefix-bucket-stands c =
@@ -92,13 +89,10 @@ add-first c =
     let s = c .before .before .before .before .before .before .before .before .before in
     let l = c .before .before .before .before .before .before .loop in
     let b = c .before .before .before .before .built-in in
-    omega (arith, l .inv .3, b .ensures, bucket-within (s .args .image .now) (l .k) (omega (arith, l .inv .1)), slots-few (s .pre .0))
+    omega (arith, l .inv .3, b .ensures, bucket-within (s .args .image .now) (l .k) (omega (arith, l .inv .1)), few-slots (s .pre .0))
 
 add-k : tie.Need-add-k Inv-loop μ-loop
 add-k c = omega (arith, c .before .before .before .before .before .before .loop .inv .1, c .before .before .before .before .before .before .before .before .before .pre .1)
-
-loop-less : tie.Need-loop-less Inv-loop μ-loop
-loop-less c = search needs
 
 loop-again : tie.Need-loop-again Inv-loop μ-loop
 loop-again c =
@@ -137,7 +131,7 @@ buckets-stand-spec =
     add-buckets
     loop-holds
     built-in-requires
-    cast-count
+    (λ c. search needs)
     slice-relend-prefix-bucket-stands
     slice-aggregate-bucket-stands
     bucket-stands-requires
@@ -145,7 +139,7 @@ buckets-stand-spec =
     returns
     add-first
     add-k
-    loop-less
+    (λ c. search needs)
     loop-again
     same-length-2
     returns-2)

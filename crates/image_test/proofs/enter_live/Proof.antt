@@ -41,15 +41,6 @@ room c =
 loop-holds : tie.Need-loop-holds Inv-loop μ-loop
 loop-holds c = (omega arith, refl, entered-none (c .before .args .image .now) (c .before .args .at) (c .before .args .entries .now))
 
-slot-in-requires : tie.Need-slot-in-requires Inv-loop μ-loop
-slot-in-requires c κs = search needs
-
-is-live-requires : tie.Need-is-live-requires Inv-loop μ-loop
-is-live-requires c κs = search needs
-
-tag-of-requires : tie.Need-tag-of-requires Inv-loop μ-loop
-tag-of-requires c κs = search needs
-
 tag-entry-requires : tie.Need-tag-entry-requires Inv-loop μ-loop
 unfolding places
 tag-entry-requires c κs = let s = c .before .before .before .before .before .before .before .before in
@@ -65,12 +56,6 @@ slice-set-from-entries c = room c
 
 add-count : tie.Need-add-count Inv-loop μ-loop
 add-count c = omega (arith, room c)
-
-add-i : tie.Need-add-i Inv-loop μ-loop
-add-i c = search needs
-
-loop-less : tie.Need-loop-less Inv-loop μ-loop
-loop-less c = search needs
 
 loop-again : tie.Need-loop-again Inv-loop μ-loop
 loop-again c =
@@ -100,9 +85,6 @@ loop-again c =
     ))
     (c .if2 .came)
 
-same-length : tie.Need-same-length Inv-loop μ-loop
-same-length c = search needs
-
 returns : tie.Need-returns Inv-loop μ-loop
 returns c = let s = c .before .before .before .before in
     let l = c .before .before .loop in
@@ -116,15 +98,12 @@ enter-live-spec =
     Inv-loop
     μ-loop
     loop-holds
-    slot-in-requires
-    is-live-requires
-    tag-of-requires
+    (λ c κs. search needs) (λ c κs. search needs) (λ c κs. search needs)
     tag-entry-requires
     mul-t11
     slice-set-from-entries
     add-count
-    add-i
-    loop-less
+    (λ c. search needs) (λ c. search needs)
     loop-again
-    same-length
+    (λ c. search needs)
     returns)

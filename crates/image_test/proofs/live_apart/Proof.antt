@@ -14,12 +14,6 @@ use borrow.Author.Needs.{needs}
 use Rattle.image_test.proofs.live_apart.Statement.{statement}
 use Rattle.image_test.proofs.live_apart.Tie as tie
 
-enter-live-requires : tie.Need-enter-live-requires
-enter-live-requires c κs = search needs
-
-slice-relend-prefix-tags-apart : tie.Need-slice-relend-prefix-tags-apart
-slice-relend-prefix-tags-apart c = search needs
-
 slice-aggregate-tags-apart : tie.Need-slice-aggregate-tags-apart
 slice-aggregate-tags-apart c =
     let e = c .before .before .enter-live in
@@ -29,9 +23,6 @@ tags-apart-requires : tie.Need-tags-apart-requires
 tags-apart-requires c κs =
     let a = c .before .before .before .before .before .args in
     subst (All Fresh) (sym (c .before .before .enter-live .ensures .1)) (live-fresh (select isLive (slotsAt (a .image .now) (a .at))))
-
-same-length : tie.Need-same-length
-same-length c = search needs
 
 returns : tie.Need-returns
 returns c =
@@ -44,9 +35,8 @@ pub live-apart-spec : {M : Type 1} → statement M
 live-apart-spec =
     tie.close
     (tie.spec
-    enter-live-requires
-    slice-relend-prefix-tags-apart
+    (λ c κs. search needs) (λ c. search needs)
     slice-aggregate-tags-apart
     tags-apart-requires
-    same-length
+    (λ c. search needs)
     returns)

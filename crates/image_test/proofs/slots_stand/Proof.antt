@@ -13,9 +13,6 @@ use borrow.Author.Needs.{needs}
 use Rattle.image_test.proofs.slots_stand.Statement.{statement}
 use Rattle.image_test.proofs.slots_stand.Tie as tie
 
-slice-aggregate-buckets-stand : tie.Need-slice-aggregate-buckets-stand
-slice-aggregate-buckets-stand c = search needs
-
 buckets-stand-requires : tie.Need-buckets-stand-requires
 unfolding places
 buckets-stand-requires c κs =
@@ -33,9 +30,6 @@ slots-in-requires : tie.Need-slots-in-requires
 slots-in-requires c κs =
     let s = c .before .before .before .before .before in
     (s .pre .1, sizes-fit (s .pre .0) (orderIn (s .args .image .now)) (omega arith))
-
-slice-aggregate-live-apart : tie.Need-slice-aggregate-live-apart
-slice-aggregate-live-apart c = search needs
 
 live-apart-requires : tie.Need-live-apart-requires
 unfolding places
@@ -58,10 +52,10 @@ pub slots-stand-spec : {M : Type 1} → statement M
 slots-stand-spec =
     tie.close
     (tie.spec
-    slice-aggregate-buckets-stand
+    (λ c. search needs)
     buckets-stand-requires
     returns
     slots-in-requires
-    slice-aggregate-live-apart
+    (λ c. search needs)
     live-apart-requires
     returns-2)

@@ -1,10 +1,7 @@
 -- `image_write::image_length` meets its contract: header, sizes, and 48 bytes for each slot.
-use Prim.Native.Nat.{_+_, _*_}
-use mathlib.Core.Path.{_≡_, ap, ap₂, _∙_, sym}
 use native.Mathlib.Omega.{arith}
 use borrow.Author.Needs.{needs}
 use Rattle.metric_rules.specs.Lists.{total}
-use Rattle.bucket_rules.specs.Table.{orderOf}
 use Rattle.image_rules.specs.Bytes.{headerFields, tagFields, recordFields, headerBytes, tagBytes, recordBytes, sizeBytes, pairBytes, sizesEnd, imageLength}
 use Rattle.image_rules.proofs.Lengths.{length-image}
 use Rattle.image_write.proofs.Counts.{slots-most}

@@ -1,8 +1,8 @@
 -- `image_write::put_header` meets its contract: the order's byte, the metric's, and a number of two zero bytes.
-use mathlib.Core.Path.{_≡_, refl, _∙_}
+use mathlib.Core.Path.{_∙_}
 use native.Mathlib.Omega.{arith}
 use borrow.Author.Needs.{needs}
-use lib.ListN.{length, set, length-set}
+use lib.ListN.{length-set}
 use Rattle.metric_rules.specs.Lists.{total}
 use Rattle.metric_rules.specs.Row.{word}
 use Rattle.metric_rules.specs.Distance.{spaceOf, metricAt}

@@ -1,5 +1,5 @@
 -- `image_write::put_image` meets its contract: each part begins where the one before it ends.
-use Prim.Native.Nat.{ℕ, suc, _+_, _≤_, _<_}
+use Prim.Native.Nat.{ℕ, _+_, _*_, _≤_}
 use mathlib.Core.Path.{_≡_, refl, ap, ap₂, _∙_}
 use mathlib.Core.List.{List}
 use native.Mathlib.Omega.{arith}
@@ -7,12 +7,13 @@ use borrow.Author.Needs.{needs}
 use lib.ListN.{length}
 use lib.Seq.{sets}
 use Rattle.metric_rules.specs.Lists.{total}
-use Rattle.bucket_rules.specs.Geometry.{headerRow, sizesRow}
+use Rattle.bucket_rules.specs.Geometry.{headerRow}
 use Rattle.bucket_rules.specs.Table.{rowAt, orderOf, tableSpace, builtOf, liveOf}
 use Rattle.image_rules.specs.Bytes.{headerFields, headerBytes, pairBytes, sizeBytes, sizesEnd}
-use Rattle.image_rules.specs.Write.{sizesOf, tagsOf, recordsOf, allSlots, imageOf}
+use Rattle.image_rules.specs.Write.{sizesOf, tagsOf, recordsOf, allSlots}
+use Rattle.image_put.proofs.Stores.{length-tags}
 use Rattle.image_write.proofs.Runs.{sizes-in}
-use Rattle.image_write.proofs.Counts.{headPart, sizesPart, length-parts, parts-put}
+use Rattle.image_write.proofs.Counts.{headerPart, sizesPart, length-parts, parts-put}
 use Rattle.image_write.proofs.put_image.Statement.{statement}
 use Rattle.image_write.proofs.put_image.Tie as tie
 
@@ -34,45 +35,43 @@ put-sizes-requires c κs =
     let same : sizesEnd (start .args .order .t) ≡ sizesEnd (orderOf t) = ap sizesEnd (start .pre .0) in
     (start .pre .0, start .pre .1, omega (arith, start .pre .2, length-parts t, c .before .before .before .put-header .kept .0))
 
-put-all-tags-requires : tie.Need-put-all-tags-requires
-put-all-tags-requires c κs =
+-- where the records begin
+records-at : (c : tie.After-slots-in-all)
+    → c .before .sizes-end .result + 8 * c .slots-in-all .result ≡ sizesEnd (orderOf (c .before .before .before .before .before .before .before .before .before .before .before .before .args .table .now)) + length (tagsOf (allSlots (c .before .before .before .before .before .before .before .before .before .before .before .before .args .table .now)))
+records-at c =
     let start = c .before .before .before .before .before .before .before .before .before .before .before .before in
+    let t = start .args .table .now in
+    let same : sizesEnd (start .args .order .t) ≡ sizesEnd (orderOf t) = ap sizesEnd (start .pre .0) in
+    omega (arith, c .before .sizes-end .ensures, c .slots-in-all .ensures, length-tags (allSlots t))
+
+room : (c : tie.After-slots-in-all) → c .before .sizes-end .result + 8 * c .slots-in-all .result ≤ length (c .before .before .before .before .before .before .before .before .before .before .before .before .args .image .now)
+room c = let start = c .before .before .before .before .before .before .before .before .before .before .before .before in omega (arith, records-at c, start .pre .2, length-parts (start .args .table .now))
+
+put-all-slots-requires : tie.Need-put-all-slots-requires
+put-all-slots-requires c κs =
+    let start = c .before .before .before .before .before .before .before .before .before .before .before .before .before in
     let t = start .args .table .now in
     let same : sizesEnd (start .args .order .t) ≡ sizesEnd (orderOf t) = ap sizesEnd (start .pre .0) in (
       start .pre .0,
       start .pre .1,
-      omega (arith, start .pre .2, length-parts t, c .sizes-end .ensures, c .before .before .before .before .put-sizes .kept .0, c .before .before .before .before .before .before .before .before .put-header .kept .0),
-    )
-
-put-all-records-requires : tie.Need-put-all-records-requires
-put-all-records-requires c κs =
-    let start = c .before .before .before .before .before .before .before .before .before .before .before .before .before .before .before .before in
-    let t = start .args .table .now in
-    let same : sizesEnd (start .args .order .t) ≡ sizesEnd (orderOf t) = ap sizesEnd (start .pre .0) in
-    let tags = c .before .before .before .put-all-tags in (
-      start .pre .0,
-      start .pre .1,
-      omega (arith, start .pre .2, length-parts t, tags .ensures .0, c .before .before .before .before .sizes-end .ensures, tags .kept .0, c .before .before .before .before .before .before .before .before .put-sizes .kept .0, c .before .before .before .before .before .before .before .before .before .before .before .before .put-header .kept .0),
+      omega (arith, records-at (c .before), c .before .before .sizes-end .ensures),
+      omega (arith, records-at (c .before), start .pre .2, length-parts t, c .before .before .before .before .before .put-sizes .kept .0, c .before .before .before .before .before .before .before .before .before .put-header .kept .0),
     )
 
 returns : tie.Need-returns
-unfolding headPart sizesPart orderOf tableSpace rowAt headerRow
+unfolding headerPart sizesPart orderOf tableSpace rowAt headerRow
 returns c =
-    let start = c .before .before .before .before .before .before .before .before .before .before .before .before .before .before .before .before .before .before .before in
+    let start = c .before .before .before .before .before .before .before .before .before .before .before .before .before .before .before .before in
     let a = start .args in
     let t = a .table .now in
-    let tags = c .before .before .before .before .before .before .put-all-tags in
-    let end = c .before .before .before .before .before .before .before .sizes-end in
-    let all = tagsOf (allSlots t) in
-    let records = recordsOf (allSlots t) in
+    let end = c .before .before .before .before .before .sizes-end in
+    let records = end .result + 8 * c .before .before .before .before .slots-in-all .result in
     let place : end .result ≡ sizesEnd (orderOf t) = end .ensures ∙ ap sizesEnd (start .pre .0) in
-    c .before .before .put-all-records .ensures .1
-    ∙ ap (λ (l : List ℕ). sets l (tags .result) records)
-    (tags .ensures .1
-    ∙ ap (λ (l : List ℕ). sets l (end .result) all)
-    (c .before .before .before .before .before .before .before .before .before .before .before .put-sizes .ensures
-    ∙ ap₂ (λ (l : List ℕ) (order : ℕ). sets l headerBytes (sizesOf order (builtOf t) (liveOf t))) (c .before .before .before .before .before .before .before .before .before .before .before .before .before .before .before .put-header .ensures) (start .pre .0)))
-    ∙ parts-put t (a .image .now) headerBytes (end .result) (tags .result) refl place (tags .ensures .0 ∙ ap (λ (n : ℕ). n + length all) place)
+    c .before .before .put-all-slots .ensures
+    ∙ ap (λ (l : List ℕ). sets (sets l (end .result) (tagsOf (allSlots t))) records (recordsOf (allSlots t)))
+    (c .before .before .before .before .before .before .before .before .put-sizes .ensures
+    ∙ ap₂ (λ (l : List ℕ) (order : ℕ). sets l headerBytes (sizesOf order (builtOf t) (liveOf t))) (c .before .before .before .before .before .before .before .before .before .before .before .before .put-header .ensures) (start .pre .0))
+    ∙ parts-put t (a .image .now) headerBytes (end .result) records refl place (records-at (c .before .before .before .before))
 
 pub put-image-spec : {M : Type 1} → statement M
 put-image-spec =
@@ -82,7 +81,9 @@ put-image-spec =
     put-header-requires
     put-sizes-requires
     (λ c κs. search needs)
-    put-all-tags-requires
-    put-all-records-requires
+    (λ c κs. let p = c .before .before .before .before .before .before .before .before .before .before .before .pre in (p .0, p .1))
+    (λ c. omega (arith, room c))
+    (λ c. omega (arith, room c))
+    put-all-slots-requires
     (λ c. search needs)
     returns)

@@ -1,4 +1,4 @@
--- `list_line::digit` meets its contract.
+-- `list_line::digit` meets its contract: a decimal digit's byte is one of ten from 48 on, and its value is what it is above 48.
 use mathlib.Core.Path.{sym}
 use native.Mathlib.Omega.{arith}
 use Rattle.text_rules.proofs.Digits.{digit-from, decimal-below, low-value}

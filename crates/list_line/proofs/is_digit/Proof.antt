@@ -1,4 +1,4 @@
--- `list_line::is_digit` meets its contract.
+-- `list_line::is_digit` meets its contract: the decimal digits are the bytes from 48 to 57, and each side of that range has its law.
 use mathlib.Core.Path.{_≡_, refl, sym}
 use mathlib.Core.Bool.{Bool, true, false}
 use lib.Dec.{ltb}

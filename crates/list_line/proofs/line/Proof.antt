@@ -9,49 +9,13 @@ use Rattle.list_line.proofs.Behind.{behind-all, line-item, no-number, a
 use Rattle.list_line.proofs.line.Statement.{statement}
 use Rattle.list_line.proofs.line.Tie as tie
 
-number-requires : tie.Need-number-requires
-number-requires c κs = search needs
-
-enum-known-tag : tie.Need-enum-known-tag
-enum-known-tag c = search needs
-
-enum-told : tie.Need-enum-told
-enum-told c = search needs
-
-malformed-requires : tie.Need-malformed-requires
-malformed-requires c κs = search needs
-
 returns : tie.Need-returns
 returns c = line-none _ _ _ (c .malformed .result) (c .malformed .ensures) (tag-wrong _ (no-number _ _ _ _ (c .before .before .before .number .ensures) (c .before .enum-told .given .1)))
-
-measure-requires : tie.Need-measure-requires
-measure-requires c κs = search needs
-
-enum-known-kg : tie.Need-enum-known-kg
-enum-known-kg c = search needs
-
-enum-told-2 : tie.Need-enum-told-2
-enum-told-2 c = search needs
-
-malformed-requires-2 : tie.Need-malformed-requires-2
-malformed-requires-2 c κs = search needs
 
 returns-2 : tie.Need-returns-2
 returns-2 c =
     let tag = a-number _ _ _ _ (c .before .before .before .before .before .before .before .number .ensures) (c .before .before .before .before .before .tag .given .1) in
     line-none _ _ _ (c .malformed2 .result) (c .malformed2 .ensures) (kg-wrong _ (tag .0) (no-measure _ _ _ (c .before .before .before .measure .ensures) (c .before .enum-told2 .given .1)))
-
-measure-requires-2 : tie.Need-measure-requires-2
-measure-requires-2 c κs = search needs
-
-enum-known-hip : tie.Need-enum-known-hip
-enum-known-hip c = search needs
-
-enum-told-3 : tie.Need-enum-told-3
-enum-told-3 c = search needs
-
-malformed-requires-3 : tie.Need-malformed-requires-3
-malformed-requires-3 c κs = search needs
 
 returns-3 : tie.Need-returns-3
 returns-3 c =
@@ -59,36 +23,12 @@ returns-3 c =
     let kg = a-measure _ _ _ (c .before .before .before .before .before .before .before .measure .ensures) (c .before .before .before .before .before .kg .given .1) in
     line-none _ _ _ (c .malformed3 .result) (c .malformed3 .ensures) (hip-wrong _ (tag .0) (kg .0) (no-measure _ _ _ (c .before .before .before .measure2 .ensures) (c .before .enum-told3 .given .1)))
 
-measure-requires-3 : tie.Need-measure-requires-3
-measure-requires-3 c κs = search needs
-
-enum-known-girth : tie.Need-enum-known-girth
-enum-known-girth c = search needs
-
-enum-told-4 : tie.Need-enum-told-4
-enum-told-4 c = search needs
-
-malformed-requires-4 : tie.Need-malformed-requires-4
-malformed-requires-4 c κs = search needs
-
 returns-4 : tie.Need-returns-4
 returns-4 c =
     let tag = a-number _ _ _ _ (c .before .before .before .before .before .before .before .before .before .before .before .before .before .before .before .number .ensures) (c .before .before .before .before .before .before .before .before .before .before .before .before .before .tag .given .1) in
     let kg = a-measure _ _ _ (c .before .before .before .before .before .before .before .before .before .before .before .measure .ensures) (c .before .before .before .before .before .before .before .before .before .kg .given .1) in
     let hip = a-measure _ _ _ (c .before .before .before .before .before .before .before .measure2 .ensures) (c .before .before .before .before .before .hip .given .1) in
     line-none _ _ _ (c .malformed4 .result) (c .malformed4 .ensures) (girth-wrong _ (tag .0) (kg .0) (hip .0) (no-measure _ _ _ (c .before .before .before .measure3 .ensures) (c .before .enum-told4 .given .1)))
-
-measure-requires-4 : tie.Need-measure-requires-4
-measure-requires-4 c κs = search needs
-
-enum-known-gain : tie.Need-enum-known-gain
-enum-known-gain c = search needs
-
-enum-told-5 : tie.Need-enum-told-5
-enum-told-5 c = search needs
-
-malformed-requires-5 : tie.Need-malformed-requires-5
-malformed-requires-5 c κs = search needs
 
 returns-5 : tie.Need-returns-5
 returns-5 c =
@@ -126,29 +66,14 @@ pub line-spec : {M : Type 1} → statement M
 line-spec =
     tie.close
     (tie.spec
-    number-requires
-    enum-known-tag
-    enum-told
-    malformed-requires
+    (λ c κs. search needs) (λ c. search needs) (λ c. search needs) (λ c κs. search needs)
     returns
-    measure-requires
-    enum-known-kg
-    enum-told-2
-    malformed-requires-2
+    (λ c κs. search needs) (λ c. search needs) (λ c. search needs) (λ c κs. search needs)
     returns-2
-    measure-requires-2
-    enum-known-hip
-    enum-told-3
-    malformed-requires-3
+    (λ c κs. search needs) (λ c. search needs) (λ c. search needs) (λ c κs. search needs)
     returns-3
-    measure-requires-3
-    enum-known-girth
-    enum-told-4
-    malformed-requires-4
+    (λ c κs. search needs) (λ c. search needs) (λ c. search needs) (λ c κs. search needs)
     returns-4
-    measure-requires-4
-    enum-known-gain
-    enum-told-5
-    malformed-requires-5
+    (λ c κs. search needs) (λ c. search needs) (λ c. search needs) (λ c κs. search needs)
     returns-5
     returns-6)

@@ -13,15 +13,6 @@ use Rattle.list_line.proofs.measure.Tie as tie
 returns : tie.Need-returns
 returns c = no-byte _ _ _ (c .if1 .taken)
 
-shared-slice-read-first : tie.Need-shared-slice-read-first
-shared-slice-read-first c = search needs
-
-add-size : tie.Need-add-size
-add-size c = search needs
-
-size-requires : tie.Need-size-requires
-size-requires c κs = search needs
-
 signed-requires : tie.Need-signed-requires
 signed-requires c κs = size-fits _ _ _ (c .size .result) (c .size .ensures)
 
@@ -31,23 +22,14 @@ returns-2 c =
     let inside : a .at < length (a .list .now) = omega arith in
     measure-behind _ _ _ _ _ true (minus-first (a .mark) (a .list .now) (a .at) inside (c .before .before .if2 .taken)) (omega arith) (c .before .size .result) (c .before .size .ensures) (c .signed .ensures)
 
-is-digit-requires : tie.Need-is-digit-requires
-is-digit-requires c κs = search needs
-
 returns-3 : tie.Need-returns-3
 returns-3 c =
     let a = c .before .before .before .before .before .before .args in
     let inside : a .at < length (a .list .now) = omega arith in
     other-first (a .mark) (a .list .now) (a .at) inside (c .before .before .if2 .left) (sym (c .before .is-digit .ensures) ∙ not-true _ (c .if3 .taken))
 
-add-size-2 : tie.Need-add-size-2
-add-size-2 c = search needs
-
 digit-requires : tie.Need-digit-requires
 digit-requires c κs = sym (c .before .is-digit .ensures) ∙ not-false _ (c .if3 .left)
-
-size-requires-2 : tie.Need-size-requires-2
-size-requires-2 c κs = search needs
 
 signed-requires-2 : tie.Need-signed-requires-2
 signed-requires-2 c κs = size-fits _ _ _ (c .size2 .result) (c .size2 .ensures)
@@ -64,15 +46,13 @@ measure-spec =
     tie.close
     (tie.spec
     returns
-    shared-slice-read-first
-    add-size
-    size-requires
+    (λ c. search needs) (λ c. search needs) (λ c κs. search needs)
     signed-requires
     returns-2
-    is-digit-requires
+    (λ c κs. search needs)
     returns-3
-    add-size-2
+    (λ c. search needs)
     digit-requires
-    size-requires-2
+    (λ c κs. search needs)
     signed-requires-2
     returns-4)

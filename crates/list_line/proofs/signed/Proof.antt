@@ -9,15 +9,6 @@ use Rattle.list_line.proofs.Behind.{size-small, negative-size, plain-si
 use Rattle.list_line.proofs.signed.Statement.{statement}
 use Rattle.list_line.proofs.signed.Tie as tie
 
-enum-known-size : tie.Need-enum-known-size
-enum-known-size c = search needs
-
-enum-told : tie.Need-enum-told
-enum-told c = search needs
-
-returns : tie.Need-returns
-returns c = search needs
-
 cast-t6 : tie.Need-cast-t6
 cast-t6 c =
     let small = size-small (c .before .before .size .given .1) (c .before .before .before .before .pre) in
@@ -46,4 +37,4 @@ returns-3 c =
 pub signed-spec : {M : Type 1} → statement M
 signed-spec =
     tie.close
-    (tie.spec enum-known-size enum-told returns cast-t6 sub-t7 returns-2 cast-t8 returns-3)
+    (tie.spec (λ c. search needs) (λ c. search needs) (λ c. search needs) cast-t6 sub-t7 returns-2 cast-t8 returns-3)

@@ -5,15 +5,6 @@ use Rattle.list_line.proofs.Behind.{no-number, a-number, size-none, siz
 use Rattle.list_line.proofs.size.Statement.{statement}
 use Rattle.list_line.proofs.size.Tie as tie
 
-number-requires : tie.Need-number-requires
-number-requires c κs = search needs
-
-enum-known-whole : tie.Need-enum-known-whole
-enum-known-whole c = search needs
-
-enum-told : tie.Need-enum-told
-enum-told c = search needs
-
 returns : tie.Need-returns
 returns c = size-none _ _ _ _ _ (no-number _ _ _ _ (c .before .before .number .ensures) (c .enum-told .given .1))
 
@@ -30,4 +21,4 @@ returns-2 c =
 pub size-spec : {M : Type 1} → statement M
 size-spec =
     tie.close
-    (tie.spec number-requires enum-known-whole enum-told returns number-requires-2 returns-2)
+    (tie.spec (λ c κs. search needs) (λ c. search needs) (λ c. search needs) returns number-requires-2 returns-2)

@@ -35,9 +35,6 @@ loop-holds c = (omega arith, ap (placeIn (c .before .args .table .now) (c .befor
 slots-of-requires : tie.Need-slots-of-requires Inv-loop μ-loop
 slots-of-requires c κs = slots-asked (c .before .before .before .pre) (c .before .before .order-in .result .t) (c .before .loop .k) (c .before .before .order-in .ensures) (omega arith)
 
-slot-with-requires : tie.Need-slot-with-requires Inv-loop μ-loop
-slot-with-requires c κs = search needs
-
 returns : tie.Need-returns Inv-loop μ-loop
 unfolding placeOf
 returns c =
@@ -92,7 +89,7 @@ find-spec =
     order-in-requires
     loop-holds
     slots-of-requires
-    slot-with-requires
+    (λ c κs. search needs)
     returns
     add-k
     loop-less

@@ -11,15 +11,6 @@ use borrow.Author.Needs.{needs}
 use Rattle.look_up.proofs.is_live_tag.Statement.{statement}
 use Rattle.look_up.proofs.is_live_tag.Tie as tie
 
-find-requires : tie.Need-find-requires
-find-requires c κs = search needs
-
-enum-told : tie.Need-enum-told
-enum-told c = search needs
-
-enum-told-2 : tie.Need-enum-told-2
-enum-told-2 c = search needs
-
 returns : tie.Need-returns
 unfolding placeOf
 returns c =
@@ -36,4 +27,4 @@ returns-2 c =
     is-not-live (a .table .now) (a .tag) (ap (placeOf (a .table .now)) (sym (c .enum-told2 .given .1)) ∙ c .before .before .find .ensures)
 
 pub is-live-tag-spec : {M : Type 1} → statement M
-is-live-tag-spec = tie.close (tie.spec find-requires enum-told enum-told-2 returns returns-2)
+is-live-tag-spec = tie.close (tie.spec (λ c κs. search needs) (λ c. search needs) (λ c. search needs) returns returns-2)

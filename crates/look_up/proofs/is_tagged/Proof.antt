@@ -8,14 +8,8 @@ use borrow.Author.Needs.{needs}
 use Rattle.look_up.proofs.is_tagged.Statement.{statement}
 use Rattle.look_up.proofs.is_tagged.Tie as tie
 
-is-live-requires : tie.Need-is-live-requires
-is-live-requires c κs = search needs
-
-tag-of-requires : tie.Need-tag-of-requires
-tag-of-requires c κs = search needs
-
 returns : tie.Need-returns
 returns c = ap₂ (λ (b : Bool) (n : ℕ). b && eqb n (c .before .before .args .tag)) (c .before .is-live .ensures) (c .tag-of .ensures)
 
 pub is-tagged-spec : {M : Type 1} → statement M
-is-tagged-spec = tie.close (tie.spec is-live-requires tag-of-requires returns)
+is-tagged-spec = tie.close (tie.spec (λ c κs. search needs) (λ c κs. search needs) returns)

@@ -29,7 +29,7 @@ unrefused c = sym (c .before .read-refusal .ensures) ∙ c .if1 .left
 valid : (c : tie.Else2) → validTag (c .before .before .before .before .args .tag) ≡ true
 valid c = sym (c .before .valid-tag .ensures) ∙ not-false (c .before .valid-tag .result) (c .if2 .left)
 
--- the place found, and that a live head stands there
+-- the place found, and that a live item stands there
 located :
     (c : tie.After-bucket)
     → let a = c .before .before .before .before .before .before .before .args in
@@ -55,23 +55,11 @@ stands c =
 inside : (c : tie.After-slots-of) → c .before .before .before .bucket .given .0 .1 .0 < length (c .slots-of .result .now)
 inside c = omega (arith, stands (c .before .before .before) .within, ap length (c .slots-of .ensures))
 
-read-refusal-requires : tie.Need-read-refusal-requires
-read-refusal-requires c κs = search needs
-
-not-found-requires : tie.Need-not-found-requires
-not-found-requires c κs = search needs
-
 returns : tie.Need-returns
 returns c =
     let a = c .before .before .before .args in
     let r = c .before .before .read-refusal in
     c .not-found .ensures ∙ table-refused (a .table .now) (a .tag) (r .result) (r .ensures) (c .before .if1 .taken)
-
-valid-tag-requires : tie.Need-valid-tag-requires
-valid-tag-requires c κs = search needs
-
-not-found-requires-2 : tie.Need-not-found-requires-2
-not-found-requires-2 c κs = search needs
 
 returns-2 : tie.Need-returns-2
 returns-2 c =
@@ -81,15 +69,6 @@ returns-2 c =
 
 find-requires : tie.Need-find-requires
 find-requires c κs = read-passed (c .before .before .before .before .args .table .now) (unrefused (c .before .before))
-
-enum-told : tie.Need-enum-told
-enum-told c = search needs
-
-not-found-requires-3 : tie.Need-not-found-requires-3
-not-found-requires-3 c κs = search needs
-
-enum-known-bucket : tie.Need-enum-known-bucket
-enum-known-bucket c = search needs
 
 order-in-requires : tie.Need-order-in-requires
 order-in-requires c κs = framed-rows (read-passed (c .before .before .before .before .before .before .before .before .args .table .now) (unrefused (c .before .before .before .before .before .before)) .framed)
@@ -106,9 +85,6 @@ mul-profile-of c = omega (arith, inside c)
 
 shared-slice-copy-out-profile-of : tie.Need-shared-slice-copy-out-profile-of
 shared-slice-copy-out-profile-of c = inside c
-
-profile-of-requires : tie.Need-profile-of-requires
-profile-of-requires c κs = search needs
 
 returns-3 : tie.Need-returns-3
 unfolding placeOf
@@ -132,20 +108,16 @@ pub look-up-spec : {M : Type 1} → statement M
 look-up-spec =
     tie.close
     (tie.spec
-    read-refusal-requires
-    not-found-requires
+    (λ c κs. search needs) (λ c κs. search needs)
     returns
-    valid-tag-requires
-    not-found-requires-2
+    (λ c κs. search needs) (λ c κs. search needs)
     returns-2
     find-requires
-    enum-told
-    not-found-requires-3
-    enum-known-bucket
+    (λ c. search needs) (λ c κs. search needs) (λ c. search needs)
     order-in-requires
     slots-of-requires
     mul-profile-of
     shared-slice-copy-out-profile-of
-    profile-of-requires
+    (λ c κs. search needs)
     returns-3
     returns-4)

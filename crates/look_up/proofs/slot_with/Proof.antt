@@ -25,9 +25,6 @@ mul-is-tagged c = omega arith
 shared-slice-copy-out-is-tagged : tie.Need-shared-slice-copy-out-is-tagged Inv-loop μ-loop
 shared-slice-copy-out-is-tagged c = omega arith
 
-is-tagged-requires : tie.Need-is-tagged-requires Inv-loop μ-loop
-is-tagged-requires c κs = search needs
-
 returns : tie.Need-returns Inv-loop μ-loop
 returns c =
     let a = c .before .before .before .before .before .args in
@@ -62,7 +59,7 @@ slot-with-spec =
     loop-holds
     mul-is-tagged
     shared-slice-copy-out-is-tagged
-    is-tagged-requires
+    (λ c κs. search needs)
     returns
     add-i
     loop-less

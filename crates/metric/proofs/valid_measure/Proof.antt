@@ -1,4 +1,4 @@
--- `metric::validity::valid_measure` tests a measure against both limits.
+-- `metric::valid_measure` tests a measure against both limits.
 -- The two tests are the one of its size (`measure-range`).
 use borrow.Author.Needs.{needs}
 use mathlib.Core.Path.{sym, ap, _∙_}

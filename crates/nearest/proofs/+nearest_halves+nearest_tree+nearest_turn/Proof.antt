@@ -1,4 +1,4 @@
--- Each step leaves what its definition says or word that the area is too short, and the next step starts from that: a slot's own head, then
+-- Each step leaves what its definition says or word that the area is too short, and the next step starts from that: a slot's own item, then
 -- the two halves in their turns; few slots are the loop's. The measures are three times the slots' number, and one or two more below a slot. Assumes nothing.
 use mathlib.Core.Path.{_≡_, refl, sym, _∙_}
 use native.Mathlib.Omega.{arith}
@@ -108,9 +108,6 @@ nearest-tree-callees t = (nearest-few-reads.Asked, nearest-few-reads.Learnt, dis
 abbrev nearest-turn-callees : ℕ → nearest-turn-lts.Claims
 nearest-turn-callees t = (excess-reads.Asked, excess-reads.Learnt, reach-of-reads.Asked, reach-of-reads.Learnt, nearest-tree-below t, nearest-tree.Post)
 
-nearest-halves-sub-l : (t : ℕ) → nearest-halves-lts.Need-sub-l (nearest-halves-callees t) (nearest-halves-at t) nearest-halves.Post
-nearest-halves-sub-l t c = search needs
-
 nearest-halves-slice-aggregate-nearest-turn :
     (t : ℕ) → nearest-halves-lts.Need-slice-aggregate-nearest-turn (nearest-halves-callees t) (nearest-halves-at t) nearest-halves.Post
 nearest-halves-slice-aggregate-nearest-turn t c = simp length-take (omega arith)
@@ -138,18 +135,6 @@ nearest-halves-returns t c =
     (sound-left dist q isLive (a .k) (a .d) (a .m) (a .rest .now)) (sound-right dist q isLive (a .k) (a .d) (a .m) (a .rest .now))
     (a .area .now) (a .near) (ready-less (omega (arith, sum)) (start .pre .1)) (c .before .before .nearest-turn .last .1 .1 .1 .1 .1 .1 .0) (c .before .before .nearest-turn .result) (c .before .before .nearest-turn .ensures) (c .if2 .taken))
 
-nearest-halves-mul-nearest-turn : (t : ℕ) → nearest-halves-lts.Need-mul-nearest-turn (nearest-halves-callees t) (nearest-halves-at t) nearest-halves.Post
-nearest-halves-mul-nearest-turn t c = search needs
-
-nearest-halves-sub-nearest-turn : (t : ℕ) → nearest-halves-lts.Need-sub-nearest-turn (nearest-halves-callees t) (nearest-halves-at t) nearest-halves.Post
-nearest-halves-sub-nearest-turn t c = search needs
-
-nearest-halves-part-nearest-turn-start : (t : ℕ) → nearest-halves-lts.Need-part-nearest-turn-start (nearest-halves-callees t) (nearest-halves-at t) nearest-halves.Post
-nearest-halves-part-nearest-turn-start t c = search needs
-
-nearest-halves-part-nearest-turn-end : (t : ℕ) → nearest-halves-lts.Need-part-nearest-turn-end (nearest-halves-callees t) (nearest-halves-at t) nearest-halves.Post
-nearest-halves-part-nearest-turn-end t c = search needs
-
 nearest-halves-nearest-turn-requires-2 : (t : ℕ) → nearest-halves-lts.Need-nearest-turn-requires-2 (nearest-halves-callees t) (nearest-halves-at t) nearest-halves.Post
 unfolding leftTurn
 nearest-halves-nearest-turn-requires-2 t c κs =
@@ -163,19 +148,6 @@ nearest-halves-nearest-turn-requires-2 t c κs =
           (sound-left dist q isLive (a .k) (a .d) (a .m) (a .rest .now)) (sound-right dist q isLive (a .k) (a .d) (a .m) (a .rest .now))
           (a .area .now) (a .near) (ready-less (omega (arith, sum)) (start .pre .1)) (c .before .before .before .before .nearest-turn .last .1 .1 .1 .1 .1 .1 .0) (c .before .before .before .before .nearest-turn .result) (c .before .before .before .before .nearest-turn .ensures) (c .before .before .if2 .left),
     )
-
-nearest-halves-mul-nearest-turn-2 : (t : ℕ) → nearest-halves-lts.Need-mul-nearest-turn-2 (nearest-halves-callees t) (nearest-halves-at t) nearest-halves.Post
-nearest-halves-mul-nearest-turn-2 t c = search needs
-
-nearest-halves-sub-nearest-turn-2 : (t : ℕ) → nearest-halves-lts.Need-sub-nearest-turn-2 (nearest-halves-callees t) (nearest-halves-at t) nearest-halves.Post
-nearest-halves-sub-nearest-turn-2 t c = search needs
-
-nearest-halves-part-nearest-turn-start-2 :
-    (t : ℕ) → nearest-halves-lts.Need-part-nearest-turn-start-2 (nearest-halves-callees t) (nearest-halves-at t) nearest-halves.Post
-nearest-halves-part-nearest-turn-start-2 t c = search needs
-
-nearest-halves-part-nearest-turn-end-2 : (t : ℕ) → nearest-halves-lts.Need-part-nearest-turn-end-2 (nearest-halves-callees t) (nearest-halves-at t) nearest-halves.Post
-nearest-halves-part-nearest-turn-end-2 t c = search needs
 
 nearest-halves-nearest-turn-requires-3 : (t : ℕ) → nearest-halves-lts.Need-nearest-turn-requires-3 (nearest-halves-callees t) (nearest-halves-at t) nearest-halves.Post
 nearest-halves-nearest-turn-requires-3 t c κs =
@@ -263,12 +235,6 @@ nearest-tree-same-length t c = c .before .nearest-few .kept .1 .1 .1 .1 .0
 nearest-tree-returns : (t : ℕ) → nearest-tree-lts.Need-returns (nearest-tree-callees t) (nearest-tree-at t) nearest-tree.Post
 nearest-tree-returns t c = c .before .nearest-few .ensures
 
-nearest-tree-shared-slice-copy-out-row : (t : ℕ) → nearest-tree-lts.Need-shared-slice-copy-out-row (nearest-tree-callees t) (nearest-tree-at t) nearest-tree.Post
-nearest-tree-shared-slice-copy-out-row t c = search needs
-
-nearest-tree-distance-between-requires : (t : ℕ) → nearest-tree-lts.Need-distance-between-requires (nearest-tree-callees t) (nearest-tree-at t) nearest-tree.Post
-nearest-tree-distance-between-requires t c κs = search needs
-
 nearest-tree-take-in-requires : (t : ℕ) → nearest-tree-lts.Need-take-in-requires (nearest-tree-callees t) (nearest-tree-at t) nearest-tree.Post
 nearest-tree-take-in-requires t c κs = ready-less (omega (arith, c .before .before .before .before .if1 .left)) (c .before .before .before .before .before .pre .1)
 
@@ -282,18 +248,6 @@ nearest-tree-returns-2 t c =
     let a = start .args in
     tree-stop (distance (spaceOf (a .header .now))) (profileOf (a .query .now)) isLive (a .k) (a .slots .now) (omega (arith, c .before .before .before .before .before .before .before .if1 .left)) (a .area .now) (a .near) (start .pre .1)
     (c .before .before .before .before .distance-between .result) (c .before .before .before .before .distance-between .ensures) (c .before .before .take-in .last .1 .1 .1 .0) (c .before .before .take-in .result) (c .before .before .take-in .ensures) (c .if2 .taken)
-
-nearest-tree-sub-nearest-halves : (t : ℕ) → nearest-tree-lts.Need-sub-nearest-halves (nearest-tree-callees t) (nearest-tree-at t) nearest-tree.Post
-nearest-tree-sub-nearest-halves t c = search needs
-
-nearest-tree-part-nearest-halves-start : (t : ℕ) → nearest-tree-lts.Need-part-nearest-halves-start (nearest-tree-callees t) (nearest-tree-at t) nearest-tree.Post
-nearest-tree-part-nearest-halves-start t c = search needs
-
-nearest-tree-part-nearest-halves-end : (t : ℕ) → nearest-tree-lts.Need-part-nearest-halves-end (nearest-tree-callees t) (nearest-tree-at t) nearest-tree.Post
-nearest-tree-part-nearest-halves-end t c = search needs
-
-nearest-tree-threshold-of-requires : (t : ℕ) → nearest-tree-lts.Need-threshold-of-requires (nearest-tree-callees t) (nearest-tree-at t) nearest-tree.Post
-nearest-tree-threshold-of-requires t c κs = search needs
 
 nearest-tree-nearest-halves-requires : (t : ℕ) → nearest-tree-lts.Need-nearest-halves-requires (nearest-tree-callees t) (nearest-tree-at t) nearest-tree.Post
 unfolding toQuery
@@ -324,9 +278,6 @@ nearest-turn-returns t c =
     let a = c .before .args in
     leaves-as (a .area .now) _ _ (sym (turn-empty (distance (spaceOf (a .header .now))) (profileOf (a .query .now)) isLive (a .k) (entersLeft (a .a) (a .b)) (a .half .now) (tallyOf (a .area .now) (a .near)) (c .if1 .taken)))
     (leaves-same (a .area .now) (a .near) (c .before .pre .1))
-
-nearest-turn-excess-requires : (t : ℕ) → nearest-turn-lts.Need-excess-requires (nearest-turn-callees t) (nearest-turn-at t) nearest-turn.Post
-nearest-turn-excess-requires t c κs = search needs
 
 nearest-turn-reach-of-requires : (t : ℕ) → nearest-turn-lts.Need-reach-of-requires (nearest-turn-callees t) (nearest-turn-at t) nearest-turn.Post
 nearest-turn-reach-of-requires t c κs = c .before .before .before .pre .1 .within
@@ -364,20 +315,14 @@ pub +nearest-halves+nearest-tree+nearest-turn-spec : {M : Type 1} → statement 
 +nearest-halves+nearest-tree+nearest-turn-spec =
     close μ-nearest-halves μ-nearest-tree μ-nearest-turn (λ t. nearest-halves-lts.spec (nearest-halves-callees t) (nearest-halves-at t)
     nearest-halves.Post
-    (nearest-halves-sub-l t)
+    (λ c. search needs)
     (nearest-halves-slice-aggregate-nearest-turn t)
     (nearest-halves-nearest-turn-requires t)
     (nearest-halves-same-length t)
     (nearest-halves-returns t)
-    (nearest-halves-mul-nearest-turn t)
-    (nearest-halves-sub-nearest-turn t)
-    (nearest-halves-part-nearest-turn-start t)
-    (nearest-halves-part-nearest-turn-end t)
+    (λ c. search needs) (λ c. search needs) (λ c. search needs) (λ c. search needs)
     (nearest-halves-nearest-turn-requires-2 t)
-    (nearest-halves-mul-nearest-turn-2 t)
-    (nearest-halves-sub-nearest-turn-2 t)
-    (nearest-halves-part-nearest-turn-start-2 t)
-    (nearest-halves-part-nearest-turn-end-2 t)
+    (λ c. search needs) (λ c. search needs) (λ c. search needs) (λ c. search needs)
     (nearest-halves-nearest-turn-requires-3 t)
     (nearest-halves-same-length-2 t)
     (nearest-halves-returns-2 t)
@@ -392,22 +337,18 @@ pub +nearest-halves+nearest-tree+nearest-turn-spec : {M : Type 1} → statement 
     (nearest-tree-nearest-few-requires t)
     (nearest-tree-same-length t)
     (nearest-tree-returns t)
-    (nearest-tree-shared-slice-copy-out-row t)
-    (nearest-tree-distance-between-requires t)
+    (λ c. search needs) (λ c κs. search needs)
     (nearest-tree-take-in-requires t)
     (nearest-tree-same-length-2 t)
     (nearest-tree-returns-2 t)
-    (nearest-tree-sub-nearest-halves t)
-    (nearest-tree-part-nearest-halves-start t)
-    (nearest-tree-part-nearest-halves-end t)
-    (nearest-tree-threshold-of-requires t)
+    (λ c. search needs) (λ c. search needs) (λ c. search needs) (λ c κs. search needs)
     (nearest-tree-nearest-halves-requires t)
     (nearest-tree-same-length-3 t)
     (nearest-tree-returns-3 t))
     λ t. nearest-turn-lts.spec (nearest-turn-callees t) (nearest-turn-at t)
     nearest-turn.Post
     (nearest-turn-returns t)
-    (nearest-turn-excess-requires t)
+    (λ c κs. search needs)
     (nearest-turn-reach-of-requires t)
     (nearest-turn-nearest-tree-requires t)
     (nearest-turn-same-length t)

@@ -24,7 +24,7 @@ returns c =
     leaves-told _ _ _ (c .passed .ensures)
     (leaves-dead isLive (a .k) (a .row) (a .d) (a .area .now) (a .near) (start .pre) (sym (c .before .before .is-live .ensures) ∙ not-true _ (c .before .if1 .taken)))
 
--- what is known of a live head
+-- what is known of a live item
 live : (c : tie.After-tag-of) → isLive (c .before .before .before .args .row) ≡ true
 live c = sym (c .before .before .is-live .ensures) ∙ not-false _ (c .before .if1 .left)
 
@@ -52,7 +52,7 @@ returns-3 c =
     (leaves-after isLive (a .k) (a .row) (a .d) (a .area .now) (a .near) (start .pre) (live (c .before .before .before .before .before .before)) (omega (arith, c .before .before .before .before .before .if2 .taken)) (omega (arith, c .before .before .before .before .if3 .left))
     (by-tag (c .before .before .before .before .before .before) _ (c .before .before .not-after .ensures) ∙ not-true _ (c .before .if4 .taken)))
 
--- a head is put behind all that are kept only where these are fewer than k
+-- an item is put behind all that are kept only where these are fewer than k
 fewer : (c : tie.Else2) → (let a = c .before .before .before .before .args in a .near .kept < a .k)
 fewer c = omega (arith, c .before .before .before .before .pre .few, c .if2 .left)
 
@@ -62,7 +62,7 @@ returns-4 c =
     let a = start .args in
     leaves-short isLive (a .k) (a .row) (a .d) (a .area .now) (a .near) (start .pre) (live (c .before .before .before)) (fewer (c .before .before)) (c .before .if5 .taken)
 
--- where the head is put
+-- where the item is put
 puts : (c : tie.Joined2) → (let start = c .before .before .before .before in let a = start .args in Puts isLive (a .k) (a .row) (a .d) (a .area .now) (a .near) (start .pre) (c .if2 .end))
 puts c =
     let start = c .before .before .before .before in
@@ -97,23 +97,15 @@ pub take-in-spec : {M : Type 1} → statement M
 take-in-spec =
     tie.close
     (tie.spec
-    (λ c κs. search needs)
-    (λ c κs. search needs)
+    (λ c κs. search needs) (λ c κs. search needs)
     returns
-    (λ c κs. search needs)
-    (λ c κs. search needs)
+    (λ c κs. search needs) (λ c κs. search needs)
     returns-2
-    (λ c. search needs)
-    (λ c. search needs)
-    (λ c. search needs)
-    (λ c κs. search needs)
-    (λ c κs. search needs)
+    (λ c. search needs) (λ c. search needs) (λ c. search needs) (λ c κs. search needs) (λ c κs. search needs)
     returns-3
-    (λ c. search needs)
-    (λ c. search needs)
+    (λ c. search needs) (λ c. search needs)
     returns-4
     slide-requires
     add-t13
-    (λ c. search needs)
-    (λ c. search needs)
+    (λ c. search needs) (λ c. search needs)
     returns-5)

@@ -12,7 +12,7 @@ use Rattle.bucket_rules.proofs.Sizes.{room-zero}
 use Rattle.put_in.proofs.add_bucket.Statement.{statement}
 use Rattle.put_in.proofs.add_bucket.Tie as tie
 
--- bucket 0 is too small for twice any head
+-- bucket 0 is too small for twice any number of items
 not-first : (k n : ℕ) → 1 ≤ n → (size : ℕ) → size ≡ room k → 2 * n ≤ size → 1 ≤ k
 not-first zero n some size e h = absurd (omega (arith, room-zero))
 not-first (suc k) n some size e h = omega arith
@@ -20,12 +20,6 @@ not-first (suc k) n some size e h = omega arith
 by-size : (k n : ℕ) (b : Bool) → ltb (room k) (2 * n) ≡ b → elim b [ true ↦ k | false ↦ k - 1 ] ≡ addBucket k n
 unfolding addBucket
 by-size k n b e = ap (λ (d : Bool). elim d [ true ↦ k | false ↦ k - 1 ]) (sym e)
-
-room-requires : tie.Need-room-requires
-room-requires c κs = search needs
-
-mul-if1 : tie.Need-mul-if1
-mul-if1 c = search needs
 
 sub-result : tie.Need-sub-result
 sub-result c = omega (arith, not-first (c .before .before .args .k) (c .before .before .args .n) (c .before .before .pre .1) (c .before .room .result) (c .before .room .ensures) (c .if1 .left))
@@ -41,4 +35,4 @@ returns-2 c =
     by-size (a .k) (a .n) false (le-ltb (room (a .k)) (2 * a .n) (omega (arith, c .before .room .ensures, c .if1 .left)))
 
 pub add-bucket-spec : {M : Type 1} → statement M
-add-bucket-spec = tie.close (tie.spec room-requires mul-if1 sub-result returns returns-2)
+add-bucket-spec = tie.close (tie.spec (λ c κs. search needs) (λ c. search needs) sub-result returns returns-2)

@@ -1,4 +1,4 @@
--- `put_in::gather_below` meets its contract. The loop's invariant: the live head of the buckets below i stand behind the first n rows. Assumes nothing.
+-- `put_in::gather_below` meets its contract. The loop's invariant: the live items of the buckets below i stand behind the first n rows. Assumes nothing.
 use native.Mathlib.Omega.{arith}
 use Prim.Native.Nat.{ℕ, _+_, _-_, _≤_}
 use mathlib.Core.Path.{_≡_, refl, sym, _∙_, ap}
@@ -9,8 +9,8 @@ use Rattle.metric_rules.specs.Lists.{countFrom}
 use Rattle.metric_rules.specs.Row.{Row}
 use Rattle.bucket_rules.specs.Table.{liveSlots}
 use Rattle.bucket_rules.specs.Rebuild.{liveItems}
-use Rattle.gather.proofs.Stored.{sets-then}
-use Rattle.put_in.proofs.Below.{head-next, head-within}
+use Rattle.tree_rules.proofs.Stores.{sets-more}
+use Rattle.put_in.proofs.Below.{items-next, items-within}
 use Rattle.put_in.proofs.gather_below.Statement.{statement}
 use Rattle.put_in.proofs.gather_below.Tie as tie
 
@@ -31,7 +31,7 @@ gather-bucket-requires c κs =
     let l = c .before .before .loop in
     let t : List Row = s .args .table .now in
     let inside : l .i ≤ s .args .order .t = omega arith in
-    (s .pre .0 .lent, inside, s .pre .0 .built (l .i) inside, omega (arith, head-within t (l .i) (s .args .k) (omega arith)))
+    (s .pre .0 .lent, inside, s .pre .0 .built (l .i) inside, omega (arith, items-within t (l .i) (s .args .k) (omega arith)))
 
 add-i : tie.Need-add-i Inv-loop μ-loop
 add-i c = omega arith
@@ -47,13 +47,13 @@ loop-again c =
     let t : List Row = s .args .table .now in
     let here : List Row = liveSlots t (l .i) in
     let before : List Row = liveItems t (countFrom 0 (l .i)) in
-    let e : liveItems t (countFrom 0 (l .i + 1)) ≡ before ++ here = head-next t (l .i) in (
+    let e : liveItems t (countFrom 0 (l .i + 1)) ≡ before ++ here = items-next t (l .i) in (
       omega arith,
       omega (arith, g .ensures .0, l .inv .1, ap length e, length-append before here),
       g .kept .1 .1 .1 .0 ∙ l .inv .2,
       g .ensures .1
           ∙ ap (λ (w : List Row). sets w (l .end) here) (l .inv .3)
-          ∙ sets-then before (s .args .work .now) (s .args .n) (l .end) here (l .inv .1)
+          ∙ sets-more (s .args .work .now) (s .args .n) (l .end) before here (l .inv .1)
           ∙ ap (sets (s .args .work .now) (s .args .n)) (sym e),
     )
 

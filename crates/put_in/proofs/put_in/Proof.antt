@@ -25,9 +25,6 @@ house c = housed (ok c) (c .args .order .t) (c .pre .0)
 lowest-empty-requires : tie.Need-lowest-empty-requires
 lowest-empty-requires c κs = house (c .before) .lent
 
-row-of-requires : tie.Need-row-of-requires
-row-of-requires c κs = search needs
-
 slice-set-from-work : tie.Need-slice-set-from-work
 slice-set-from-work c = omega (arith, few (ok (c .before .before .before)) .0, some-gathered (ok (c .before .before .before)), changes (ok (c .before .before .before)) .roomy)
 
@@ -69,9 +66,6 @@ build-bucket-requires c κs =
       omega (arith, g .kept .1 .1 .1 .0, length-set (s .args .work .now) 0 (c .before .before .before .before .before .before .before .before .before .before .row-of .result), changes (ok s) .roomy, ap workRows (s .pre .0)),
     )
 
-same-length : tie.Need-same-length
-same-length c = search needs
-
 same-length-2 : tie.Need-same-length-2
 same-length-2 c =
     c .before .before .build-bucket .kept .1 .1 .1 .0 ∙ c .before .before .before .before .before .before .before .before .before .before .gather-below .kept .1 .1 .1 .0 ∙ length-set (c .before .before .before .before .before .before .before .before .before .before .before .before .before .before .before .before .args .work .now) 0 (c .before .before .before .before .before .before .before .before .before .before .before .before .before .row-of .result)
@@ -97,12 +91,12 @@ put-in-spec =
     tie.close
     (tie.spec
     lowest-empty-requires
-    row-of-requires
+    (λ c κs. search needs)
     slice-set-from-work
     gather-below-requires
     add-bucket-requires
     empty-below-requires
     build-bucket-requires
-    same-length
+    (λ c. search needs)
     same-length-2
     returns)

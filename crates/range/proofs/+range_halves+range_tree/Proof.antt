@@ -140,9 +140,6 @@ after-left t c =
 left-length : (t : ℕ) (c : range-halves-lts.Joined1 (range-halves-callees t) (range-halves-at t) range-halves.Post) → length (c .if1 .area) ≡ length (c .before .before .before .args .area .now)
 left-length t c = ap length (after-left t c .1) ∙ collected-length (c .before .before .before .args .area .now) (c .before .before .before .args .found) _
 
-range-halves-add-if1 : (t : ℕ) → range-halves-lts.Need-add-if1 (range-halves-callees t) (range-halves-at t) range-halves.Post
-range-halves-add-if1 t c = search needs
-
 range-halves-slice-aggregate-range-tree :
     (t : ℕ) → range-halves-lts.Need-slice-aggregate-range-tree (range-halves-callees t) (range-halves-at t) range-halves.Post
 range-halves-slice-aggregate-range-tree t c = simp length-take (omega arith)
@@ -151,9 +148,6 @@ range-halves-range-tree-requires : (t : ℕ) → range-halves-lts.Need-range-tre
 range-halves-range-tree-requires t c κs =
     let start = c .before .before .before .before .before in
     (simp length-take (omega (arith, start .pre .0)), (simp length-take (omega (arith, start .pre .1 .0)), simp length-take (omega (arith, start .pre .1 .1))))
-
-range-halves-add-if2 : (t : ℕ) → range-halves-lts.Need-add-if2 (range-halves-callees t) (range-halves-at t) range-halves.Post
-range-halves-add-if2 t c = search needs
 
 range-halves-range-tree-requires-2 : (t : ℕ) → range-halves-lts.Need-range-tree-requires-2 (range-halves-callees t) (range-halves-at t) range-halves.Post
 range-halves-range-tree-requires-2 t c κs =
@@ -240,19 +234,10 @@ range-tree-returns-2 t c =
 pub +range-halves+range-tree-spec : {M : Type 1} → statement M
 +range-halves+range-tree-spec = close μ-range-halves μ-range-tree (λ t. range-halves-lts.spec (range-halves-callees t) (range-halves-at t)
     range-halves.Post
-    (λ c. search needs)
-    (λ c. search needs)
-    (λ c κs. search needs)
-    (λ c. search needs)
-    (range-halves-add-if1 t)
+    (λ c. search needs) (λ c. search needs) (λ c κs. search needs) (λ c. search needs) (λ c. search needs)
     (range-halves-slice-aggregate-range-tree t)
     (range-halves-range-tree-requires t)
-    (λ c. search needs)
-    (range-halves-add-if2 t)
-    (λ c. search needs)
-    (λ c. search needs)
-    (λ c. search needs)
-    (λ c. search needs)
+    (λ c. search needs) (λ c. search needs) (λ c. search needs) (λ c. search needs) (λ c. search needs) (λ c. search needs)
     (range-halves-range-tree-requires-2 t)
     (range-halves-same-length t)
     (range-halves-returns t)
@@ -261,16 +246,8 @@ pub +range-halves+range-tree-spec : {M : Type 1} → statement M
     λ t. range-tree-lts.spec (range-tree-callees t) (range-tree-at t)
     range-tree.Post
     (range-tree-returns t)
-    (λ c. search needs)
-    (λ c. search needs)
-    (λ c. search needs)
-    (λ c κs. search needs)
-    (λ c. search needs)
-    (λ c κs. search needs)
-    (λ c κs. search needs)
-    (λ c. search needs)
-    (λ c. search needs)
-    (λ c. search needs)
+    (λ c. search needs) (λ c. search needs) (λ c. search needs) (λ c κs. search needs) (λ c. search needs)
+    (λ c κs. search needs) (λ c κs. search needs) (λ c. search needs) (λ c. search needs) (λ c. search needs)
     (λ c κs. search needs)
     (range-tree-range-halves-requires t)
     (range-tree-same-length t)

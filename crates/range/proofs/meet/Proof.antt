@@ -14,12 +14,6 @@ use borrow.Author.Tests.{not-true, not-false}
 use Rattle.range.proofs.meet.Statement.{statement}
 use Rattle.range.proofs.meet.Tie as tie
 
-add-count : tie.Need-add-count
-add-count c = search needs
-
-is-live-requires : tie.Need-is-live-requires
-is-live-requires c κs = search needs
-
 returns : tie.Need-returns
 returns c =
     let a = c .before .before .before .args in
@@ -31,18 +25,6 @@ returns-2 c =
     let a = c .before .before .before .before .args in
     let no-hit = far-no-hit isLive (a .row) (a .d) (a .radius) (c .if2 .taken) in
     (sym (missed isLive (a .row) (a .d) (a .radius) no-hit (a .found)), sym (missed-area isLive (a .row) (a .d) (a .radius) no-hit (a .area .now) (a .found)))
-
-tag-of-requires : tie.Need-tag-of-requires
-tag-of-requires c κs = search needs
-
-mul-t14 : tie.Need-mul-t14
-mul-t14 c = search needs
-
-slice-set-from-area : tie.Need-slice-set-from-area
-slice-set-from-area c = search needs
-
-add-t10 : tie.Need-add-t10
-add-t10 c = search needs
 
 same-length : tie.Need-same-length
 same-length c = ⊎-elim (λ w. ap length (w .2) ∙ simp length-set) (λ w. ap length (w .1)) (c .if3 .came)
@@ -64,13 +46,9 @@ pub meet-spec : {M : Type 1} → statement M
 meet-spec =
     tie.close
     (tie.spec
-    add-count
-    is-live-requires
+    (λ c. search needs) (λ c κs. search needs)
     returns
     returns-2
-    tag-of-requires
-    mul-t14
-    slice-set-from-area
-    add-t10
+    (λ c κs. search needs) (λ c. search needs) (λ c. search needs) (λ c. search needs)
     same-length
     returns-3)

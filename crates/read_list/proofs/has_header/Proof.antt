@@ -14,12 +14,6 @@ returns c = sym (no-room _ (c .if1 .taken))
 slice-aggregate-same : tie.Need-slice-aggregate-same
 slice-aggregate-same c = simp length-take (omega arith)
 
-slice-aggregate-same-2 : tie.Need-slice-aggregate-same-2
-slice-aggregate-same-2 c = search needs
-
-same-requires : tie.Need-same-requires
-same-requires c κs = search needs
-
 returns-2 : tie.Need-returns-2
 unfolding hasHeader listHeader
 returns-2 c = c .same .ensures
@@ -27,4 +21,4 @@ returns-2 c = c .same .ensures
 pub has-header-spec : {M : Type 1} → statement M
 has-header-spec =
     tie.close
-    (tie.spec returns slice-aggregate-same slice-aggregate-same-2 same-requires returns-2)
+    (tie.spec returns slice-aggregate-same (λ c. search needs) (λ c κs. search needs) returns-2)

@@ -3,6 +3,7 @@ use Prim.Native.Nat.{_-_}
 use mathlib.Core.Path.{sym, ap, _∙_}
 use native.Mathlib.Omega.{arith}
 use lib.ListN.{length}
+use borrow.Author.Needs.{needs}
 use borrow.Author.Tests.{not-true, not-false}
 use Rattle.list_line.proofs.Grammar.{item-here, broken-here}
 use Rattle.read_list.proofs.SoFar.{reply-refusal, SoFar, at-first, read-to-end, line-broken-here, add-refused, sums-fit, one-line-more}
@@ -21,39 +22,35 @@ loop-holds c = at-first _ _ _ (c .before .pre)
 add-number : tie.Need-add-number Inv-loop μ-loop
 add-number c = omega (arith, c .before .loop .inv .most)
 
-line-requires : tie.Need-line-requires Inv-loop μ-loop
-line-requires c κs = tt
-
 same-length : tie.Need-same-length Inv-loop μ-loop
-same-length c = c .before .before .before .before .loop .inv .table-long
+same-length c = c .before .before .before .before .before .loop .inv .table-long
 
 same-length-2 : tie.Need-same-length-2 Inv-loop μ-loop
-same-length-2 c = c .before .before .before .before .loop .inv .work-long
+same-length-2 c = c .before .before .before .before .before .loop .inv .work-long
 
 returns : tie.Need-returns Inv-loop μ-loop
 returns c =
-    let l = c .before .before .before .before .loop in
-    let f = c .before .before .line in
-    line-broken-here (l .inv) (broken-here _ (l .at) (f .result) (f .ensures) (not-true _ (c .if1 .taken)) (c .before .before .before .loop-test .taken))
-
-add-requires : tie.Need-add-requires Inv-loop μ-loop
-add-requires c κs = tt
+    let l = c .before .before .before .before .before .loop in
+    let f = c .before .before .before .line in
+    let end = line-broken-here (l .inv) (broken-here _ (l .at) (f .result) (f .ensures) (not-true _ (c .before .if1 .taken)) (c .before .before .before .before .loop-test .taken)) in
+    (c .replied .ensures ∙ end .0, end .1)
 
 same-length-3 : tie.Need-same-length-3 Inv-loop μ-loop
-same-length-3 c = c .before .before .before .before .add .kept .0 ∙ c .before .before .before .before .before .before .before .before .before .before .before .before .loop .inv .table-long
+same-length-3 c = c .before .before .before .before .before .add .kept .0 ∙ c .before .before .before .before .before .before .before .before .before .before .before .before .before .loop .inv .table-long
 
 same-length-4 : tie.Need-same-length-4 Inv-loop μ-loop
-same-length-4 c = c .before .before .before .before .add .kept .1 .0 ∙ c .before .before .before .before .before .before .before .before .before .before .before .before .loop .inv .work-long
+same-length-4 c = c .before .before .before .before .before .add .kept .1 .0 ∙ c .before .before .before .before .before .before .before .before .before .before .before .before .before .loop .inv .work-long
 
 returns-2 : tie.Need-returns-2 Inv-loop μ-loop
 returns-2 c =
-    let l = c .before .before .before .before .before .before .before .before .before .before .before .before .loop in
-    let f = c .before .before .before .before .before .before .before .before .before .before .line in
-    let list = c .before .before .before .before .before .before .before .before .before .before .before .before .before .before .args .list .now in
-    let here = item-here list (l .at) (f .result) (f .ensures) (not-false _ (c .before .before .before .before .before .before .before .before .if1 .left)) in
-    let a = c .before .before .before .before .add in
+    let l = c .before .before .before .before .before .before .before .before .before .before .before .before .before .loop in
+    let f = c .before .before .before .before .before .before .before .before .before .before .before .line in
+    let list = c .before .before .before .before .before .before .before .before .before .before .before .before .before .before .before .args .list .now in
+    let here = item-here list (l .at) (f .result) (f .ensures) (not-false _ (c .before .before .before .before .before .before .before .before .before .if1 .left)) in
+    let a = c .before .before .before .before .before .add in
     let told = ap (λ r. r .refusal) (a .ensures .0) ∙ reply-refusal _ _ _ _ in
-    add-refused (l .inv) (f .result .next) (here .0) (a .result .refusal) told (c .if2 .taken) (a .ensures .1 .0) (a .ensures .1 .1)
+    let end = add-refused (l .inv) (f .result .next) (here .0) (a .result .refusal) told (c .before .if2 .taken) (a .ensures .1 .0) (a .ensures .1 .1) in
+    (c .replied2 .ensures ∙ end .0, end .1)
 
 add-added : tie.Need-add-added Inv-loop μ-loop
 add-added c =
@@ -94,13 +91,13 @@ loop-again c =
     one-line-more (l .inv) (f .result .next) (here .0) (sym told ∙ c .before .if2 .left) (here .1 .within) (a .ensures .1 .0) (a .ensures .1 .1) (a .kept .0) (a .kept .1 .0) (ap (λ r. r .distances) (a .ensures .0))
 
 same-length-5 : tie.Need-same-length-5 Inv-loop μ-loop
-same-length-5 c = c .before .loop .inv .table-long
+same-length-5 c = c .before .before .loop .inv .table-long
 
 same-length-6 : tie.Need-same-length-6 Inv-loop μ-loop
-same-length-6 c = c .before .loop .inv .work-long
+same-length-6 c = c .before .before .loop .inv .work-long
 
 returns-3 : tie.Need-returns-3 Inv-loop μ-loop
-returns-3 c = read-to-end (c .before .loop .inv) (omega arith)
+returns-3 c = let end = read-to-end (c .before .before .loop .inv) (omega arith) in (c .replied3 .ensures ∙ end .0, end .1)
 
 pub read-lines-spec : {M : Type 1} → statement M
 read-lines-spec =
@@ -110,11 +107,11 @@ read-lines-spec =
     μ-loop
     loop-holds
     add-number
-    line-requires
+    (λ c κs. search needs) (λ c κs. search needs)
     same-length
     same-length-2
     returns
-    add-requires
+    (λ c κs. search needs) (λ c κs. search needs)
     same-length-3
     same-length-4
     returns-2
@@ -122,6 +119,7 @@ read-lines-spec =
     add-distances
     loop-less
     loop-again
+    (λ c κs. search needs)
     same-length-5
     same-length-6
     returns-3)

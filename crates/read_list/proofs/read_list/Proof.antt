@@ -6,20 +6,13 @@ use Rattle.read_list.proofs.Header.{header-room, without-header, with-h
 use Rattle.read_list.proofs.read_list.Statement.{statement}
 use Rattle.read_list.proofs.read_list.Tie as tie
 
-has-header-requires : tie.Need-has-header-requires
-has-header-requires c κs = search needs
-
 returns : tie.Need-returns
-returns c = without-header _ _ _ (sym (c .before .has-header .ensures) ∙ not-true _ (c .if1 .taken))
+returns c =
+    let end = without-header _ _ _ (sym (c .before .before .has-header .ensures) ∙ not-true _ (c .before .if1 .taken)) in
+    (c .replied .ensures ∙ end .0, end .1)
 
 read-lines-requires : tie.Need-read-lines-requires
 read-lines-requires c κs = header-room _ (sym (c .before .before .before .has-header .ensures) ∙ not-false _ (c .before .before .if1 .left))
-
-same-length : tie.Need-same-length
-same-length c = search needs
-
-same-length-2 : tie.Need-same-length-2
-same-length-2 c = search needs
 
 returns-2 : tie.Need-returns-2
 returns-2 c =
@@ -29,4 +22,4 @@ returns-2 c =
 pub read-list-spec : {M : Type 1} → statement M
 read-list-spec =
     tie.close
-    (tie.spec has-header-requires returns read-lines-requires same-length same-length-2 returns-2)
+    (tie.spec (λ c κs. search needs) (λ c κs. search needs) returns read-lines-requires (λ c. search needs) (λ c. search needs) returns-2)

@@ -30,12 +30,6 @@ unfolding workRows
 few c =
     (le-trans (c .pre .2) (rooms-grow (c .pre .1)), le-trans (c .pre .2) (room-most (c .args .k) (le-trans (c .pre .1) (c .pre .0 .most))))
 
-first-slot-requires : tie.Need-first-slot-requires
-first-slot-requires c κs = search needs
-
-room-requires : tie.Need-room-requires
-room-requires c κs = search needs
-
 add-end : tie.Need-add-end
 add-end c = omega (arith, inside (c .before .before))
 
@@ -44,12 +38,6 @@ slice-copy-out-header c = omega (arith, inside (c .before .before), header-insid
 
 mul-fill : tie.Need-mul-fill
 mul-fill c = omega (arith, inside (c .before .before .before))
-
-sub-fill : tie.Need-sub-fill
-sub-fill c = search needs
-
-part-fill-start : tie.Need-part-fill-start
-part-fill-start c = search needs
 
 part-fill-end : tie.Need-part-fill-end
 part-fill-end c = omega (arith, inside (c .before .before .before))
@@ -95,12 +83,6 @@ cast-result c =
     let s = c .before .before .before .before .before .before .before .before .before .before .before .before .before .before .before in
     omega (arith, c .before .before .before .before .before .before .before .before .fill .ensures .1 .1, cost-bound 12 (s .args .n) (few s .1), few s)
 
-same-length : tie.Need-same-length
-same-length c = search needs
-
-same-length-2 : tie.Need-same-length-2
-same-length-2 c = search needs
-
 returns : tie.Need-returns
 unfolding tableSpace rowAt headerRow
 returns c =
@@ -125,13 +107,11 @@ pub build-bucket-spec : {M : Type 1} → statement M
 build-bucket-spec =
     tie.close
     (tie.spec
-    first-slot-requires
-    room-requires
+    (λ c κs. search needs) (λ c κs. search needs)
     add-end
     slice-copy-out-header
     mul-fill
-    sub-fill
-    part-fill-start
+    (λ c. search needs) (λ c. search needs)
     part-fill-end
     fill-requires
     cast-put-sizes
@@ -139,6 +119,5 @@ build-bucket-spec =
     put-sizes-requires
     clear-requires
     cast-result
-    same-length
-    same-length-2
+    (λ c. search needs) (λ c. search needs)
     returns)

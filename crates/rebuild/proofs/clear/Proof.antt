@@ -9,27 +9,6 @@ use Rattle.rebuild.proofs.Filling.{zeroed}
 use Rattle.rebuild.proofs.clear.Statement.{statement}
 use Rattle.rebuild.proofs.clear.Tie as tie
 
-work-rows-requires : tie.Need-work-rows-requires
-work-rows-requires c κs = search needs
-
-mul-zero-rows : tie.Need-mul-zero-rows
-mul-zero-rows c = search needs
-
-sub-zero-rows : tie.Need-sub-zero-rows
-sub-zero-rows c = search needs
-
-part-zero-rows-start : tie.Need-part-zero-rows-start
-part-zero-rows-start c = search needs
-
-part-zero-rows-end : tie.Need-part-zero-rows-end
-part-zero-rows-end c = search needs
-
-zero-rows-requires : tie.Need-zero-rows-requires
-zero-rows-requires c κs = search needs
-
-same-length : tie.Need-same-length
-same-length c = search needs
-
 returns : tie.Need-returns
 returns c =
     let s = c .before .before .before .before in
@@ -41,11 +20,6 @@ pub clear-spec : {M : Type 1} → statement M
 clear-spec =
     tie.close
     (tie.spec
-    work-rows-requires
-    mul-zero-rows
-    sub-zero-rows
-    part-zero-rows-start
-    part-zero-rows-end
-    zero-rows-requires
-    same-length
+    (λ c κs. search needs) (λ c. search needs) (λ c. search needs) (λ c. search needs) (λ c. search needs)
+    (λ c κs. search needs) (λ c. search needs)
     returns)

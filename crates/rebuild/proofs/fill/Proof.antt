@@ -13,14 +13,8 @@ use Rattle.rebuild.proofs.Filling.{filled}
 use Rattle.rebuild.proofs.fill.Statement.{statement}
 use Rattle.rebuild.proofs.fill.Tie as tie
 
-slice-relend-prefix-build : tie.Need-slice-relend-prefix-build
-slice-relend-prefix-build c = search needs
-
 slice-aggregate-build : tie.Need-slice-aggregate-build
 slice-aggregate-build c = sym (length-take-le (c .before .args .n) (c .before .args .slots .now) (c .before .pre .0))
-
-slice-relend-prefix-build-2 : tie.Need-slice-relend-prefix-build-2
-slice-relend-prefix-build-2 c = search needs
 
 slice-aggregate-build-2 : tie.Need-slice-aggregate-build-2
 slice-aggregate-build-2 c = sym (length-take-le (c .before .before .args .n) (c .before .before .args .work .now) (c .before .before .pre .1))
@@ -31,27 +25,6 @@ build-requires c κs =
     let a : length (take (s .args .n) (s .args .slots .now)) ≡ s .args .n = length-take-le (s .args .n) (s .args .slots .now) (s .pre .0) in
     let b : length (take (s .args .n) (s .args .work .now)) ≡ s .args .n = length-take-le (s .args .n) (s .args .work .now) (s .pre .1) in
     (a ∙ sym b, omega (arith, b, s .pre .2))
-
-mul-zero-rows : tie.Need-mul-zero-rows
-mul-zero-rows c = search needs
-
-sub-zero-rows : tie.Need-sub-zero-rows
-sub-zero-rows c = search needs
-
-part-zero-rows-start : tie.Need-part-zero-rows-start
-part-zero-rows-start c = search needs
-
-part-zero-rows-end : tie.Need-part-zero-rows-end
-part-zero-rows-end c = search needs
-
-zero-rows-requires : tie.Need-zero-rows-requires
-zero-rows-requires c κs = search needs
-
-same-length : tie.Need-same-length
-same-length c = search needs
-
-same-length-2 : tie.Need-same-length-2
-same-length-2 c = search needs
 
 returns : tie.Need-returns
 returns c =
@@ -73,16 +46,11 @@ pub fill-spec : {M : Type 1} → statement M
 fill-spec =
     tie.close
     (tie.spec
-    slice-relend-prefix-build
+    (λ c. search needs)
     slice-aggregate-build
-    slice-relend-prefix-build-2
+    (λ c. search needs)
     slice-aggregate-build-2
     build-requires
-    mul-zero-rows
-    sub-zero-rows
-    part-zero-rows-start
-    part-zero-rows-end
-    zero-rows-requires
-    same-length
-    same-length-2
+    (λ c. search needs) (λ c. search needs) (λ c. search needs) (λ c. search needs) (λ c κs. search needs)
+    (λ c. search needs) (λ c. search needs)
     returns)

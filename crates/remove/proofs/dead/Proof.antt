@@ -5,12 +5,9 @@ use Rattle.metric_rules.specs.Row.{rowWidth, withMark}
 use Rattle.remove.proofs.dead.Statement.{statement}
 use Rattle.remove.proofs.dead.Tie as tie
 
-array-write-marked : tie.Need-array-write-marked
-array-write-marked c = search needs
-
 returns : tie.Need-returns
 unfolding withMark rowWidth
 returns c = (refl, c .good .0 .1 .0 .1)
 
 pub dead-spec : {M : Type 1} → statement M
-dead-spec = tie.close (tie.spec array-write-marked returns)
+dead-spec = tie.close (tie.spec (λ c. search needs) returns)

@@ -16,9 +16,6 @@ use Rattle.remove.proofs.mark_dead.Tie as tie
 inside : (c : tie.Start) → firstSlot (c .args .order .t) (c .args .k) + c .args .slot < length (c .args .table .now)
 inside c = omega (arith, c .pre .2, room-inside (c .pre .0) (c .args .k) (c .pre .1))
 
-first-slot-requires : tie.Need-first-slot-requires
-first-slot-requires c κs = search needs
-
 add-at : tie.Need-add-at
 add-at c = omega (arith, inside (c .before))
 
@@ -34,17 +31,11 @@ mul-dead c = omega (arith, inside (c .before .before .before .before .before))
 slice-copy-out-dead : tie.Need-slice-copy-out-dead
 slice-copy-out-dead c = omega (arith, inside (c .before .before .before .before .before))
 
-dead-requires : tie.Need-dead-requires
-dead-requires c κs = search needs
-
 mul-t16 : tie.Need-mul-t16
 mul-t16 c = omega (arith, inside (c .before .before .before .before .before .before .before))
 
 slice-set-from-table : tie.Need-slice-set-from-table
 slice-set-from-table c = omega (arith, inside (c .before .before .before .before .before .before .before))
-
-sub-put-sizes : tie.Need-sub-put-sizes
-sub-put-sizes c = search needs
 
 put-sizes-requires : tie.Need-put-sizes-requires
 put-sizes-requires c κs =
@@ -77,16 +68,16 @@ pub mark-dead-spec : {M : Type 1} → statement M
 mark-dead-spec =
     tie.close
     (tie.spec
-    first-slot-requires
+    (λ c κs. search needs)
     add-at
     built-of-requires
     live-of-requires
     mul-dead
     slice-copy-out-dead
-    dead-requires
+    (λ c κs. search needs)
     mul-t16
     slice-set-from-table
-    sub-put-sizes
+    (λ c. search needs)
     put-sizes-requires
     same-length
     returns)

@@ -1,4 +1,4 @@
--- `remove::remove` meets its contract: each refusal is the definition's, and the head found is marked and its bucket settled. Assumes nothing.
+-- `remove::remove` meets its contract: each refusal is the definition's, and the item found is marked and its bucket settled. Assumes nothing.
 use borrow.Author.Needs.{needs}
 use native.Mathlib.Omega.{arith}
 use borrow.Author.Tests.{not-true, not-false}
@@ -41,7 +41,7 @@ change c = changeable (c .before .before .before .args .work .now) (c .before .b
 valid : (c : tie.Else2) → validTag (c .before .before .before .before .before .args .tag) ≡ true
 valid c = sym (c .before .valid-tag .ensures) ∙ not-false (c .before .valid-tag .result) (c .if2 .left)
 
--- the place found, and that a live head stands there
+-- the place found, and that a live item stands there
 place : (c : tie.After-bucket) → Place
 place c = record { bucket = c .bucket .given .0 .0; slot = c .bucket .given .0 .1 .0; row = getD (slotsOf (c .before .before .before .before .before .before .before .before .before .args .table .now) (c .bucket .given .0 .0)) (c .bucket .given .0 .1 .0) [] }
 
@@ -76,30 +76,12 @@ whole-place :
     → length (rowAt (c .before .before .before .before .before .before .before .before .before .args .table .now) (firstSlot order (c .bucket .given .0 .0) + c .bucket .given .0 .1 .0)) ≡ rowWidth → length (place c .row) ≡ rowWidth
 whole-place c order e w = ap length (sym (same-row c order e)) ∙ w
 
-change-refusal-requires : tie.Need-change-refusal-requires
-change-refusal-requires c κs = search needs
-
-refused-requires : tie.Need-refused-requires
-refused-requires c κs = search needs
-
-same-length : tie.Need-same-length
-same-length c = search needs
-
 returns : tie.Need-returns
 returns c =
     let a = c .before .before .before .before .args in
     let f = c .before .before .change-refusal in
     let r = refused-first (a .table .now) (a .work .now) (a .tag) (f .result) (first (c .before .before .before .before) (f .result) (f .ensures)) (c .before .if1 .taken) in
     (c .refused .ensures ∙ r .0, (r .1, r .2))
-
-valid-tag-requires : tie.Need-valid-tag-requires
-valid-tag-requires c κs = search needs
-
-refused-requires-2 : tie.Need-refused-requires-2
-refused-requires-2 c κs = search needs
-
-same-length-2 : tie.Need-same-length-2
-same-length-2 c = search needs
 
 returns-2 : tie.Need-returns-2
 returns-2 c =
@@ -110,15 +92,6 @@ returns-2 c =
 
 find-requires : tie.Need-find-requires
 find-requires c κs = change (c .before .before .before) .passed
-
-enum-told : tie.Need-enum-told
-enum-told c = search needs
-
-refused-requires-3 : tie.Need-refused-requires-3
-refused-requires-3 c κs = search needs
-
-enum-known-bucket : tie.Need-enum-known-bucket
-enum-known-bucket c = search needs
 
 order-in-requires : tie.Need-order-in-requires
 order-in-requires c κs = framed-rows (change (c .before .before .before .before .before .before .before .before) .passed .framed)
@@ -145,9 +118,6 @@ settle-requires c κs =
       omega (arith, change (c .before .before .before .before .before .before .before .before .before .before .before .before .before .before) .roomy, ap workRows (o .ensures)),
     )
 
-same-length-3 : tie.Need-same-length-3
-same-length-3 c = search needs
-
 returns-3 : tie.Need-returns-3
 unfolding placeOf
 returns-3 c =
@@ -155,12 +125,6 @@ returns-3 c =
     let r =
     refused-missing (a .table .now) (a .work .now) (a .tag) (past-first (c .before .before .before .before .before .before .before)) (valid (c .before .before .before .before .before)) (ap (placeOf (a .table .now)) (sym (c .before .enum-told .given .1)) ∙ c .before .before .before .find .ensures) in
     (c .refused3 .ensures ∙ r .0, (r .1, r .2))
-
-same-length-4 : tie.Need-same-length-4
-same-length-4 c = search needs
-
-same-length-5 : tie.Need-same-length-5
-same-length-5 c = search needs
 
 returns-4 : tie.Need-returns-4
 unfolding place
@@ -184,23 +148,16 @@ pub remove-spec : {M : Type 1} → statement M
 remove-spec =
     tie.close
     (tie.spec
-    change-refusal-requires
-    refused-requires
-    same-length
+    (λ c κs. search needs) (λ c κs. search needs) (λ c. search needs)
     returns
-    valid-tag-requires
-    refused-requires-2
-    same-length-2
+    (λ c κs. search needs) (λ c κs. search needs) (λ c. search needs)
     returns-2
     find-requires
-    enum-told
-    refused-requires-3
-    enum-known-bucket
+    (λ c. search needs) (λ c κs. search needs) (λ c. search needs)
     order-in-requires
     mark-dead-requires
     settle-requires
-    same-length-3
+    (λ c. search needs)
     returns-3
-    same-length-4
-    same-length-5
+    (λ c. search needs) (λ c. search needs)
     returns-4)

@@ -1,4 +1,4 @@
--- `metric::mark_of` reads a word of the row.
+-- `rows::mark_of` reads a word of the row.
 -- It is the word that `markOf` names.
 use borrow.Author.Needs.{needs}
 use mathlib.Core.Path.{refl}

@@ -1,4 +1,4 @@
--- `metric::profile_of` puts together the numbers that its calls return.
+-- `rows::profile_of` puts together the numbers that its calls return.
 -- Each is the number that `profileOf` has in its place.
 use borrow.Author.Needs.{needs}
 use mathlib.Core.Path.{_≡_, _∙_}
@@ -38,7 +38,7 @@ pub profile-of-spec : {M : Type 1} → statement M
 profile-of-spec =
     tie.close
     (tie.spec
-    (λ c. search needs) (λ c κs. search needs) (λ c. search needs) (λ c κs. search needs)
-    (λ c. search needs) (λ c κs. search needs) (λ c. search needs) (λ c κs. search needs)
-    (λ c. search needs) (λ c. search needs) (λ c κs. search needs) (λ c. search needs)
+    (λ c. search needs) (λ c κs. search needs) (λ c. search needs) (λ c κs. search needs) (λ c. search needs)
+    (λ c κs. search needs) (λ c. search needs) (λ c κs. search needs) (λ c. search needs) (λ c. search needs)
+    (λ c κs. search needs) (λ c. search needs)
     (λ c. search needs) (λ c κs. search needs) returns)

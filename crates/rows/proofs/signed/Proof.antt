@@ -1,4 +1,4 @@
--- `metric::rows::signed` reads a word in two's complement.
+-- `rows::signed` reads a word in two's complement.
 -- A word with its highest bit set stands for the number that is less by 2^32 (`word-below`).
 use borrow.Author.Needs.{needs}
 use mathlib.Core.Path.{_≡_, ap, _∙_, subst⁻¹}

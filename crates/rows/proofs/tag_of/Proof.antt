@@ -1,4 +1,4 @@
--- `metric::tag_of` joins words 0 and 1.
+-- `rows::tag_of` joins words 0 and 1.
 -- They are the words of which `tagOf` makes the tag.
 use borrow.Author.Needs.{needs}
 use Rattle.metric_rules.specs.Row.{tagOf}

@@ -1,4 +1,4 @@
--- `metric::threshold_of` reads a word of the row.
+-- `rows::threshold_of` reads a word of the row.
 -- It is the word that `thresholdOf` names.
 use borrow.Author.Needs.{needs}
 use mathlib.Core.Path.{refl}

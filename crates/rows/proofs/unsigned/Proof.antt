@@ -1,4 +1,4 @@
--- `metric::rows::unsigned` writes a measure in two's complement.
+-- `rows::unsigned` writes a measure in two's complement.
 -- The measure and 2^32 make an unsigned number, whose lowest 32 bits are the word (`turn-word`).
 use borrow.Author.Needs.{needs}
 use mathlib.Core.Path.{_≡_, ap, _∙_, subst⁻¹}

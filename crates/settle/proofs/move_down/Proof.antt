@@ -8,7 +8,7 @@ use Rattle.metric_rules.specs.Row.{Row}
 use Rattle.bucket_rules.specs.Table.{emptied}
 use Rattle.buckets.specs.Lent.{Lent}
 use Rattle.buckets.proofs.Places.{lent-put}
-use Rattle.settle.proofs.Uniting.{Gathered, Fits, head-one, one-gathered, few, work-cleared, table-united, cost-united}
+use Rattle.settle.proofs.Uniting.{Gathered, Fits, items-one, one-gathered, few, work-cleared, table-united, cost-united}
 use Rattle.settle.proofs.move_down.Statement.{statement}
 use Rattle.settle.proofs.move_down.Tie as tie
 
@@ -25,10 +25,7 @@ fit c =
 gather-bucket-requires : tie.Need-gather-bucket-requires
 gather-bucket-requires c κs =
     let s = c .before .before in
-    (s .pre .0 .lent, s .pre .1, s .pre .0 .built (s .args .k) (s .pre .1), omega (arith, few (fit s), ap length (head-one (s .args .table .now) (s .args .k)), s .pre .4))
-
-empty-bucket-requires : tie.Need-empty-bucket-requires
-empty-bucket-requires c κs = search needs
+    (s .pre .0 .lent, s .pre .1, s .pre .0 .built (s .args .k) (s .pre .1), omega (arith, few (fit s), ap length (items-one (s .args .table .now) (s .args .k)), s .pre .4))
 
 build-bucket-requires : tie.Need-build-bucket-requires
 build-bucket-requires c κs =
@@ -41,12 +38,6 @@ build-bucket-requires c κs =
       omega (arith, made .number, s .pre .3),
       omega (arith, g .kept .1 .1 .1 .0, s .pre .4),
     )
-
-same-length : tie.Need-same-length
-same-length c = search needs
-
-same-length-2 : tie.Need-same-length-2
-same-length-2 c = search needs
 
 returns : tie.Need-returns
 unfolding emptied
@@ -63,8 +54,7 @@ move-down-spec =
     tie.close
     (tie.spec
     gather-bucket-requires
-    empty-bucket-requires
+    (λ c κs. search needs)
     build-bucket-requires
-    same-length
-    same-length-2
+    (λ c. search needs) (λ c. search needs)
     returns)

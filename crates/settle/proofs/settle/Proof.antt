@@ -12,21 +12,6 @@ use Rattle.settle.proofs.settle.Tie as tie
 live-of-requires : tie.Need-live-of-requires
 live-of-requires c κs = let s = c .before in sizes-inside (s .pre .0 .lent) (s .args .k) (omega (arith, s .pre .1 .inOrder, s .pre .0 .lent .told))
 
-cast-live : tie.Need-cast-live
-cast-live c = search needs
-
-empty-bucket-requires : tie.Need-empty-bucket-requires
-empty-bucket-requires c κs = search needs
-
-clear-requires : tie.Need-clear-requires
-clear-requires c κs = search needs
-
-same-length : tie.Need-same-length
-same-length c = search needs
-
-same-length-2 : tie.Need-same-length-2
-same-length-2 c = search needs
-
 returns : tie.Need-returns
 unfolding emptied
 returns c =
@@ -34,36 +19,12 @@ returns c =
     let e = settled-empty (s .args .table .now) (s .args .k) (sym (c .before .before .before .before .before .before .before .live-of .ensures) ∙ c .before .before .before .before .before .before .if1 .taken) in
     (c .before .before .before .before .empty-bucket .ensures ∙ ap (λ (r : Rebuilt). r .table) (sym e), (c .before .clear .ensures, ap (λ (r : Rebuilt). r .distances) (sym e)))
 
-room-requires : tie.Need-room-requires
-room-requires c κs = search needs
-
-mul-if2 : tie.Need-mul-if2
-mul-if2 c = search needs
-
-clear-requires-2 : tie.Need-clear-requires-2
-clear-requires-2 c κs = search needs
-
-same-length-3 : tie.Need-same-length-3
-same-length-3 c = search needs
-
-same-length-4 : tie.Need-same-length-4
-same-length-4 c = search needs
-
 returns-2 : tie.Need-returns-2
 returns-2 c =
     let s = c .before .before .before .before .before .before .before .before in
     let live = c .before .before .before .before .before .before .live-of in
     let e = settled-left (s .args .table .now) (s .args .k) (λ z. c .before .before .before .before .before .if1 .left (live .ensures ∙ z)) (omega (arith, c .before .before .before .before .room .ensures, live .ensures, c .before .before .before .if2 .taken)) in
     (ap (λ (r : Rebuilt). r .table) (sym e), (c .before .clear2 .ensures, ap (λ (r : Rebuilt). r .distances) (sym e)))
-
-thin-requires : tie.Need-thin-requires
-thin-requires c κs = search needs
-
-same-length-5 : tie.Need-same-length-5
-same-length-5 c = search needs
-
-same-length-6 : tie.Need-same-length-6
-same-length-6 c = search needs
 
 returns-3 : tie.Need-returns-3
 returns-3 c =
@@ -78,19 +39,9 @@ settle-spec =
     tie.close
     (tie.spec
     live-of-requires
-    cast-live
-    empty-bucket-requires
-    clear-requires
-    same-length
-    same-length-2
+    (λ c. search needs) (λ c κs. search needs) (λ c κs. search needs) (λ c. search needs) (λ c. search needs)
     returns
-    room-requires
-    mul-if2
-    clear-requires-2
-    same-length-3
-    same-length-4
+    (λ c κs. search needs) (λ c. search needs) (λ c κs. search needs) (λ c. search needs) (λ c. search needs)
     returns-2
-    thin-requires
-    same-length-5
-    same-length-6
+    (λ c κs. search needs) (λ c. search needs) (λ c. search needs)
     returns-3)

@@ -27,17 +27,11 @@ in-use-requires c κs = let s = c .before in sizes-inside (s .pre .0 .lent) (s .
 sub-room : tie.Need-sub-room
 sub-room c = deep (frail (c .before .before .before))
 
-room-requires : tie.Need-room-requires
-room-requires c κs = search needs
-
 sub-live-of : tie.Need-sub-live-of
 sub-live-of c = omega (arith, deep (frail (c .before .before .before .before .before)))
 
 live-of-requires : tie.Need-live-of-requires
 live-of-requires c κs = let s = c .before .before .before .before .before in sizes-inside (s .pre .0 .lent) (s .args .k - 1) (omega (arith, in-order s))
-
-cast-if2 : tie.Need-cast-if2
-cast-if2 c = search needs
 
 sub-unite : tie.Need-sub-unite
 sub-unite c = omega (arith, deep (frail (c .before .before .before .before .before .before .before .before)))
@@ -46,12 +40,6 @@ unite-requires : tie.Need-unite-requires
 unite-requires c κs =
     let s = c .before .before .before .before .before .before .before .before .before in
     (s .pre .0, in-order s, omega (arith, in-order s), in-order s, next-fits (frail s), s .pre .4)
-
-same-length : tie.Need-same-length
-same-length c = search needs
-
-same-length-2 : tie.Need-same-length-2
-same-length-2 c = search needs
 
 returns : tie.Need-returns
 returns c =
@@ -79,12 +67,6 @@ unite-requires-2 c κs =
       s .pre .4,
     )
 
-same-length-3 : tie.Need-same-length-3
-same-length-3 c = search needs
-
-same-length-4 : tie.Need-same-length-4
-same-length-4 c = search needs
-
 returns-2 : tie.Need-returns-2
 returns-2 c =
     let s = c .before .before .before .before .before .before .before .before .before .before .before .before in
@@ -111,12 +93,6 @@ unite-requires-3 c κs =
     let s = c .before .before .before .before .before .before .before .before in
     (s .pre .0, in-order s, omega (arith, in-order s), omega (arith, in-order s), second-fits (frail s), s .pre .4)
 
-same-length-5 : tie.Need-same-length-5
-same-length-5 c = search needs
-
-same-length-6 : tie.Need-same-length-6
-same-length-6 c = search needs
-
 returns-3 : tie.Need-returns-3
 returns-3 c =
     let s = c .before .before .before .before .before .before .before .before .before .before .before in
@@ -132,12 +108,6 @@ move-down-requires c κs =
     let s = c .before .before .before .before .before .before .before .before in
     (s .pre .0, in-order s, omega (arith, in-order s), alone-fits (frail s), s .pre .4)
 
-same-length-7 : tie.Need-same-length-7
-same-length-7 c = search needs
-
-same-length-8 : tie.Need-same-length-8
-same-length-8 c = search needs
-
 returns-4 : tie.Need-returns-4
 returns-4 c =
     let s = c .before .before .before .before .before .before .before .before .before .before .before in
@@ -152,31 +122,27 @@ thin-spec =
     sub-in-use
     in-use-requires
     sub-room
-    room-requires
+    (λ c κs. search needs)
     sub-live-of
     live-of-requires
-    cast-if2
+    (λ c. search needs)
     sub-unite
     unite-requires
-    same-length
-    same-length-2
+    (λ c. search needs) (λ c. search needs)
     returns
     sub-unite-2
     sub-unite-3
     unite-requires-2
-    same-length-3
-    same-length-4
+    (λ c. search needs) (λ c. search needs)
     returns-2
     sub-in-use-2
     in-use-requires-2
     sub-unite-4
     sub-unite-5
     unite-requires-3
-    same-length-5
-    same-length-6
+    (λ c. search needs) (λ c. search needs)
     returns-3
     sub-move-down
     move-down-requires
-    same-length-7
-    same-length-8
+    (λ c. search needs) (λ c. search needs)
     returns-4)

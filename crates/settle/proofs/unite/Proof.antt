@@ -10,7 +10,7 @@ use Rattle.bucket_rules.specs.Table.{liveSlots, putBucket, emptied}
 use Rattle.bucket_rules.specs.Rebuild.{liveItems}
 use Rattle.buckets.specs.Lent.{Lent}
 use Rattle.buckets.proofs.Places.{lent-put}
-use Rattle.settle.proofs.Uniting.{Gathered, Fits, head-two, two-gathered, few, lent-emptied, work-cleared, table-united, cost-united}
+use Rattle.settle.proofs.Uniting.{Gathered, Fits, items-two, two-gathered, few, lent-emptied, work-cleared, table-united, cost-united}
 use Rattle.settle.proofs.unite.Statement.{statement}
 use Rattle.settle.proofs.unite.Tie as tie
 
@@ -24,12 +24,12 @@ fit c =
       roomy = c .pre .5;
     }
 
--- the head of both buckets together
+-- the items of both buckets together
 both :
     (c : tie.Start) → length (liveItems (c .args .table .now) (c .args .k ∷ c .args .other ∷ []))
     ≡ length (liveSlots (c .args .table .now) (c .args .k)) + length (liveSlots (c .args .table .now) (c .args .other))
 both c =
-    ap length (head-two (c .args .table .now) (c .args .k) (c .args .other))
+    ap length (items-two (c .args .table .now) (c .args .k) (c .args .other))
     ∙ length-append (liveSlots (c .args .table .now) (c .args .k)) (liveSlots (c .args .table .now) (c .args .other))
 
 gather-bucket-requires : tie.Need-gather-bucket-requires
@@ -51,9 +51,6 @@ gather-bucket-requires-2 c κs =
       omega (arith, few (fit s), both s, s .pre .5, g .ensures .0, g .kept .1 .1 .1 .0),
     )
 
-empty-bucket-requires : tie.Need-empty-bucket-requires
-empty-bucket-requires c κs = search needs
-
 empty-bucket-requires-2 : tie.Need-empty-bucket-requires-2
 empty-bucket-requires-2 c κs =
     let s = c .before .before .before .before .before .before .before .before .before .before .before .before in
@@ -73,12 +70,6 @@ build-bucket-requires c κs =
       omega (arith, made .number, s .pre .4),
       omega (arith, g .kept .1 .1 .1 .0, f .kept .1 .1 .1 .0, s .pre .5),
     )
-
-same-length : tie.Need-same-length
-same-length c = search needs
-
-same-length-2 : tie.Need-same-length-2
-same-length-2 c = search needs
 
 returns : tie.Need-returns
 unfolding emptied
@@ -100,9 +91,8 @@ unite-spec =
     (tie.spec
     gather-bucket-requires
     gather-bucket-requires-2
-    empty-bucket-requires
+    (λ c κs. search needs)
     empty-bucket-requires-2
     build-bucket-requires
-    same-length
-    same-length-2
+    (λ c. search needs) (λ c. search needs)
     returns)

@@ -45,9 +45,6 @@ live-of-requires : tie.Need-live-of-requires Inv-loop μ-loop
 unfolding sizesRow
 live-of-requires c κs = omega arith
 
-cast-sum : tie.Need-cast-sum Inv-loop μ-loop
-cast-sum c = search needs
-
 add-sum : tie.Need-add-sum Inv-loop μ-loop
 add-sum c = omega (arith, c .live-of .ok)
 
@@ -80,7 +77,7 @@ live-total-spec =
     μ-loop
     loop-holds
     live-of-requires
-    cast-sum
+    (λ c. search needs)
     add-sum
     add-k
     loop-less

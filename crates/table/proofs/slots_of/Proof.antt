@@ -11,31 +11,10 @@ use borrow.Author.Needs.{needs}
 use Rattle.table.proofs.slots_of.Statement.{statement}
 use Rattle.table.proofs.slots_of.Tie as tie
 
-first-slot-requires : tie.Need-first-slot-requires
-first-slot-requires c κs = search needs
-
 built-of-requires : tie.Need-built-of-requires
 built-of-requires c κs =
     let a = c .before .args in
     omega (arith, c .before .pre, sizes-before-slots (a .order .t) (a .k) (a .k) (c .before .pre .2))
-
-cast-end : tie.Need-cast-end
-cast-end c = search needs
-
-add-end : tie.Need-add-end
-add-end c = search needs
-
-mul-result : tie.Need-mul-result
-mul-result c = search needs
-
-sub-result : tie.Need-sub-result
-sub-result c = search needs
-
-part-result-start : tie.Need-part-result-start
-part-result-start c = search needs
-
-part-result-end : tie.Need-part-result-end
-part-result-end c = search needs
 
 returns : tie.Need-returns
 unfolding slotsOf
@@ -52,12 +31,7 @@ pub slots-of-spec : {M : Type 1} → statement M
 slots-of-spec =
     tie.close
     (tie.spec
-    first-slot-requires
+    (λ c κs. search needs)
     built-of-requires
-    cast-end
-    add-end
-    mul-result
-    sub-result
-    part-result-start
-    part-result-end
+    (λ c. search needs) (λ c. search needs) (λ c. search needs) (λ c. search needs) (λ c. search needs) (λ c. search needs)
     returns)

@@ -18,9 +18,6 @@ use Rattle.table_checks.proofs.change_refusal.Tie as tie
 abbrev roomy : ℕ → Table → Bool
 roomy rows t = leb (workRows (orderOf t)) rows
 
-frame-refusal-requires : tie.Need-frame-refusal-requires
-frame-refusal-requires c κs = search needs
-
 returns : tie.Need-returns
 returns c =
     let a = c .before .before .args in
@@ -94,7 +91,7 @@ pub change-refusal-spec : {M : Type 1} → statement M
 change-refusal-spec =
     tie.close
     (tie.spec
-    frame-refusal-requires
+    (λ c κs. search needs)
     returns
     order-in-requires
     work-rows-requires

@@ -39,28 +39,10 @@ order-told c =
 returns : tie.Need-returns
 returns c = sym (no-rows (c .before .args .table .now) (c .if1 .taken))
 
-shared-slice-copy-out-valid-space : tie.Need-shared-slice-copy-out-valid-space
-shared-slice-copy-out-valid-space c = search needs
-
-valid-space-requires : tie.Need-valid-space-requires
-valid-space-requires c κs = search needs
-
 returns-2 : tie.Need-returns-2
 returns-2 c =
     let t = c .before .before .before .before .args .table .now in
     sym (space-breaks t (omega (arith, c .before .before .before .if1 .left)) (space-tested (c .before) ∙ not-true (c .before .valid-space .result) (c .if2 .taken)))
-
-order-of-requires : tie.Need-order-of-requires
-order-of-requires c κs = search needs
-
-new-requires : tie.Need-new-requires
-new-requires c κs = search needs
-
-enum-told : tie.Need-enum-told
-enum-told c = search needs
-
-enum-known-order : tie.Need-enum-known-order
-enum-known-order c = search needs
 
 table-rows-requires : tie.Need-table-rows-requires
 table-rows-requires c κs = omega (arith, order-told (c .before))
@@ -98,13 +80,9 @@ frame-refusal-spec =
     tie.close
     (tie.spec
     returns
-    shared-slice-copy-out-valid-space
-    valid-space-requires
+    (λ c. search needs) (λ c κs. search needs)
     returns-2
-    order-of-requires
-    new-requires
-    enum-told
-    enum-known-order
+    (λ c κs. search needs) (λ c κs. search needs) (λ c. search needs) (λ c. search needs)
     table-rows-requires
     returns-3
     returns-4

@@ -43,9 +43,6 @@ live-of-requires c κs =
     let t = s .args .table .now in
     omega (arith, sizes-inside (orderOf t) (c .before .before .loop .k) (omega (arith, s .pre .0)), s .pre .1 .framed .long)
 
-slots-marked-requires : tie.Need-slots-marked-requires Inv-loop μ-loop
-slots-marked-requires c κs = search needs
-
 -- the bucket's test as it was made
 tested :
     (c : tie.After-slots-marked Inv-loop μ-loop)
@@ -89,7 +86,7 @@ marks-pass-spec =
     loop-holds
     slots-of-requires
     live-of-requires
-    slots-marked-requires
+    (λ c κs. search needs)
     returns
     add-k
     loop-less

@@ -15,9 +15,6 @@ use Rattle.table_checks.proofs.read_refusal.Tie as tie
 abbrev always : Table → Bool
 always t = true
 
-frame-refusal-requires : tie.Need-frame-refusal-requires
-frame-refusal-requires c κs = search needs
-
 returns : tie.Need-returns
 unfolding readRefusal
 returns c =
@@ -56,7 +53,7 @@ pub read-refusal-spec : {M : Type 1} → statement M
 read-refusal-spec =
     tie.close
     (tie.spec
-    frame-refusal-requires
+    (λ c κs. search needs)
     returns
     order-in-requires
     sizes-pass-requires

@@ -9,15 +9,6 @@ use borrow.Author.Needs.{needs}
 use Rattle.table_checks.proofs.size_passes.Statement.{statement}
 use Rattle.table_checks.proofs.size_passes.Tie as tie
 
-room-requires : tie.Need-room-requires
-room-requires c κs = search needs
-
-mul-result : tie.Need-mul-result
-mul-result c = search needs
-
-mul-result-2 : tie.Need-mul-result-2
-mul-result-2 c = search needs
-
 returns : tie.Need-returns
 unfolding sizePasses
 returns c =
@@ -26,4 +17,4 @@ returns c =
     ap (λ (n : ℕ). (eqb b 0 && eqb l 0) || (leb l b && leb b n && ltb n (2 * b) && ltb n (4 * l))) (c .room .ensures)
 
 pub size-passes-spec : {M : Type 1} → statement M
-size-passes-spec = tie.close (tie.spec room-requires mul-result mul-result-2 returns)
+size-passes-spec = tie.close (tie.spec (λ c κs. search needs) (λ c. search needs) (λ c. search needs) returns)

@@ -13,9 +13,6 @@ use borrow.Author.Needs.{needs}
 use Rattle.table_checks.proofs.sizes_pass.Statement.{statement}
 use Rattle.table_checks.proofs.sizes_pass.Tie as tie
 
-each-size-passes-requires : tie.Need-each-size-passes-requires
-each-size-passes-requires c κs = search needs
-
 returns : tie.Need-returns
 unfolding sizesPass
 returns c =
@@ -24,12 +21,6 @@ returns c =
     let e = c .before .each-size-passes in
     ap (λ (b : Bool). b && leb (total (map (liveOf t) (bucketsOf (a .order .t)))) (room (a .order .t)))
     (sym (not-true (e .result) (c .if1 .taken)) ∙ e .ensures)
-
-live-total-requires : tie.Need-live-total-requires
-live-total-requires c κs = search needs
-
-room-requires : tie.Need-room-requires
-room-requires c κs = search needs
 
 returns-2 : tie.Need-returns-2
 unfolding sizesPass
@@ -44,4 +35,4 @@ returns-2 c =
 pub sizes-pass-spec : {M : Type 1} → statement M
 sizes-pass-spec =
     tie.close
-    (tie.spec each-size-passes-requires returns live-total-requires room-requires returns-2)
+    (tie.spec (λ c κs. search needs) returns (λ c κs. search needs) (λ c κs. search needs) returns-2)

@@ -66,9 +66,6 @@ mul-mark-of c = omega arith
 shared-slice-copy-out-mark-of : tie.Need-shared-slice-copy-out-mark-of Inv-loop μ-loop
 shared-slice-copy-out-mark-of c = omega arith
 
-mark-of-requires : tie.Need-mark-of-requires Inv-loop μ-loop
-mark-of-requires c κs = search needs
-
 returns : tie.Need-returns Inv-loop μ-loop
 unfolding slotsMarked
 returns c =
@@ -77,9 +74,6 @@ returns c =
     ap (λ (b : Bool). b && eqb (length (select isLive (a .slots .now))) (a .live))
     (scan-fails low [] (a .slots .now) (l .i) (omega arith) (l .inv .2)
     (lt-leb (markOf (getD (a .slots .now) (l .i) [])) 1 (omega (arith, c .before .mark-of .ensures))))
-
-cast-found : tie.Need-cast-found Inv-loop μ-loop
-cast-found c = search needs
 
 add-found : tie.Need-add-found Inv-loop μ-loop
 add-found c = omega arith
@@ -120,9 +114,9 @@ slots-marked-spec =
     loop-holds
     mul-mark-of
     shared-slice-copy-out-mark-of
-    mark-of-requires
+    (λ c κs. search needs)
     returns
-    cast-found
+    (λ c. search needs)
     add-found
     add-i
     loop-less

@@ -137,9 +137,6 @@ build-part-slice-copy-out-place t c = filled _ _ (c .before .before .arrange .ke
 build-part-last-distance-requires : (t : ℕ) → build-part-lts.Need-last-distance-requires (build-part-callees t) (build-part-at t) build-part.Post
 build-part-last-distance-requires t c κs = half-within _ _ (c .before .before .before .before .arrange .kept .1 .0) (not-zero (length (c .before .before .before .before .before .before .before .before .args .src .now)) (c .before .before .before .before .before .before .before .if1 .left))
 
-build-part-place-requires : (t : ℕ) → build-part-lts.Need-place-requires (build-part-callees t) (build-part-at t) build-part.Post
-build-part-place-requires t c κs = search needs
-
 build-part-slice-set-from-src : (t : ℕ) → build-part-lts.Need-slice-set-from-src (build-part-callees t) (build-part-at t) build-part.Post
 build-part-slice-set-from-src t c = filled _ _ (part-at t c .room) (part-at t c .full)
 
@@ -228,7 +225,7 @@ pub +build-part-spec : {M : Type 1} → statement M
     (build-part-add-end t)
     (build-part-slice-copy-out-place t)
     (build-part-last-distance-requires t)
-    (build-part-place-requires t)
+    (λ c κs. search needs)
     (build-part-slice-set-from-src t)
     (build-part-slice-set-from-src-2 t)
     (build-part-sub-build-part t)

@@ -16,9 +16,6 @@ use Rattle.tree_arrange.proofs.Arranging.{ranks-written-whole, ranks-written-ap
 use Rattle.tree.proofs.build.Statement.{statement}
 use Rattle.tree.proofs.build.Tie as tie
 
-write-ranks-requires : tie.Need-write-ranks-requires
-write-ranks-requires c κs = search needs
-
 build-part-requires : tie.Need-build-part-requires
 build-part-requires c κs =
     let s = c .before .before .before .before .before in
@@ -30,12 +27,6 @@ build-part-requires c κs =
       subst Whole (sym (w .ensures .0)) (ranks-written-whole 0 rows (w .ensures .1)),
       subst RanksApart (sym (w .ensures .0)) (ranks-written-apart 0 rows (w .ensures .1)),
     )
-
-same-length : tie.Need-same-length
-same-length c = search needs
-
-same-length-2 : tie.Need-same-length-2
-same-length-2 c = search needs
 
 returns : tie.Need-returns
 returns c =
@@ -57,4 +48,4 @@ returns c =
 
 pub build-spec : {M : Type 1} → statement M
 build-spec =
-    tie.close (tie.spec write-ranks-requires build-part-requires same-length same-length-2 returns)
+    tie.close (tie.spec (λ c κs. search needs) build-part-requires (λ c. search needs) (λ c. search needs) returns)

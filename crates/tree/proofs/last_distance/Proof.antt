@@ -10,15 +10,6 @@ use borrow.Author.Needs.{needs}
 use Rattle.tree.proofs.last_distance.Statement.{statement}
 use Rattle.tree.proofs.last_distance.Tie as tie
 
-mul-result : tie.Need-mul-result
-mul-result c = search needs
-
-index-1-result : tie.Need-index-1-result
-index-1-result c = search needs
-
-index-2-result : tie.Need-index-2-result
-index-2-result c = search needs
-
 returns : tie.Need-returns
 unfolding lastMeasured
 returns c = ap (λ (l : ℕ). lastMeasured (take l (drop 1 (c .before .args .rows .now)))) (sym (c .if1 .taken))
@@ -29,4 +20,4 @@ returns-2 c = sym (last-row (c .before .before .args .rows .now) (c .before .bef
 
 pub last-distance-spec : {M : Type 1} → statement M
 last-distance-spec =
-    tie.close (tie.spec mul-result index-1-result index-2-result returns returns-2)
+    tie.close (tie.spec (λ c. search needs) (λ c. search needs) (λ c. search needs) returns returns-2)

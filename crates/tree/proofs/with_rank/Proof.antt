@@ -6,12 +6,9 @@ use Rattle.metric_rules.specs.Row.{rowWidth, withMark}
 use Rattle.tree.proofs.with_rank.Statement.{statement}
 use Rattle.tree.proofs.with_rank.Tie as tie
 
-array-write-ranked : tie.Need-array-write-ranked
-array-write-ranked c = search needs
-
 returns : tie.Need-returns
 unfolding withMark rowWidth
 returns c = (refl, c .good .0 .1 .0 .1)
 
 pub with-rank-spec : {M : Type 1} → statement M
-with-rank-spec = tie.close (tie.spec array-write-ranked returns)
+with-rank-spec = tie.close (tie.spec (λ c. search needs) returns)

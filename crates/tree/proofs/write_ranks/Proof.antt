@@ -46,9 +46,6 @@ slice-copy-out-with-rank c = omega arith
 cast-with-rank : tie.Need-cast-with-rank Inv-loop μ-loop
 cast-with-rank c = omega arith
 
-with-rank-requires : tie.Need-with-rank-requires Inv-loop μ-loop
-with-rank-requires c κs = search needs
-
 mul-t9 : tie.Need-mul-t9 Inv-loop μ-loop
 mul-t9 c = omega arith
 
@@ -96,7 +93,7 @@ write-ranks-spec =
     mul-with-rank
     slice-copy-out-with-rank
     cast-with-rank
-    with-rank-requires
+    (λ c κs. search needs)
     mul-t9
     slice-set-from-rows
     add-i

@@ -68,54 +68,6 @@ module _ (space : Space) (src : List Row) (at : ℕ) (within : at < length src)
       ∙ ap (λ (f : List Row). take 1 f ++ sortBy workKey (map (measuredFrom (distance space) (getD src at [])) (drop 1 f))) e
       ∙ in-order
 
-first-at-requires : tie.Need-first-at-requires
-first-at-requires c κs = search needs
-
-bring-first-requires : tie.Need-bring-first-requires
-bring-first-requires c κs = search needs
-
-slice-copy-out-v : tie.Need-slice-copy-out-v
-slice-copy-out-v c = search needs
-
-sub-measure : tie.Need-sub-measure
-sub-measure c = search needs
-
-part-measure-start : tie.Need-part-measure-start
-part-measure-start c = search needs
-
-part-measure-end : tie.Need-part-measure-end
-part-measure-end c = search needs
-
-sub-measure-2 : tie.Need-sub-measure-2
-sub-measure-2 c = search needs
-
-part-measure-start-2 : tie.Need-part-measure-start-2
-part-measure-start-2 c = search needs
-
-part-measure-end-2 : tie.Need-part-measure-end-2
-part-measure-end-2 c = search needs
-
-measure-requires : tie.Need-measure-requires
-measure-requires c κs = search needs
-
-sub-sort : tie.Need-sub-sort
-sub-sort c = search needs
-
-part-sort-start : tie.Need-part-sort-start
-part-sort-start c = search needs
-
-part-sort-end : tie.Need-part-sort-end
-part-sort-end c = search needs
-
-sub-sort-2 : tie.Need-sub-sort-2
-sub-sort-2 c = search needs
-
-part-sort-start-2 : tie.Need-part-sort-start-2
-part-sort-start-2 c = search needs
-
-part-sort-end-2 : tie.Need-part-sort-end-2
-part-sort-end-2 c = search needs
-
 sort-requires : tie.Need-sort-requires
 sort-requires c κs =
     let a = c .before .before .before .before .before .before .before .before .before .before .before .before .before .args in
@@ -124,12 +76,6 @@ sort-requires c κs =
     let k : length b ≡ length (a .src .now) = c .before .before .before .before .before .before .before .before .before .bring-first .kept .0 in
     let p = c .before .before .before .before .before .before .before .before .before .before .before .before .before .pre in
     again (a .dst .now) (m .last .0) (omega (arith, p .0, p .1)) ∙ m .ensures .1 .0 ∙ sym (again b (m .last .1 .0) (omega (arith, k, p .1)))
-
-same-length : tie.Need-same-length
-same-length c = search needs
-
-same-length-2 : tie.Need-same-length-2
-same-length-2 c = search needs
 
 returns : tie.Need-returns
 returns c =
@@ -147,23 +93,9 @@ pub arrange-spec : {M : Type 1} → statement M
 arrange-spec =
     tie.close
     (tie.spec
-    first-at-requires
-    bring-first-requires
-    slice-copy-out-v
-    sub-measure
-    part-measure-start
-    part-measure-end
-    sub-measure-2
-    part-measure-start-2
-    part-measure-end-2
-    measure-requires
-    sub-sort
-    part-sort-start
-    part-sort-end
-    sub-sort-2
-    part-sort-start-2
-    part-sort-end-2
+    (λ c κs. search needs) (λ c κs. search needs) (λ c. search needs) (λ c. search needs) (λ c. search needs)
+    (λ c. search needs) (λ c. search needs) (λ c. search needs) (λ c. search needs) (λ c κs. search needs)
+    (λ c. search needs) (λ c. search needs) (λ c. search needs) (λ c. search needs) (λ c. search needs) (λ c. search needs)
     sort-requires
-    same-length
-    same-length-2
+    (λ c. search needs) (λ c. search needs)
     returns)

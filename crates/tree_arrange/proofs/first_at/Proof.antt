@@ -62,9 +62,6 @@ mul-no-later-2 c = omega arith
 shared-slice-copy-out-no-later-2 : tie.Need-shared-slice-copy-out-no-later-2 Inv-loop μ-loop
 shared-slice-copy-out-no-later-2 c = omega arith
 
-no-later-requires : tie.Need-no-later-requires Inv-loop μ-loop
-no-later-requires c κs = search needs
-
 add-i : tie.Need-add-i Inv-loop μ-loop
 add-i c = omega arith
 
@@ -111,7 +108,7 @@ first-at-spec =
     shared-slice-copy-out-no-later
     mul-no-later-2
     shared-slice-copy-out-no-later-2
-    no-later-requires
+    (λ c κs. search needs)
     add-i
     loop-less
     loop-again

@@ -54,9 +54,6 @@ mul-row c = omega arith
 slice-copy-out-row : tie.Need-slice-copy-out-row Inv-loop μ-loop
 slice-copy-out-row c = omega arith
 
-distance-between-requires : tie.Need-distance-between-requires Inv-loop μ-loop
-distance-between-requires c κs = search needs
-
 array-write-row : tie.Need-array-write-row Inv-loop μ-loop
 array-write-row c = omega arith
 
@@ -124,7 +121,7 @@ measure-spec =
     loop-holds
     mul-row
     slice-copy-out-row
-    distance-between-requires
+    (λ c κs. search needs)
     array-write-row
     add-count
     mul-dst

@@ -6,21 +6,6 @@ use borrow.Author.Needs.{needs}
 use Rattle.yard_commands.proofs.say_added.Statement.{statement}
 use Rattle.yard_commands.proofs.say_added.Tie as tie
 
-add-requires : tie.Need-add-requires
-add-requires c κs = search needs
-
-put-added-requires : tie.Need-put-added-requires
-put-added-requires c κs = search needs
-
-same-length : tie.Need-same-length
-same-length c = search needs
-
-same-length-2 : tie.Need-same-length-2
-same-length-2 c = search needs
-
-same-length-3 : tie.Need-same-length-3
-same-length-3 c = search needs
-
 returns : tie.Need-returns
 returns c =
     let r = c .before .before .before .before .before .add .ensures in
@@ -29,4 +14,4 @@ returns c =
 pub say-added-spec : {M : Type 1} → statement M
 say-added-spec =
     tie.close
-    (tie.spec add-requires put-added-requires same-length same-length-2 same-length-3 returns)
+    (tie.spec (λ c κs. search needs) (λ c κs. search needs) (λ c. search needs) (λ c. search needs) (λ c. search needs) returns)

@@ -6,28 +6,10 @@ use Rattle.yard_fields.proofs.Finding.{parts-past, part-at, part-missin
 use Rattle.yard_fields.proofs.part.Statement.{statement}
 use Rattle.yard_fields.proofs.part.Tie as tie
 
-part-start-requires : tie.Need-part-start-requires
-part-start-requires c κs = search needs
-
-slice-aggregate-result : tie.Need-slice-aggregate-result
-slice-aggregate-result c = search needs
-
 returns : tie.Need-returns
 returns c =
     let start = c .before .before .part-start in
     part-missing _ _ _ (start .ensures ∙ parts-past _ _ (start .result) (omega arith))
-
-part-end-requires : tie.Need-part-end-requires
-part-end-requires c κs = search needs
-
-sub-result : tie.Need-sub-result
-sub-result c = search needs
-
-part-result-start : tie.Need-part-result-start
-part-result-start c = search needs
-
-part-result-end : tie.Need-part-result-end
-part-result-end c = search needs
 
 returns-2 : tie.Need-returns-2
 returns-2 c =
@@ -38,11 +20,7 @@ pub part-spec : {M : Type 1} → statement M
 part-spec =
     tie.close
     (tie.spec
-    part-start-requires
-    slice-aggregate-result
+    (λ c κs. search needs) (λ c. search needs)
     returns
-    part-end-requires
-    sub-result
-    part-result-start
-    part-result-end
+    (λ c κs. search needs) (λ c. search needs) (λ c. search needs) (λ c. search needs)
     returns-2)

@@ -1,4 +1,5 @@
--- `yard_line::command` meets its contract.
+-- `yard_line::command` meets its contract: each return has made some of the tests by which `commandIn` chooses, in the same order, and those tell
+-- its command (`command-by`); a tag or a number is read only where its form was tested.
 use mathlib.Core.Path.{refl, sym, ap, _∙_}
 use borrow.Author.Tests.{eq-eqb, ne-eqb}
 use Rattle.text_rules.specs.Fields.{isTag}
@@ -9,29 +10,17 @@ use borrow.Author.Needs.{needs}
 use Rattle.yard_line.proofs.command.Statement.{statement}
 use Rattle.yard_line.proofs.command.Tie as tie
 
-has-profile-requires : tie.Need-has-profile-requires
-has-profile-requires c κs = search needs
-
-opens-tag-requires : tie.Need-opens-tag-requires
-opens-tag-requires c κs = search needs
-
 tag-requires : tie.Need-tag-requires
 tag-requires c κs = (c .before .before .before .before .before .pre, opens-form _ letterA isTag (sym (c .before .opens-tag .ensures) ∙ c .if2 .taken))
 
 returns : tie.Need-returns
 returns c = ap Command.Add (c .tag .ensures) ∙ command-by _ (sym (c .before .before .before .before .has-profile .ensures) ∙ c .before .before .before .if1 .taken) (sym (c .before .before .opens-tag .ensures) ∙ c .before .if2 .taken) refl refl refl refl
 
-opens-number-requires : tie.Need-opens-number-requires
-opens-number-requires c κs = search needs
-
 number-requires : tie.Need-number-requires
 number-requires c κs = (c .before .before .before .before .before .before .before .pre, opens-form _ letterW isNumber (sym (c .before .opens-number .ensures) ∙ c .if3 .taken))
 
 returns-2 : tie.Need-returns-2
 returns-2 c = ap Command.Within (c .number .ensures) ∙ command-by _ (sym (c .before .before .before .before .before .before .has-profile .ensures) ∙ c .before .before .before .before .before .if1 .taken) (sym (c .before .before .before .before .opens-tag .ensures) ∙ c .before .before .before .if2 .left) (sym (c .before .before .opens-number .ensures) ∙ c .before .if3 .taken) refl refl refl
-
-opens-number-requires-2 : tie.Need-opens-number-requires-2
-opens-number-requires-2 c κs = search needs
 
 number-requires-2 : tie.Need-number-requires-2
 number-requires-2 c κs = (c .before .before .before .before .before .before .before .before .before .pre, opens-form _ letterN isNumber (sym (c .before .opens-number2 .ensures) ∙ c .if4 .taken))
@@ -42,14 +31,8 @@ returns-3 c = ap Command.Nearest (c .number2 .ensures) ∙ command-by _ (sym (c 
 returns-4 : tie.Need-returns-4
 returns-4 c = command-by _ (sym (c .before .before .before .before .before .before .before .has-profile .ensures) ∙ c .before .before .before .before .before .before .if1 .taken) (sym (c .before .before .before .before .before .opens-tag .ensures) ∙ c .before .before .before .before .if2 .left) (sym (c .before .before .before .opens-number .ensures) ∙ c .before .before .if3 .left) (sym (c .before .opens-number2 .ensures) ∙ c .if4 .left) refl refl
 
-parts-requires : tie.Need-parts-requires
-parts-requires c κs = search needs
-
 returns-5 : tie.Need-returns-5
 returns-5 c = command-by _ (sym (c .before .before .before .has-profile .ensures) ∙ c .before .before .if1 .left) refl refl refl (ne-eqb _ 2 (λ e. c .if5 .taken (c .before .parts .ensures ∙ e))) refl
-
-opens-tag-requires-2 : tie.Need-opens-tag-requires-2
-opens-tag-requires-2 c κs = search needs
 
 tag-requires-2 : tie.Need-tag-requires-2
 tag-requires-2 c κs = (c .before .before .before .before .before .before .before .pre, opens-form _ letterR isTag (sym (c .before .opens-tag2 .ensures) ∙ c .if6 .taken))
@@ -64,20 +47,19 @@ pub command-spec : {M : Type 1} → statement M
 command-spec =
     tie.close
     (tie.spec
-    has-profile-requires
-    opens-tag-requires
+    (λ c κs. search needs) (λ c κs. search needs)
     tag-requires
     returns
-    opens-number-requires
+    (λ c κs. search needs)
     number-requires
     returns-2
-    opens-number-requires-2
+    (λ c κs. search needs)
     number-requires-2
     returns-3
     returns-4
-    parts-requires
+    (λ c κs. search needs)
     returns-5
-    opens-tag-requires-2
+    (λ c κs. search needs)
     tag-requires-2
     returns-6
     returns-7)

@@ -1,4 +1,4 @@
--- `yard_line::has_measure` meets its contract.
+-- `yard_line::has_measure` meets its contract: the test is of the part that `field` names, and a part is no longer than its line.
 use mathlib.Core.Path.{ap, _∙_}
 use native.Mathlib.Omega.{arith}
 use Rattle.text_rules.specs.Text.{point}
@@ -9,9 +9,6 @@ use borrow.Author.Needs.{needs}
 use Rattle.yard_line.proofs.has_measure.Statement.{statement}
 use Rattle.yard_line.proofs.has_measure.Tie as tie
 
-part-requires : tie.Need-part-requires
-part-requires c κs = search needs
-
 is-measure-requires : tie.Need-is-measure-requires
 is-measure-requires c κs = omega (arith, field-shorter (c .before .before .args .line .now) (c .before .before .args .n), ap length (c .part .ensures))
 
@@ -19,4 +16,4 @@ returns : tie.Need-returns
 returns c = c .is-measure .ensures ∙ ap (isMeasure point) (c .before .part .ensures)
 
 pub has-measure-spec : {M : Type 1} → statement M
-has-measure-spec = tie.close (tie.spec part-requires is-measure-requires returns)
+has-measure-spec = tie.close (tie.spec (λ c κs. search needs) is-measure-requires returns)

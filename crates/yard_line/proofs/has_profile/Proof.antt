@@ -1,4 +1,4 @@
--- `yard_line::has_profile` meets its contract.
+-- `yard_line::has_profile` meets its contract: each return has made some of the tests of `hasProfile`, in the same order, and those decide (`profile-by`).
 use mathlib.Core.Path.{refl, sym, ap, _∙_}
 use borrow.Author.Tests.{eq-eqb, ne-eqb, not-true, not-false}
 use Rattle.yard_rules.specs.Line.{isCode}
@@ -7,41 +7,20 @@ use borrow.Author.Needs.{needs}
 use Rattle.yard_line.proofs.has_profile.Statement.{statement}
 use Rattle.yard_line.proofs.has_profile.Tie as tie
 
-parts-requires : tie.Need-parts-requires
-parts-requires c κs = search needs
-
 returns : tie.Need-returns
 returns c = profile-by _ (ne-eqb _ 7 (λ e. c .if1 .taken (c .before .parts .ensures ∙ e))) refl refl refl refl
-
-has-measure-requires : tie.Need-has-measure-requires
-has-measure-requires c κs = search needs
 
 returns-2 : tie.Need-returns-2
 returns-2 c = profile-by _ (eq-eqb _ 7 (sym (c .before .before .before .parts .ensures) ∙ c .before .before .if1 .left)) (sym (c .before .has-measure .ensures) ∙ not-true _ (c .if2 .taken)) refl refl refl
 
-has-measure-requires-2 : tie.Need-has-measure-requires-2
-has-measure-requires-2 c κs = search needs
-
 returns-3 : tie.Need-returns-3
 returns-3 c = profile-by _ (eq-eqb _ 7 (sym (c .before .before .before .before .before .parts .ensures) ∙ c .before .before .before .before .if1 .left)) (sym (c .before .before .before .has-measure .ensures) ∙ not-false _ (c .before .before .if2 .left)) (sym (c .before .has-measure2 .ensures) ∙ not-true _ (c .if3 .taken)) refl refl
-
-has-measure-requires-3 : tie.Need-has-measure-requires-3
-has-measure-requires-3 c κs = search needs
 
 returns-4 : tie.Need-returns-4
 returns-4 c = profile-by _ (eq-eqb _ 7 (sym (c .before .before .before .before .before .before .before .parts .ensures) ∙ c .before .before .before .before .before .before .if1 .left)) (sym (c .before .before .before .before .before .has-measure .ensures) ∙ not-false _ (c .before .before .before .before .if2 .left)) (sym (c .before .before .before .has-measure2 .ensures) ∙ not-false _ (c .before .before .if3 .left)) (sym (c .before .has-measure3 .ensures) ∙ not-true _ (c .if4 .taken)) refl
 
-has-measure-requires-4 : tie.Need-has-measure-requires-4
-has-measure-requires-4 c κs = search needs
-
 returns-5 : tie.Need-returns-5
 returns-5 c = profile-by _ (eq-eqb _ 7 (sym (c .before .before .before .before .before .before .before .before .before .parts .ensures) ∙ c .before .before .before .before .before .before .before .before .if1 .left)) (sym (c .before .before .before .before .before .before .before .has-measure .ensures) ∙ not-false _ (c .before .before .before .before .before .before .if2 .left)) (sym (c .before .before .before .before .before .has-measure2 .ensures) ∙ not-false _ (c .before .before .before .before .if3 .left)) (sym (c .before .before .before .has-measure3 .ensures) ∙ not-false _ (c .before .before .if4 .left)) (sym (c .before .has-measure4 .ensures) ∙ not-true _ (c .if5 .taken))
-
-part-requires : tie.Need-part-requires
-part-requires c κs = search needs
-
-is-code-requires : tie.Need-is-code-requires
-is-code-requires c κs = search needs
 
 returns-6 : tie.Need-returns-6
 returns-6 c = c .is-code .ensures ∙ ap isCode (c .before .part .ensures) ∙ profile-by _ (eq-eqb _ 7 (sym (c .before .before .before .before .before .before .before .before .before .before .before .parts .ensures) ∙ c .before .before .before .before .before .before .before .before .before .before .if1 .left)) (sym (c .before .before .before .before .before .before .before .before .before .has-measure .ensures) ∙ not-false _ (c .before .before .before .before .before .before .before .before .if2 .left)) (sym (c .before .before .before .before .before .before .before .has-measure2 .ensures) ∙ not-false _ (c .before .before .before .before .before .before .if3 .left)) (sym (c .before .before .before .before .before .has-measure3 .ensures) ∙ not-false _ (c .before .before .before .before .if4 .left)) (sym (c .before .before .before .has-measure4 .ensures) ∙ not-false _ (c .before .before .if5 .left))
@@ -50,16 +29,15 @@ pub has-profile-spec : {M : Type 1} → statement M
 has-profile-spec =
     tie.close
     (tie.spec
-    parts-requires
+    (λ c κs. search needs)
     returns
-    has-measure-requires
+    (λ c κs. search needs)
     returns-2
-    has-measure-requires-2
+    (λ c κs. search needs)
     returns-3
-    has-measure-requires-3
+    (λ c κs. search needs)
     returns-4
-    has-measure-requires-4
+    (λ c κs. search needs)
     returns-5
-    part-requires
-    is-code-requires
+    (λ c κs. search needs) (λ c κs. search needs)
     returns-6)

@@ -1,4 +1,4 @@
--- `yard_line::measure` meets its contract.
+-- `yard_line::measure` meets its contract: the value is that of the part that `field` names, of which the form is required.
 use mathlib.Core.Path.{ap, _∙_}
 use native.Mathlib.Omega.{arith}
 use Rattle.text_rules.specs.Text.{point}
@@ -11,9 +11,6 @@ use borrow.Author.Needs.{needs}
 use Rattle.yard_line.proofs.measure.Statement.{statement}
 use Rattle.yard_line.proofs.measure.Tie as tie
 
-part-requires : tie.Need-part-requires
-part-requires c κs = search needs
-
 measure-requires : tie.Need-measure-requires
 measure-requires c κs = (omega (arith, field-shorter (c .before .before .args .line .now) (c .before .before .args .n), ap length (c .part .ensures)), ap (isMeasure point) (c .part .ensures) ∙ c .before .before .pre .1)
 
@@ -21,4 +18,4 @@ returns : tie.Need-returns
 returns c = toZ-ofZ {w = w32} {z = c .measure .result} (record { sfits = c .measure .ok }) ∙ c .measure .ensures ∙ ap (measureIn point) (c .before .part .ensures)
 
 pub measure-spec : {M : Type 1} → statement M
-measure-spec = tie.close (tie.spec part-requires measure-requires returns)
+measure-spec = tie.close (tie.spec (λ c κs. search needs) measure-requires returns)

@@ -1,13 +1,10 @@
--- `yard_line::number` meets its contract.
+-- `yard_line::number` meets its contract: the value is that of the part that `field` names, of which the form is required.
 use mathlib.Core.Path.{ap, _∙_}
 use Rattle.text_rules.specs.Text.{numeral}
 use Rattle.yard_rules.specs.Line.{isNumber}
 use borrow.Author.Needs.{needs}
 use Rattle.yard_line.proofs.number.Statement.{statement}
 use Rattle.yard_line.proofs.number.Tie as tie
-
-part-requires : tie.Need-part-requires
-part-requires c κs = search needs
 
 number-requires : tie.Need-number-requires
 number-requires c κs = ap isNumber (c .part .ensures) ∙ c .before .before .pre .1
@@ -16,4 +13,4 @@ returns : tie.Need-returns
 returns c = c .number .ensures ∙ ap (numeral 10) (c .before .part .ensures)
 
 pub number-spec : {M : Type 1} → statement M
-number-spec = tie.close (tie.spec part-requires number-requires returns)
+number-spec = tie.close (tie.spec (λ c κs. search needs) number-requires returns)

@@ -21,9 +21,6 @@ measure-requires-3 c κs = (c .before .before .before .pre .0, measure-4 _ (c .b
 measure-requires-4 : tie.Need-measure-requires-4
 measure-requires-4 c κs = (c .before .before .before .before .pre .0, measure-5 _ (c .before .before .before .before .pre .1))
 
-part-requires : tie.Need-part-requires
-part-requires c κs = search needs
-
 code-requires : tie.Need-code-requires
 code-requires c κs = ap isCode (c .part .ensures) ∙ code-6 _ (c .before .before .before .before .before .before .pre .1)
 
@@ -45,6 +42,6 @@ profile-spec =
     measure-requires-2
     measure-requires-3
     measure-requires-4
-    part-requires
+    (λ c κs. search needs)
     code-requires
     returns)

@@ -42,9 +42,6 @@ returns c =
 shared-slice-read-hold : tie.Need-shared-slice-read-hold Inv-loop μ-loop
 shared-slice-read-hold c = omega arith
 
-hold-requires : tie.Need-hold-requires Inv-loop μ-loop
-hold-requires c κs = search needs
-
 add-i : tie.Need-add-i Inv-loop μ-loop
 add-i c = omega arith
 
@@ -86,7 +83,7 @@ gather-spec =
     same-length
     returns
     shared-slice-read-hold
-    hold-requires
+    (λ c κs. search needs)
     add-i
     loop-less
     loop-again

@@ -31,9 +31,6 @@ loop-holds c = (omega arith, omega arith, omega arith, length-passes _ _ _ _ (om
 shared-slice-read-is-digit : tie.Need-shared-slice-read-is-digit Inv-loop μ-loop
 shared-slice-read-is-digit c = omega arith
 
-is-digit-requires : tie.Need-is-digit-requires Inv-loop μ-loop
-is-digit-requires c κs = search needs
-
 loop-again : tie.Need-loop-again Inv-loop μ-loop
 loop-again c =
     let at = c .before .before .before .before in
@@ -63,7 +60,7 @@ is-numeral-spec =
     returns-2
     loop-holds
     shared-slice-read-is-digit
-    is-digit-requires
+    (λ c κs. search needs)
     returns-3
     add-i
     loop-less

@@ -11,9 +11,6 @@ use borrow.Author.Needs.{needs}
 use Rattle.yard_parse.proofs.code.Statement.{statement}
 use Rattle.yard_parse.proofs.code.Tie as tie
 
-only-byte-requires : tie.Need-only-byte-requires
-only-byte-requires c κs = search needs
-
 slice-aggregate-numeral : tie.Need-slice-aggregate-numeral
 slice-aggregate-numeral c =
     let text = c .before .before .before .before .args .text .now in
@@ -38,9 +35,6 @@ part-numeral-start c =
     let form = digits-code text (λ e. c .before .before .if1 .left (c .before .before .before .only-byte .ensures ∙ e)) ∙ c .before .before .before .before .before .pre in
     omega (arith, numeral-shortest 16 32 32 text form)
 
-part-numeral-end : tie.Need-part-numeral-end
-part-numeral-end c = search needs
-
 numeral-requires-2 : tie.Need-numeral-requires-2
 numeral-requires-2 c κs =
     let text = c .before .before .before .before .before .before .args .text .now in
@@ -63,12 +57,12 @@ pub code-spec : {M : Type 1} → statement M
 code-spec =
     tie.close
     (tie.spec
-    only-byte-requires
+    (λ c κs. search needs)
     slice-aggregate-numeral
     numeral-requires
     sub-numeral
     part-numeral-start
-    part-numeral-end
+    (λ c. search needs)
     numeral-requires-2
     returns
     returns-2)

@@ -10,16 +10,10 @@ use borrow.Author.Needs.{needs}
 use Rattle.yard_parse.proofs.hundredths.Statement.{statement}
 use Rattle.yard_parse.proofs.hundredths.Tie as tie
 
-part-requires : tie.Need-part-requires
-part-requires c κs = search needs
-
 numeral-requires : tie.Need-numeral-requires
 numeral-requires c κs =
     let form = ap (λ t. isNumeral 10 1 5 t) (c .part .ensures) ∙ c .before .before .pre .1 in
     (omega arith, omega (arith, numeral-longest 10 1 5 _ form), numeral-digits 10 1 5 _ form)
-
-part-requires-2 : tie.Need-part-requires-2
-part-requires-2 c κs = search needs
 
 numeral-requires-2 : tie.Need-numeral-requires-2
 numeral-requires-2 c κs =
@@ -57,9 +51,9 @@ pub hundredths-spec : {M : Type 1} → statement M
 hundredths-spec =
     tie.close
     (tie.spec
-    part-requires
+    (λ c κs. search needs)
     numeral-requires
-    part-requires-2
+    (λ c κs. search needs)
     numeral-requires-2
     mul-result
     add-result

@@ -1,15 +1,12 @@
--- `yard_parse::is_measure` meets its contract, test by test.
-use borrow.Author.Tests.{not-true, not-false}
-use Rattle.text_rules.specs.Text.{partAt, partsIn, isNumeral}
+-- `yard_parse::is_measure` meets its contract: behind the sign two parts, then 1 to 5 digits, then 2; each test that fails decides, and else the last does.
 use mathlib.Core.Path.{sym, ap, _∙_}
 use native.Mathlib.Omega.{arith}
+use borrow.Author.Tests.{not-true, not-false}
+use Rattle.text_rules.specs.Text.{partAt, partsIn, isNumeral}
 use Rattle.yard_parse.proofs.Forms.{unsigned-shorter, parts-wrong, whole-wrong, rest-decides}
 use borrow.Author.Needs.{needs}
 use Rattle.yard_parse.proofs.is_measure.Statement.{statement}
 use Rattle.yard_parse.proofs.is_measure.Tie as tie
-
-unsigned-requires : tie.Need-unsigned-requires
-unsigned-requires c κs = search needs
 
 parts-requires : tie.Need-parts-requires
 parts-requires c κs = rw (c .unsigned .ensures) (omega (arith, unsigned-shorter (c .before .before .args .text .now)))
@@ -19,9 +16,6 @@ returns c = parts-wrong _ _ (λ e. c .if1 .taken (c .before .parts .ensures ∙ 
 
 part-requires : tie.Need-part-requires
 part-requires c κs = rw (c .before .before .unsigned .ensures) (omega (arith, unsigned-shorter (c .before .before .before .before .args .text .now)))
-
-is-numeral-requires : tie.Need-is-numeral-requires
-is-numeral-requires c κs = search needs
 
 returns-3 : tie.Need-returns-3
 returns-3 c =
@@ -38,19 +32,16 @@ returns-2 c =
 part-requires-2 : tie.Need-part-requires-2
 part-requires-2 c κs = rw (c .before .before .before .before .before .unsigned .ensures) (omega (arith, unsigned-shorter (c .before .before .before .before .before .before .before .args .text .now)))
 
-is-numeral-requires-2 : tie.Need-is-numeral-requires-2
-is-numeral-requires-2 c κs = search needs
-
 pub is-measure-spec : {M : Type 1} → statement M
 is-measure-spec =
     tie.close
     (tie.spec
-    unsigned-requires
+    (λ c κs. search needs)
     parts-requires
     returns
     part-requires
-    is-numeral-requires
+    (λ c κs. search needs)
     returns-2
     part-requires-2
-    is-numeral-requires-2
+    (λ c κs. search needs)
     returns-3)

@@ -1,13 +1,10 @@
--- `yard_parse::is_negative` meets its contract.
+-- `yard_parse::is_negative` meets its contract: no byte is no minus, and else the first byte decides, as in the definition.
 use mathlib.Core.Path.{refl}
 use Rattle.text_rules.specs.Fields.{isNegative}
 use Rattle.yard_parse.proofs.Forms.{none-plain}
 use borrow.Author.Needs.{needs}
 use Rattle.yard_parse.proofs.is_negative.Statement.{statement}
 use Rattle.yard_parse.proofs.is_negative.Tie as tie
-
-shared-slice-read-result : tie.Need-shared-slice-read-result
-shared-slice-read-result c = search needs
 
 returns : tie.Need-returns
 returns c = none-plain _ (c .if1 .taken)
@@ -17,4 +14,4 @@ unfolding isNegative
 returns-2 c = refl
 
 pub is-negative-spec : {M : Type 1} → statement M
-is-negative-spec = tie.close (tie.spec shared-slice-read-result returns returns-2)
+is-negative-spec = tie.close (tie.spec (λ c. search needs) returns returns-2)

@@ -11,20 +11,11 @@ use borrow.Author.Needs.{needs}
 use Rattle.yard_parse.proofs.measure.Statement.{statement}
 use Rattle.yard_parse.proofs.measure.Tie as tie
 
-unsigned-requires : tie.Need-unsigned-requires
-unsigned-requires c κs = search needs
-
 hundredths-requires : tie.Need-hundredths-requires
 hundredths-requires c κs =
     let text = c .before .before .args .text .now in
     let pre = c .before .before .pre in
     rw (c .unsigned .ensures) (omega (arith, unsigned-shorter text), measure-whole _ text (pre .1), measure-rest _ text (pre .1))
-
-cast-n : tie.Need-cast-n
-cast-n c = search needs
-
-is-negative-requires : tie.Need-is-negative-requires
-is-negative-requires c κs = search needs
 
 sub-result : tie.Need-sub-result
 sub-result c = negated-fits (c .before .before .hundredths .result) (c .before .before .hundredths .ensures .1)
@@ -47,10 +38,9 @@ pub measure-spec : {M : Type 1} → statement M
 measure-spec =
     tie.close
     (tie.spec
-    unsigned-requires
+    (λ c κs. search needs)
     hundredths-requires
-    cast-n
-    is-negative-requires
+    (λ c. search needs) (λ c κs. search needs)
     sub-result
     returns
     returns-2)

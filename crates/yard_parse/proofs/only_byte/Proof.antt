@@ -1,11 +1,8 @@
--- `yard_parse::only_byte` meets its contract.
+-- `yard_parse::only_byte` meets its contract: the length decides between the first byte and 0 (`only-one`, `only-other`).
 use Rattle.yard_parse.proofs.Forms.{only-one, only-other}
 use borrow.Author.Needs.{needs}
 use Rattle.yard_parse.proofs.only_byte.Statement.{statement}
 use Rattle.yard_parse.proofs.only_byte.Tie as tie
-
-shared-slice-read-result : tie.Need-shared-slice-read-result
-shared-slice-read-result c = search needs
 
 returns : tie.Need-returns
 returns c = only-one _ (c .before .if1 .taken)
@@ -14,4 +11,4 @@ returns-2 : tie.Need-returns-2
 returns-2 c = only-other _ (c .if1 .left)
 
 pub only-byte-spec : {M : Type 1} → statement M
-only-byte-spec = tie.close (tie.spec shared-slice-read-result returns returns-2)
+only-byte-spec = tie.close (tie.spec (λ c. search needs) returns returns-2)

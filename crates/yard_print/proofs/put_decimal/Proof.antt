@@ -1,4 +1,4 @@
--- `yard_print::put_decimal` meets its contract.
+-- `yard_print::put_decimal` meets its contract: a number's decimal is its last digits, as many as its width, which is at most 20.
 use Prim.Native.Nat.{_+_}
 use native.Mathlib.Omega.{arith}
 use mathlib.Core.Path.{sym, ap, _∙_}
@@ -8,18 +8,6 @@ use Rattle.yard_print.proofs.Widths.{length-decimal}
 use borrow.Author.Needs.{needs}
 use Rattle.yard_print.proofs.put_decimal.Statement.{statement}
 use Rattle.yard_print.proofs.put_decimal.Tie as tie
-
-width-requires : tie.Need-width-requires
-width-requires c κs = search needs
-
-put-digits-requires : tie.Need-put-digits-requires
-put-digits-requires c κs = search needs
-
-add-result : tie.Need-add-result
-add-result c = search needs
-
-same-length : tie.Need-same-length
-same-length c = search needs
 
 returns : tie.Need-returns
 unfolding decimal
@@ -33,4 +21,4 @@ returns c =
 
 pub put-decimal-spec : {M : Type 1} → statement M
 put-decimal-spec =
-    tie.close (tie.spec width-requires put-digits-requires add-result same-length returns)
+    tie.close (tie.spec (λ c κs. search needs) (λ c κs. search needs) (λ c. search needs) (λ c. search needs) returns)

@@ -6,7 +6,8 @@ use mathlib.Core.List.{[]}
 use lib.ListN.{length, take, getD, length-append}
 use lib.Seq.{sets, length-sets}
 use Rattle.yard_rules.specs.Reply.{entryText, entriesText}
-use Rattle.yard_print.proofs.Runs.{sets-more, entries-next}
+use Rattle.tree_rules.proofs.Stores.{sets-more}
+use Rattle.yard_print.proofs.Runs.{entries-next}
 use Rattle.yard_print.proofs.put_entries.Statement.{statement}
 use Rattle.yard_print.proofs.put_entries.Tie as tie
 

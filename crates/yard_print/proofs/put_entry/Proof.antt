@@ -10,24 +10,6 @@ use borrow.Author.Needs.{needs}
 use Rattle.yard_print.proofs.put_entry.Statement.{statement}
 use Rattle.yard_print.proofs.put_entry.Tie as tie
 
-array-read-put-digits : tie.Need-array-read-put-digits
-array-read-put-digits c = search needs
-
-put-digits-requires : tie.Need-put-digits-requires
-put-digits-requires c κs = search needs
-
-add-out : tie.Need-add-out
-add-out c = search needs
-
-slice-write-out : tie.Need-slice-write-out
-slice-write-out c = search needs
-
-add-put-decimal : tie.Need-add-put-decimal
-add-put-decimal c = search needs
-
-array-read-put-decimal : tie.Need-array-read-put-decimal
-array-read-put-decimal c = search needs
-
 put-decimal-requires : tie.Need-put-decimal-requires
 put-decimal-requires c κs =
     let a = c .before .before .before .before .before .before .args in
@@ -47,9 +29,6 @@ slice-write-out-2 c =
     ∙ length-set (tag .last .0) (a .at + 15) space
     ∙ kept in
     omega (arith, still, d .ensures .2)
-
-add-result : tie.Need-add-result
-add-result c = search needs
 
 same-length : tie.Need-same-length
 same-length c =
@@ -85,14 +64,10 @@ pub put-entry-spec : {M : Type 1} → statement M
 put-entry-spec =
     tie.close
     (tie.spec
-    array-read-put-digits
-    put-digits-requires
-    add-out
-    slice-write-out
-    add-put-decimal
-    array-read-put-decimal
+    (λ c. search needs) (λ c κs. search needs) (λ c. search needs) (λ c. search needs) (λ c. search needs)
+    (λ c. search needs)
     put-decimal-requires
     slice-write-out-2
-    add-result
+    (λ c. search needs)
     same-length
     returns)

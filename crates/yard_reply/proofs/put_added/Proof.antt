@@ -9,33 +9,12 @@ use borrow.Author.Needs.{needs}
 use Rattle.yard_reply.proofs.put_added.Statement.{statement}
 use Rattle.yard_reply.proofs.put_added.Tie as tie
 
-cast-put-three : tie.Need-cast-put-three
-cast-put-three c = search needs
-
-cast-put-three-2 : tie.Need-cast-put-three-2
-cast-put-three-2 c = search needs
-
-put-three-requires : tie.Need-put-three-requires
-put-three-requires c κs = search needs
-
-cast-put-one : tie.Need-cast-put-one
-cast-put-one c = search needs
-
-put-one-requires : tie.Need-put-one-requires
-put-one-requires c κs = search needs
-
-same-length : tie.Need-same-length
-same-length c = search needs
-
 returns : tie.Need-returns
 unfolding addText
 returns c =
     let a = c .before .before .before .before .before .before .before .before .before .args in
     let ns = accepted (a .reply .refusal) (a .reply .bucket ∷ a .reply .distances ∷ []) (c .before .before .before .before .before .before .if1 .taken) in
     subst (λ ns. Puts (a .out .now) (c .before .before .put-three .last .0) (c .before .before .put-three .result) (replyLine letterA ns)) ns (c .before .before .put-three .ensures .0)
-
-same-length-2 : tie.Need-same-length-2
-same-length-2 c = search needs
 
 returns-2 : tie.Need-returns-2
 unfolding addText
@@ -48,12 +27,8 @@ pub put-added-spec : {M : Type 1} → statement M
 put-added-spec =
     tie.close
     (tie.spec
-    cast-put-three
-    cast-put-three-2
-    put-three-requires
-    cast-put-one
-    put-one-requires
-    same-length
+    (λ c. search needs) (λ c. search needs) (λ c κs. search needs) (λ c. search needs) (λ c κs. search needs)
+    (λ c. search needs)
     returns
-    same-length-2
+    (λ c. search needs)
     returns-2)

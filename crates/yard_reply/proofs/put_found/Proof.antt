@@ -9,24 +9,6 @@ use borrow.Author.Needs.{needs}
 use Rattle.yard_reply.proofs.put_found.Statement.{statement}
 use Rattle.yard_reply.proofs.put_found.Tie as tie
 
-cast-put-three : tie.Need-cast-put-three
-cast-put-three c = search needs
-
-cast-put-three-2 : tie.Need-cast-put-three-2
-cast-put-three-2 c = search needs
-
-put-three-requires : tie.Need-put-three-requires
-put-three-requires c κs = search needs
-
-cast-put-one : tie.Need-cast-put-one
-cast-put-one c = search needs
-
-put-one-requires : tie.Need-put-one-requires
-put-one-requires c κs = search needs
-
-same-length : tie.Need-same-length
-same-length c = search needs
-
 returns : tie.Need-returns
 returns c =
     let a = c .before .before .before .before .before .before .before .before .before .args in
@@ -37,9 +19,6 @@ returns c =
       long = put .0 .1 ∙ ap (λ ns. length (replyLine (a .letter) ns)) ns;
       most = put .1;
     }
-
-same-length-2 : tie.Need-same-length-2
-same-length-2 c = search needs
 
 returns-2 : tie.Need-returns-2
 returns-2 c =
@@ -56,12 +35,8 @@ pub put-found-spec : {M : Type 1} → statement M
 put-found-spec =
     tie.close
     (tie.spec
-    cast-put-three
-    cast-put-three-2
-    put-three-requires
-    cast-put-one
-    put-one-requires
-    same-length
+    (λ c. search needs) (λ c. search needs) (λ c κs. search needs) (λ c. search needs) (λ c κs. search needs)
+    (λ c. search needs)
     returns
-    same-length-2
+    (λ c. search needs)
     returns-2)

@@ -9,30 +9,12 @@ use borrow.Author.Needs.{needs}
 use Rattle.yard_reply.proofs.put_removed.Statement.{statement}
 use Rattle.yard_reply.proofs.put_removed.Tie as tie
 
-cast-put-two : tie.Need-cast-put-two
-cast-put-two c = search needs
-
-put-two-requires : tie.Need-put-two-requires
-put-two-requires c κs = search needs
-
-cast-put-one : tie.Need-cast-put-one
-cast-put-one c = search needs
-
-put-one-requires : tie.Need-put-one-requires
-put-one-requires c κs = search needs
-
-same-length : tie.Need-same-length
-same-length c = search needs
-
 returns : tie.Need-returns
 unfolding removeText
 returns c =
     let a = c .before .before .before .before .before .before .before .before .args in
     let ns = accepted (a .reply .refusal) (a .reply .distances ∷ []) (c .before .before .before .before .before .if1 .taken) in
     subst (λ ns. Puts (a .out .now) (c .before .before .put-two .last .0) (c .before .before .put-two .result) (replyLine letterR ns)) ns (c .before .before .put-two .ensures)
-
-same-length-2 : tie.Need-same-length-2
-same-length-2 c = search needs
 
 returns-2 : tie.Need-returns-2
 unfolding removeText
@@ -45,11 +27,7 @@ pub put-removed-spec : {M : Type 1} → statement M
 put-removed-spec =
     tie.close
     (tie.spec
-    cast-put-two
-    put-two-requires
-    cast-put-one
-    put-one-requires
-    same-length
+    (λ c. search needs) (λ c κs. search needs) (λ c. search needs) (λ c κs. search needs) (λ c. search needs)
     returns
-    same-length-2
+    (λ c. search needs)
     returns-2)

@@ -8,18 +8,6 @@ use borrow.Author.Needs.{needs}
 use Rattle.yard_reply.proofs.put_searched.Statement.{statement}
 use Rattle.yard_reply.proofs.put_searched.Tie as tie
 
-cast-found : tie.Need-cast-found
-cast-found c = search needs
-
-put-found-requires : tie.Need-put-found-requires
-put-found-requires c κs = search needs
-
-put-entries-requires : tie.Need-put-entries-requires
-put-entries-requires c κs = search needs
-
-same-length : tie.Need-same-length
-same-length c = search needs
-
 returns : tie.Need-returns
 unfolding searchText
 returns c =
@@ -37,4 +25,4 @@ returns c =
 
 pub put-searched-spec : {M : Type 1} → statement M
 put-searched-spec =
-    tie.close (tie.spec cast-found put-found-requires put-entries-requires same-length returns)
+    tie.close (tie.spec (λ c. search needs) (λ c κs. search needs) (λ c κs. search needs) (λ c. search needs) returns)

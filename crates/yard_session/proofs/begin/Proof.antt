@@ -1,4 +1,4 @@
--- `yard_session::begin` meets its contract.
+-- `yard_session::begin` meets its contract: nothing is held and nothing was printed (`begins`).
 use mathlib.Core.Path.{refl}
 use Rattle.yard_session.proofs.Standing.{begins}
 use Rattle.yard_session.proofs.begin.Statement.{statement}

@@ -7,27 +7,6 @@ use borrow.Author.Needs.{needs}
 use Rattle.yard_session.proofs.end_line.Statement.{statement}
 use Rattle.yard_session.proofs.end_line.Tie as tie
 
-held-line-requires : tie.Need-held-line-requires
-held-line-requires c κs = search needs
-
-talk-requires : tie.Need-talk-requires
-talk-requires c κs = search needs
-
-add-t20 : tie.Need-add-t20
-add-t20 c = search needs
-
-same-length : tie.Need-same-length
-same-length c = search needs
-
-same-length-2 : tie.Need-same-length-2
-same-length-2 c = search needs
-
-same-length-3 : tie.Need-same-length-3
-same-length-3 c = search needs
-
-same-length-4 : tie.Need-same-length-4
-same-length-4 c = search needs
-
 returns : tie.Need-returns
 returns c =
     let a = c .before .before .before .before .before .before .before .before .before .before .before .before .before .before .args in
@@ -41,11 +20,6 @@ pub end-line-spec : {M : Type 1} → statement M
 end-line-spec =
     tie.close
     (tie.spec
-    held-line-requires
-    talk-requires
-    add-t20
-    same-length
-    same-length-2
-    same-length-3
-    same-length-4
+    (λ c κs. search needs) (λ c κs. search needs) (λ c. search needs) (λ c. search needs) (λ c. search needs)
+    (λ c. search needs) (λ c. search needs)
     returns)

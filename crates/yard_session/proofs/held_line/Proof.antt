@@ -8,9 +8,6 @@ use borrow.Author.Needs.{needs}
 use Rattle.yard_session.proofs.held_line.Statement.{statement}
 use Rattle.yard_session.proofs.held_line.Tie as tie
 
-slice-aggregate-result : tie.Need-slice-aggregate-result
-slice-aggregate-result c = search needs
-
 returns : tie.Need-returns
 returns c = (omega arith, λ line h. long-answered (c .before .before .pre) (c .before .if1 .taken) h)
 
@@ -20,9 +17,6 @@ slice-aggregate-result-2 c = sym (length-take-le _ _ (omega arith))
 returns-2 : tie.Need-returns-2
 returns-2 c = (simp length-take (omega arith), λ line h. whole-answered (c .before .before .if1 .left) h)
 
-slice-aggregate-result-3 : tie.Need-slice-aggregate-result-3
-slice-aggregate-result-3 c = search needs
-
 returns-3 : tie.Need-returns-3
 returns-3 c = (omega arith, λ line h. absurd (omega (arith, h .room)))
 
@@ -30,9 +24,9 @@ pub held-line-spec : {M : Type 1} → statement M
 held-line-spec =
     tie.close
     (tie.spec
-    slice-aggregate-result
+    (λ c. search needs)
     returns
     slice-aggregate-result-2
     returns-2
-    slice-aggregate-result-3
+    (λ c. search needs)
     returns-3)

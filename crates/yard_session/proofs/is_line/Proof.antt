@@ -1,4 +1,5 @@
--- `yard_session::is_line` meets its contract.
+-- `yard_session::is_line` meets its contract: a line longer than the area has bytes, one held has bytes where its length is not 0,
+-- and no byte at all is a line only as the first.
 use native.Mathlib.Omega.{arith}
 use Rattle.yard_session.proofs.Standing.{long-last, byte-last, first-last}
 use Rattle.yard_session.proofs.is_line.Statement.{statement}

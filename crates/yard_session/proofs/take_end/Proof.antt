@@ -9,9 +9,6 @@ use borrow.Author.Needs.{needs}
 use Rattle.yard_session.proofs.take_end.Statement.{statement}
 use Rattle.yard_session.proofs.take_end.Tie as tie
 
-is-line-requires : tie.Need-is-line-requires
-is-line-requires c κs = search needs
-
 returns : tie.Need-returns
 returns c =
     let a = c .before .before .before .before .args in
@@ -19,21 +16,6 @@ returns c =
       (omega arith, omega arith),
       λ m st. ends-without (a .out .now) _ st (l .ensures (a .area .now) (m .pending) (m .yard .lines) (st .line-is) (st .number-is) ∙ ap (λ b. elim b [ true ↦ m .pending ∷ [] | false ↦ [] ]) (not-true (l .result) (c .if1 .taken))) refl refl,
     )
-
-end-line-requires : tie.Need-end-line-requires
-end-line-requires c κs = search needs
-
-same-length : tie.Need-same-length
-same-length c = search needs
-
-same-length-2 : tie.Need-same-length-2
-same-length-2 c = search needs
-
-same-length-3 : tie.Need-same-length-3
-same-length-3 c = search needs
-
-same-length-4 : tie.Need-same-length-4
-same-length-4 c = search needs
 
 returns-2 : tie.Need-returns-2
 returns-2 c =
@@ -48,11 +30,7 @@ pub take-end-spec : {M : Type 1} → statement M
 take-end-spec =
     tie.close
     (tie.spec
-    is-line-requires
+    (λ c κs. search needs)
     returns
-    end-line-requires
-    same-length
-    same-length-2
-    same-length-3
-    same-length-4
+    (λ c κs. search needs) (λ c. search needs) (λ c. search needs) (λ c. search needs) (λ c. search needs)
     returns-2)

@@ -6,12 +6,6 @@ use borrow.Author.Needs.{needs}
 use Rattle.yard_session.proofs.take_line.Statement.{statement}
 use Rattle.yard_session.proofs.take_line.Tie as tie
 
-gather-requires : tie.Need-gather-requires
-gather-requires c κs = search needs
-
-same-length : tie.Need-same-length
-same-length c = search needs
-
 returns : tie.Need-returns
 returns c =
     let a = c .before .before .before .before .before .before .before .before .before .args in
@@ -20,48 +14,21 @@ returns c =
       λ m st. piece-ends (g .last .0) (g .result) (a .piece .now) (a .from) (c .before .before .before .before .before .before .before .before .before .pre .4) (g .ensures) st (a .out .now) (c .if1 .taken),
     )
 
-add-end-line : tie.Need-add-end-line
-add-end-line c = search needs
-
-end-line-requires : tie.Need-end-line-requires
-end-line-requires c κs = search needs
-
-same-length-2 : tie.Need-same-length-2
-same-length-2 c = search needs
-
-same-length-3 : tie.Need-same-length-3
-same-length-3 c = search needs
-
-same-length-4 : tie.Need-same-length-4
-same-length-4 c = search needs
-
-same-length-5 : tie.Need-same-length-5
-same-length-5 c = search needs
-
-same-length-6 : tie.Need-same-length-6
-same-length-6 c = search needs
-
 returns-2 : tie.Need-returns-2
 returns-2 c =
     let a = c .before .before .before .before .before .before .before .before .before .before .before .before .before .before .before .before .before .before .before .before .before .args in
     let g = c .before .before .before .before .before .before .before .before .before .before .before .before .before .before .before .before .gather in
     let e = c .before .before .before .before .before .end-line in (
       (omega (arith, e .ensures .0 .0, g .ensures .place), omega (arith, e .ensures .0 .0, c .before .before .before .before .before .before .before .before .before .before .before .before .if1 .left), omega (arith, e .ensures .0 .1), e .ensures .0 .2),
-      λ m st. line-ends (g .last .0) (g .result) (a .piece .now) (a .from) (c .before .before .before .before .before .before .before .before .before .before .before .before .before .before .before .before .before .before .before .before .before .pre .4) (g .ensures) st (lent (e .last .0) (e .last .1 .0) (e .last .1 .1 .0)) (a .out .now) (e .last .1 .1 .1 .0) (e .result) (a .from) (c .before .before .before .before .before .before .before .before .before .before .before .before .if1 .left) (e .ensures .0 .0) (e .ensures .1),
+      λ m st. line-ends (g .last .0) (g .result) (a .piece .now) (a .from) (c .before .before .before .before .before .before .before .before .before .before .before .before .before .before .before .before .before .before .before .before .before .pre .4) (g .ensures) st (lent (e .last .0) (e .last .1 .0) (e .last .1 .1 .0)) (a .out .now) (e .last .1 .1 .1 .0) (e .result) (c .before .before .before .before .before .before .before .before .before .before .before .before .if1 .left) (e .ensures .0 .0) (e .ensures .1),
     )
 
 pub take-line-spec : {M : Type 1} → statement M
 take-line-spec =
     tie.close
     (tie.spec
-    gather-requires
-    same-length
+    (λ c κs. search needs) (λ c. search needs)
     returns
-    add-end-line
-    end-line-requires
-    same-length-2
-    same-length-3
-    same-length-4
-    same-length-5
-    same-length-6
+    (λ c. search needs) (λ c κs. search needs) (λ c. search needs) (λ c. search needs) (λ c. search needs)
+    (λ c. search needs) (λ c. search needs)
     returns-2)

@@ -1,4 +1,4 @@
--- `yard_talk::set_up` meets its contract.
+-- `yard_talk::set_up` meets its contract: an order above 8 is refused before the call, and else refusal and table are those of `fresh`.
 use Prim.Native.Nat.{_≤_, _<_}
 use mathlib.Core.Path.{sym, _∙_}
 use native.Mathlib.Omega.{arith}
@@ -13,12 +13,6 @@ returns c =
     let large : 8 < a .order = omega (arith, c .if1 .taken) in
     (sym (large-refusal (a .order) (a .metric) (a .table .now) large), sym (large-table (a .order) (a .metric) (a .table .now) large))
 
-fresh-requires : tie.Need-fresh-requires
-fresh-requires c κs = search needs
-
-same-length : tie.Need-same-length
-same-length c = search needs
-
 returns-2 : tie.Need-returns-2
 returns-2 c =
     let a = c .before .before .before .before .args in
@@ -27,4 +21,4 @@ returns-2 c =
     (r .0 ∙ sym (small-refusal (a .order) (a .metric) (a .table .now) small), r .1 ∙ sym (small-table (a .order) (a .metric) (a .table .now) small))
 
 pub set-up-spec : {M : Type 1} → statement M
-set-up-spec = tie.close (tie.spec returns fresh-requires same-length returns-2)
+set-up-spec = tie.close (tie.spec returns (λ c κs. search needs) (λ c. search needs) returns-2)

@@ -10,27 +10,6 @@ use borrow.Author.Needs.{needs}
 use Rattle.yard_talk.proofs.talk.Statement.{statement}
 use Rattle.yard_talk.proofs.talk.Tie as tie
 
-enum-told : tie.Need-enum-told
-enum-told c = search needs
-
-first-line-requires : tie.Need-first-line-requires
-first-line-requires c κs = search needs
-
-enum-told-2 : tie.Need-enum-told-2
-enum-told-2 c = search needs
-
-answer-requires : tie.Need-answer-requires
-answer-requires c κs = search needs
-
-enum-told-3 : tie.Need-enum-told-3
-enum-told-3 c = search needs
-
-same-length : tie.Need-same-length
-same-length c = search needs
-
-same-length-2 : tie.Need-same-length-2
-same-length-2 c = search needs
-
 returns : tie.Need-returns
 unfolding spoken
 returns c =
@@ -38,18 +17,6 @@ returns c =
     let s = c .before .before .before .first-line in
     subst (λ (x : Stage). Says (spoken (lent (a .table .now) (a .work .now) (a .result .now)) (a .number) x (a .line .now)) (lent (s .last .0) (a .work .now) (a .result .now)) (a .out .now) (s .last .1 .0) (s .result)) (sym (c .before .before .before .before .before .before .enum-told .given .1))
     (s .ensures (a .work .now) (a .result .now))
-
-same-length-3 : tie.Need-same-length-3
-same-length-3 c = search needs
-
-same-length-4 : tie.Need-same-length-4
-same-length-4 c = search needs
-
-same-length-5 : tie.Need-same-length-5
-same-length-5 c = search needs
-
-same-length-6 : tie.Need-same-length-6
-same-length-6 c = search needs
 
 returns-2 : tie.Need-returns-2
 unfolding spoken answered
@@ -70,17 +37,9 @@ pub talk-spec : {M : Type 1} → statement M
 talk-spec =
     tie.close
     (tie.spec
-    enum-told
-    first-line-requires
-    enum-told-2
-    answer-requires
-    enum-told-3
-    same-length
-    same-length-2
+    (λ c. search needs) (λ c κs. search needs) (λ c. search needs) (λ c κs. search needs) (λ c. search needs)
+    (λ c. search needs) (λ c. search needs)
     returns
-    same-length-3
-    same-length-4
-    same-length-5
-    same-length-6
+    (λ c. search needs) (λ c. search needs) (λ c. search needs) (λ c. search needs)
     returns-2
     returns-3)
