@@ -36,7 +36,7 @@ pub fn visited(
     requires { ⌜ Ready k (length (now slots)) (now area) near ⌝ }
     ensures { λ r. ⌜ Leaves (nearestTree (distance (spaceOf (now (header .entry)))) (profileOf (now (query .entry))) isLive k (tallyOf (now (area .entry)) near) (now (slots .entry))) (now (area .entry)) (now (area .exit)) r ⌝ }
 {
-    let mut tally = near;
-    visit(slots, header, query, k, area, &mut tally);
-    tally
+    let mut lent = near;
+    visit(slots, header, query, k, area, &mut lent);
+    lent
 }

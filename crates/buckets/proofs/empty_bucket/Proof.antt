@@ -25,6 +25,17 @@ mul-zero-rows c = omega (arith, inside (c .before .before))
 part-zero-rows-end : tie.Need-part-zero-rows-end
 part-zero-rows-end c = omega (arith, inside (c .before .before))
 
+-- the bucket's whole room is zeroed
+zeroed : (c : tie.After-zero-rows) → c .zero-rows .last .0 ≡ replicate (room (c .before .before .before .before .args .k)) zeroRow
+zeroed c =
+    let t : List Row = c .before .before .before .before .args .table .now in
+    let first : ℕ = c .before .before .before .first-slot .result in
+    let size : ℕ = c .before .before .room .result in
+    let told : c .zero-rows .last .0 ≡ replicate (length (take (first + size - first) (drop first t))) zeroRow = c .zero-rows .ensures in
+    let whole : length (take (first + size - first) (drop first t)) ≡ room (c .before .before .before .before .args .k) =
+    omega (arith, length-take (first + size - first) (drop first t), length-drop first t, inside (c .before .before .before .before)) in
+    told ∙ ap (λ (n : ℕ). replicate n zeroRow) whole
+
 put-sizes-requires : tie.Need-put-sizes-requires
 put-sizes-requires c κs =
     let s = c .before .before .before .before .before .before in
@@ -36,15 +47,13 @@ put-sizes-requires c κs =
 returns : tie.Need-returns
 returns c =
     let s = c .before .before .before .before .before .before .before .before in
-    let t : List Row = s .args .table .now in
     let first : ℕ = c .before .before .before .before .before .before .before .first-slot .result in
     let size : ℕ = c .before .before .before .before .before .before .room .result in
-    let z = c .before .before .before .before .zero-rows in
-    let whole : length (take (first + size - first) (drop first t)) ≡ room (s .args .k) - 0 =
-    omega (arith, length-take (first + size - first) (drop first t), length-drop first t, inside s) in
+    let z = c .before .before .before .before in
+    let all : room (s .args .k) ≡ room (s .args .k) - 0 = omega arith in
     c .before .put-sizes .ensures
-    ∙ room-given-back (s .pre .0) (s .args .k) [] 0 first (first + size - first) (z .last .0)
-    (omega arith) (omega arith) (omega arith) (z .ensures ∙ ap (λ (n : ℕ). replicate n zeroRow) whole)
+    ∙ room-given-back (s .pre .0) (s .args .k) [] 0 first (first + size - first) (z .zero-rows .last .0)
+    (omega arith) (omega arith) (omega arith) (zeroed z ∙ ap (λ (n : ℕ). replicate n zeroRow) all)
 
 pub empty-bucket-spec : {M : Type 1} → statement M
 empty-bucket-spec =

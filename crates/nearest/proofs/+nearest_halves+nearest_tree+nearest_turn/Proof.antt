@@ -295,7 +295,7 @@ nearest-turn-returns-2 t c =
     let start = c .before .before .before .before .before .before .before .before in
     let a = start .args in
     let gap = c .before .before .before .before .before .before .excess in
-    let opened = sym (opens-gap (a .k) (a .a) (a .b) (gap .result) (gap .ensures) (take (a .near .kept) (a .area .now))) ∙ opens-within (a .k) (gap .result) (take (a .near .kept) (a .area .now)) (omega (arith, gap .ok)) _ (c .before .before .before .before .reach-of .ensures) (c .before .before .before .if2 .taken) in
+    let opened = sym (opens-gap (a .k) (a .a) (a .b) (gap .result) (gap .ensures) (take (a .near .kept) (a .area .now))) ∙ opens-within (a .k) (gap .result) (take (a .near .kept) (a .area .now)) (omega (arith, gap .ok)) _ (c .before .before .before .before .reach-of .ensures) (omega (arith, c .before .before .before .if2 .taken)) in
     leaves-as (a .area .now) _ _ (sym (turn-open (distance (spaceOf (a .header .now))) (profileOf (a .query .now)) isLive (a .k) (entersLeft (a .a) (a .b)) _ (tallyOf (a .area .now) (a .near)) opened))
     (c .before .nearest-tree .ensures)
 

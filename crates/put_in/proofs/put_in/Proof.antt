@@ -62,7 +62,7 @@ build-bucket-requires c κs =
     let fits = target-fits (ok s) (l .ensures) (g .ensures .0) (c .before .before .before .before .before .add-bucket .ensures) in (
       subst⁻¹ (λ (u : List Row). Lent u (s .args .order .t)) (e .ensures) (lent-emptied (ok s) (s .args .order .t) (s .pre .0) (l .ensures)),
       omega (arith, fits .0, s .pre .0),
-      fits .1,
+      omega (arith, fits .1, g .ensures .0),
       omega (arith, g .kept .1 .1 .1 .0, length-set (s .args .work .now) 0 (c .before .before .before .before .before .before .before .before .before .before .row-of .result), changes (ok s) .roomy, ap workRows (s .pre .0)),
     )
 

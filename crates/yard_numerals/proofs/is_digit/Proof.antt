@@ -13,10 +13,10 @@ returns-2 : tie.Need-returns-2
 returns-2 c = sym (low-digit _ _ (omega arith) (c .if2 .taken))
 
 returns-3 : tie.Need-returns-3
-returns-3 c = between-digits _ _ (omega arith) (c .if3 .taken)
+returns-3 c = between-digits _ _ (omega arith) (omega (arith, c .if3 .taken))
 
 returns-4 : tie.Need-returns-4
-returns-4 c = sym (high-digit _ _ (omega arith) (c .if4 .taken))
+returns-4 c = sym (high-digit _ _ (omega arith) (omega (arith, c .if4 .taken)))
 
 returns-5 : tie.Need-returns-5
 returns-5 c = above-digits _ _ (c .if4 .left)

@@ -10,51 +10,45 @@ use borrow.Author.Needs.{needs}
 use Rattle.yard_print.proofs.put_entry.Statement.{statement}
 use Rattle.yard_print.proofs.put_entry.Tie as tie
 
+-- the tag stands as 15 digits
+tag-put : (c : tie.After-put-digits)
+    → c .put-digits .last .0 ≡ sets (c .before .before .before .args .out .now) (c .before .before .before .args .at) (digits 15 (getD (c .before .before .before .args .t3) 0 0))
+tag-put c = c .put-digits .ensures
+
+-- the area is as long as before behind the tag, and behind the distance
+tag-kept : (c : tie.After-put-digits) → length (c .put-digits .last .0) ≡ length (c .before .before .before .args .out .now)
+tag-kept c =
+    let a = c .before .before .before .args in
+    ap length (tag-put c) ∙ length-sets (a .out .now) (a .at) (digits 15 (getD (a .t3) 0 0))
+
+distance-kept : (c : tie.After-put-decimal) → length (c .put-decimal .last .0) ≡ length (c .before .before .before .before .before .before .before .args .out .now)
+distance-kept c =
+    let a = c .before .before .before .before .before .before .before .args in
+    let tag = c .before .before .before .before in
+    ap length (c .put-decimal .ensures .0)
+    ∙ length-sets (set (tag .put-digits .last .0) (a .at + 15) space) (a .at + 16) (decimal (getD (a .t3) 1 0))
+    ∙ length-set (tag .put-digits .last .0) (a .at + 15) space
+    ∙ tag-kept tag
+
 put-decimal-requires : tie.Need-put-decimal-requires
 put-decimal-requires c κs =
     let a = c .before .before .before .before .before .before .args in
-    let tag = c .before .before .before .put-digits in
-    let kept : length (tag .last .0) ≡ length (a .out .now) = ap length (tag .ensures) ∙ length-sets (a .out .now) (a .at) (digits 15 (getD (a .t3) 0 0)) in
-    omega (arith, kept, length-set (tag .last .0) (a .at + 15) 32)
+    let tag = c .before .before .before in
+    omega (arith, tag-kept tag, length-set (tag .put-digits .last .0) (a .at + 15) 32)
 
 slice-write-out-2 : tie.Need-slice-write-out-2
-slice-write-out-2 c =
-    let a = c .before .before .before .before .before .before .before .before .before .args in
-    let tag = c .before .before .before .before .before .before .put-digits in
-    let kept : length (tag .last .0) ≡ length (a .out .now) = ap length (tag .ensures) ∙ length-sets (a .out .now) (a .at) (digits 15 (getD (a .t3) 0 0)) in
-    let d = c .before .before .put-decimal in
-    let still : length (d .last .0) ≡ length (a .out .now) =
-    ap length (d .ensures .0)
-    ∙ length-sets (set (tag .last .0) (a .at + 15) space) (a .at + 16) (decimal (getD (a .t3) 1 0))
-    ∙ length-set (tag .last .0) (a .at + 15) space
-    ∙ kept in
-    omega (arith, still, d .ensures .2)
+slice-write-out-2 c = omega (arith, distance-kept (c .before .before), c .before .before .put-decimal .ensures .2)
 
 same-length : tie.Need-same-length
 same-length c =
-    let a = c .before .before .before .before .before .before .before .before .before .args in
-    let tag = c .before .before .before .before .before .before .put-digits in
-    let kept : length (tag .last .0) ≡ length (a .out .now) = ap length (tag .ensures) ∙ length-sets (a .out .now) (a .at) (digits 15 (getD (a .t3) 0 0)) in
     let d = c .before .before .put-decimal in
-    let still : length (d .last .0) ≡ length (a .out .now) =
-    ap length (d .ensures .0)
-    ∙ length-sets (set (tag .last .0) (a .at + 15) space) (a .at + 16) (decimal (getD (a .t3) 1 0))
-    ∙ length-set (tag .last .0) (a .at + 15) space
-    ∙ kept in
-    length-set (d .last .0) (d .result) 10 ∙ still
+    length-set (d .last .0) (d .result) 10 ∙ distance-kept (c .before .before)
 
 returns : tie.Need-returns
 returns c =
     let a = c .before .before .before .before .before .before .before .before .before .args in
-    let tag = c .before .before .before .before .before .before .put-digits in
-    let kept : length (tag .last .0) ≡ length (a .out .now) = ap length (tag .ensures) ∙ length-sets (a .out .now) (a .at) (digits 15 (getD (a .t3) 0 0)) in
-    let d = c .before .before .put-decimal in
-    let still : length (d .last .0) ≡ length (a .out .now) =
-    ap length (d .ensures .0)
-    ∙ length-sets (set (tag .last .0) (a .at + 15) space) (a .at + 16) (decimal (getD (a .t3) 1 0))
-    ∙ length-set (tag .last .0) (a .at + 15) space
-    ∙ kept in (
-      ap (λ l. set l (d .result) lineFeed) (d .ensures .0 ∙ ap (λ l. sets (set l (a .at + 15) space) (a .at + 16) (decimal (getD (a .t3) 1 0))) (tag .ensures))
+    let d = c .before .before .put-decimal in (
+      ap (λ l. set l (d .result) lineFeed) (d .ensures .0 ∙ ap (λ l. sets (set l (a .at + 15) space) (a .at + 16) (decimal (getD (a .t3) 1 0))) (tag-put (c .before .before .before .before .before .before)))
           ∙ entry-put (a .out .now) (a .at) (a .t3) (d .result) (d .ensures .1),
       omega (arith, d .ensures .1, entry-long (a .t3)),
       omega (arith, d .ensures .2),
