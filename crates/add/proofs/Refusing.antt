@@ -5,8 +5,8 @@ use mathlib.Core.Path.{_≡_, refl, sym, _∙_, ap, ap₂}
 use mathlib.Core.Bool.{Bool, true, false}
 use mathlib.Core.List.{List, map}
 use lib.Dec.{leb}
+use Rattle.lists.specs.Lists.{total}
 use Rattle.metric_rules.specs.declared.Profile.{Profile}
-use Rattle.metric_rules.specs.Lists.{total}
 use Rattle.metric_rules.specs.Row.{Row, zeroRow}
 use Rattle.metric_rules.specs.Validity.{validTag, validMeasures}
 use Rattle.bucket_rules.specs.declared.Added.{Added}

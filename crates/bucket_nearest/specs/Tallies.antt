@@ -1,7 +1,7 @@
 -- What a nearest search over a table makes of a tally, bucket by bucket from the top down.
 use Prim.Native.Nat.{ℕ}
 use mathlib.Core.List.{[], foldl, reverse}
-use Rattle.metric_rules.specs.Lists.{countFrom}
+use Rattle.lists.specs.Lists.{countFrom}
 use Rattle.metric_rules.specs.Row.{Row, profileOf, isLive}
 use Rattle.metric_rules.specs.Distance.{distance, spaceOf}
 use Rattle.search_rules.specs.Nearest.{Tally, nearestTree}

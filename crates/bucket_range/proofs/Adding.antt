@@ -5,12 +5,12 @@ use native.Mathlib.Omega.{arith}
 use mathlib.Core.Path.{_≡_, refl, sym, ap, ap₂, subst, _∙_}
 use mathlib.Core.List.{List, foldr}
 use lib.ListN.{length}
+use Rattle.lists.specs.Lists.{All}
+use Rattle.lists.proofs.Lists.{all-append}
 use Rattle.metric_rules.specs.declared.Profile.{Profile}
 use Rattle.metric_rules.specs.Row.{Row, IsProfile, isLive}
 use Rattle.metric_rules.specs.Distance.{distance}
 use Rattle.metric_rules.proofs.Codec.{profile-of-row, threshold-of-row}
-use Rattle.tree_rules.specs.Guided.{All}
-use Rattle.tree_rules.proofs.Lists.{all-append}
 use Rattle.range.specs.declared.Found.{Found}
 use Rattle.search_rules.specs.Range.{Entry, Pair, Met, nothing, both, rangeTree}
 use Rattle.range.specs.Asked.{distanceAsked, queryAsked, radiusAsked, rangeAsked}

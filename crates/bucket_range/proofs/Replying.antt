@@ -7,11 +7,11 @@ use mathlib.Core.Path.{_≡_, sym, ap, ap₂, subst, _∙_}
 use mathlib.Core.Bool.{true, false}
 use mathlib.Core.List.{List, _++_}
 use lib.ListN.{length, take, replicate}
+use Rattle.lists.specs.Lists.{All}
+use Rattle.lists.proofs.Lists.{perm-length}
 use Rattle.metric_rules.specs.declared.Profile.{Profile}
 use Rattle.metric_rules.specs.Validity.{validMeasures}
-use Rattle.tree_rules.specs.Guided.{All}
 use Rattle.tree_rules.proofs.Sorting.{sort-perm}
-use Rattle.tree_rules.proofs.Lists.{perm-length}
 use Rattle.range.specs.declared.Found.{Found}
 use Rattle.search_rules.specs.Range.{Entry, Pair, Met, entryKey, ordered}
 use Rattle.range.specs.Collected.{foundAfter, collected}

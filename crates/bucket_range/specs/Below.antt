@@ -1,8 +1,8 @@
 -- What a range search over a table has still to meet, bucket by bucket from the top down.
 use Prim.Native.Nat.{ℕ}
 use mathlib.Core.List.{List, [], _∷_, foldr, reverse}
+use Rattle.lists.specs.Lists.{countFrom}
 use Rattle.metric_rules.specs.declared.Profile.{Profile}
-use Rattle.metric_rules.specs.Lists.{countFrom}
 use Rattle.metric_rules.specs.Row.{Row, rowOf}
 use Rattle.range.specs.declared.Found.{Found}
 use Rattle.search_rules.specs.Range.{Met, nothing, both}

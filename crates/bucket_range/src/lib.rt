@@ -3,7 +3,7 @@ ghost use mathlib.Core.Path.{_≡_};
 ghost use mathlib.Core.List.{_++_};
 ghost use Prim.Native.Nat.{_-_, _≤_, _<_, _^_, suc};
 ghost use lib.ListN.{length, take, replicate};
-ghost use Rattle.tree_rules.specs.Guided.{All};
+ghost use Rattle.lists.specs.Lists.{All};
 ghost use Rattle.search_rules.specs.Range.{Pair, ordered};
 ghost use Rattle.range.specs.Collected.{foundAfter, collected};
 ghost use Rattle.bucket_rules.specs.Refusals.{resultShort};

@@ -9,9 +9,8 @@ use native.Mathlib.Decide.{ℕ-discrete}
 use lib.Dec.{ltb}
 use lib.ListN.{length}
 use borrow.Author.Tests.{ltb-true, ltb-false, eqb-true, eqb-false, not-true, not-false}
+use Rattle.lists.specs.Lists.{countFrom, select, total, All}
 use Rattle.metric_rules.specs.declared.Profile.{Profile}
-use Rattle.metric_rules.specs.Lists.{countFrom, select, total}
-use Rattle.tree_rules.specs.Guided.{All}
 use Rattle.bucket_rules.specs.Geometry.{room, bucketsOf}
 use Rattle.bucket_rules.specs.Table.{Table, orderOf, builtOf, liveOf, inUse, liveTotal, slotsOf, liveSlots}
 use Rattle.bucket_rules.specs.Rebuild.{liveItems}

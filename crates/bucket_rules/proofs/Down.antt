@@ -5,7 +5,7 @@ use native.Mathlib.Omega.{arith}
 use mathlib.Core.Path.{_≡_, refl, ap, _∙_}
 use mathlib.Core.List.{List, [], _∷_, _++_, reverse, reverse-append}
 use lib.ListN.{length, length-take}
-use Rattle.metric_rules.specs.Lists.{countFrom}
+use Rattle.lists.specs.Lists.{countFrom}
 use Rattle.bucket_rules.specs.Table.{Table, orderOf, slotsOf}
 use Rattle.bucket_rules.specs.Passed.{Passed}
 use Rattle.bucket_rules.proofs.Passing.{bucket-within}

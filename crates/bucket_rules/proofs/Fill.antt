@@ -9,11 +9,11 @@ use mathlib.Core.List.{List}
 use lib.Dec.{leb, eqb}
 use lib.ListN.{length}
 use lib.Pow.{pow-mono}
+use Rattle.lists.specs.Lists.{every, countFrom}
+use Rattle.lists.proofs.Tests.{and-second}
 use Rattle.metric_rules.specs.declared.Profile.{Profile}
-use Rattle.metric_rules.specs.Lists.{every, countFrom}
 use Rattle.metric_rules.specs.Row.{Row, markOf}
 use Rattle.metric_rules.specs.Validity.{validTag, validMeasures}
-use Rattle.tree_rules.proofs.Tests.{and-second}
 use Rattle.bucket_rules.specs.Refusals.{badTag, badMeasure, tagLive, tableFull}
 use Rattle.bucket_rules.specs.Geometry.{room, workRows}
 use Rattle.bucket_rules.specs.Table.{Table, orderOf, liveOf, liveTotal, slotsOf, liveSlots}

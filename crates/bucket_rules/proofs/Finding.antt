@@ -9,12 +9,11 @@ use native.Mathlib.Omega.{arith}
 use lib.Dec.{eqb}
 use lib.ListN.{length, getD, set}
 use borrow.Author.Tests.{eqb-true, eqb-false, ne-eqb}
-use Rattle.metric_rules.specs.Lists.{select}
+use Rattle.lists.specs.Lists.{select, All}
+use Rattle.lists.proofs.Lists.{all-append}
+use Rattle.lists.proofs.Tests.{and-first, and-second}
 use Rattle.metric_rules.specs.Row.{Row, rowWidth, markOf, tagOf, isLive, withMark}
 use Rattle.metric_rules.proofs.Codec.{mark-with-mark}
-use Rattle.tree_rules.specs.Guided.{All}
-use Rattle.tree_rules.proofs.Lists.{all-append}
-use Rattle.tree_rules.proofs.Tests.{and-first, and-second}
 use Rattle.bucket_rules.specs.Geometry.{room, bucketsOf}
 use Rattle.bucket_rules.specs.Table.{Table, orderOf, builtOf, slotsOf, liveSlots}
 use Rattle.bucket_rules.specs.Rebuild.{liveItems}

@@ -5,8 +5,8 @@ use native.Mathlib.Omega.{arith}
 use mathlib.Core.Path.{_≡_, _∙_}
 use mathlib.Core.List.{List, [], _∷_, map, foldl}
 use lib.ListN.{length}
+use Rattle.lists.specs.Lists.{total}
 use Rattle.metric_rules.specs.declared.Profile.{Profile}
-use Rattle.metric_rules.specs.Lists.{total}
 use Rattle.metric_rules.specs.Row.{isLive}
 use Rattle.metric_rules.specs.Distance.{distance}
 use Rattle.search_rules.specs.Nearest.{Tally, nearestTree}

@@ -8,13 +8,12 @@ use mathlib.Core.Logic.{inl, inr}
 use native.Mathlib.Omega.{arith}
 use lib.ListN.{length, drop, length-take, length-drop}
 use borrow.Author.Tests.{eq-eqb}
-use Rattle.metric_rules.specs.Lists.{select}
+use Rattle.lists.specs.Lists.{select, All}
+use Rattle.lists.proofs.Lists.{Pairs, all-weaken, all-both, perm-map, perm-of-eq}
 use Rattle.metric_rules.specs.Row.{Row, IsRow, markOf, isLive}
 use Rattle.metric_rules.specs.Distance.{distance}
 use Rattle.metric_rules.proofs.Laws.{distance-metric}
 use Rattle.tree_rules.specs.Layout.{layout, placed}
-use Rattle.tree_rules.specs.Guided.{All}
-use Rattle.tree_rules.proofs.Lists.{Pairs, all-weaken, all-both, perm-map, perm-of-eq}
 use Rattle.tree_rules.proofs.Layouts.{layout-length, layout-permutes}
 use Rattle.tree_rules.proofs.Built.{layout-fresh}
 use Rattle.search_rules.proofs.Selecting.{select-all}

@@ -8,8 +8,8 @@ use mathlib.Core.Bool.{Bool, true, false, _&&_}
 use mathlib.Core.List.{[], _∷_}
 use lib.Dec.{leb}
 use lib.ListN.{length}
+use Rattle.lists.proofs.Tests.{and-first, and-second}
 use Rattle.metric_rules.specs.Distance.{validSpace}
-use Rattle.tree_rules.proofs.Tests.{and-first, and-second}
 use Rattle.bucket_rules.specs.Refusals.{areaShort, tableBroken}
 use Rattle.bucket_rules.specs.Geometry.{validOrder, room, sizesRow, firstSlot, tableRows}
 use Rattle.bucket_rules.specs.Table.{Table, orderOf, tableSpace, builtOf, liveOf}

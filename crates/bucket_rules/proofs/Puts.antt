@@ -8,10 +8,9 @@ use native.Mathlib.Omega.{arith}
 use native.Mathlib.Decide.{ℕ-discrete}
 use lib.ListN.{length, getD, take, set, replicate, length-append, length-replicate, length-set, getD-replicate}
 use lib.Seq.{paste, take-set-le, drop-set-lt, getD-set-same, take-append-seam, getD-append-add}
-use Rattle.metric_rules.specs.Lists.{select}
+use Rattle.lists.specs.Lists.{select, All}
+use Rattle.lists.proofs.Lists.{all-weaken, all-always}
 use Rattle.metric_rules.specs.Row.{Row, word, isLive, zeroRow}
-use Rattle.tree_rules.specs.Guided.{All}
-use Rattle.tree_rules.proofs.Lists.{all-weaken, all-always}
 use Rattle.bucket_rules.specs.Geometry.{room, sizesRow, firstSlot, tableRows}
 use Rattle.bucket_rules.specs.Table.{Table, rowAt, orderOf, builtOf, liveOf, slotsOf, liveSlots, pairRow, putSizes, putBucket, emptied}
 use Rattle.bucket_rules.proofs.Geometry.{sizes-before-slots, room-ends}

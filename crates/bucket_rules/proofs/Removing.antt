@@ -9,9 +9,8 @@ use native.Mathlib.Decide.{ℕ-discrete}
 use lib.Dec.{ltb}
 use lib.ListN.{length}
 use borrow.Author.Tests.{ltb-true, ltb-false}
-use Rattle.metric_rules.specs.Lists.{total}
-use Rattle.tree_rules.specs.Guided.{All}
-use Rattle.tree_rules.proofs.Lists.{Pairs}
+use Rattle.lists.specs.Lists.{total, All}
+use Rattle.lists.proofs.Lists.{Pairs}
 use Rattle.bucket_rules.specs.Geometry.{room}
 use Rattle.bucket_rules.specs.Table.{Table, orderOf, builtOf, liveOf, inUse, liveSlots}
 use Rattle.bucket_rules.specs.Checks.{sizePasses}

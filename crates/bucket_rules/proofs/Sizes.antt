@@ -10,8 +10,8 @@ use native.Mathlib.Omega.{arith}
 use lib.Pow.{pow-pos}
 use lib.Dec.{leb, ltb, eqb}
 use borrow.Author.Tests.{leb-true, ltb-true, eqb-true, le-leb, lt-ltb}
-use Rattle.metric_rules.specs.Lists.{countFrom, every, total}
-use Rattle.tree_rules.proofs.Tests.{and-first, and-second, and-pass, every-all, all-every}
+use Rattle.lists.specs.Lists.{countFrom, every, total}
+use Rattle.lists.proofs.Tests.{and-first, and-second, and-pass, every-all, all-every}
 use Rattle.bucket_rules.specs.Geometry.{room, bucketsOf}
 use Rattle.bucket_rules.specs.Checks.{sizePasses, sizesPass}
 use Rattle.bucket_rules.proofs.ByNumber.{all-count, count-all}

@@ -7,7 +7,7 @@ use native.Mathlib.Nat.{lt-of-not-le}
 use native.Mathlib.Omega.{arith}
 use native.Mathlib.Decide.{decLe}
 use lib.ListN.{length, getD, take, drop}
-use Rattle.metric_rules.specs.Lists.{select}
+use Rattle.lists.specs.Lists.{select}
 use Rattle.metric_rules.specs.Row.{Row, word, isLive}
 use Rattle.metric_rules.specs.Distance.{spaceOf}
 use Rattle.bucket_rules.specs.Geometry.{room, headerRow, sizesRow, firstSlot, tableRows}

@@ -4,8 +4,8 @@ use mathlib.Core.Bool.{true, false}
 use mathlib.Core.List.{List, _∷_}
 use lib.ListN.{length}
 use lib.Dec.{leb, ltb}
+use Rattle.lists.specs.Lists.{countFrom}
 use Rattle.metric_rules.specs.declared.Profile.{Profile}
-use Rattle.metric_rules.specs.Lists.{countFrom}
 use Rattle.metric_rules.specs.Row.{Row, rowOf, zeroRow}
 use Rattle.metric_rules.specs.Validity.{validTag, validMeasures}
 use Rattle.bucket_rules.specs.declared.Added.{Added}

@@ -4,7 +4,7 @@ use mathlib.Core.Bool.{Bool, true, false, _&&_, _||_}
 use mathlib.Core.List.{List, [], _∷_, map}
 use lib.ListN.{length}
 use lib.Dec.{leb, ltb, eqb}
-use Rattle.metric_rules.specs.Lists.{every, total}
+use Rattle.lists.specs.Lists.{every, total}
 use Rattle.metric_rules.specs.Row.{Row, markOf}
 use Rattle.metric_rules.specs.Distance.{validSpace}
 use Rattle.bucket_rules.specs.Refusals.{areaShort, tableBroken}

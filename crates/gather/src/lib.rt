@@ -3,7 +3,7 @@ ghost use mathlib.Core.Path.{_≡_};
 ghost use Prim.Native.Nat.{_+_, _≤_};
 ghost use lib.ListN.{length, replicate};
 ghost use lib.Seq.{sets};
-ghost use Rattle.metric_rules.specs.Lists.{select};
+ghost use Rattle.lists.specs.Lists.{select};
 ghost use Rattle.metric_rules.specs.Row.{isLive, zeroRow};
 use metric_rules::ROW_WIDTH;
 use metric_rules::Row;

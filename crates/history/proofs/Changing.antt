@@ -9,16 +9,15 @@ use native.Mathlib.Omega.{arith}
 use lib.Dec.{leb, eqb}
 use lib.ListN.{length}
 use borrow.Author.Tests.{leb-false, eq-eqb, ne-eqb}
+use Rattle.lists.specs.Lists.{select, distinct, All}
+use Rattle.lists.proofs.Lists.{all-weaken, all-of-map, perm-map, perm-of-eq}
+use Rattle.lists.proofs.Distinct.{distinct-perm, distinct-pairs}
 use Rattle.metric_rules.specs.declared.Profile.{Profile}
-use Rattle.metric_rules.specs.Lists.{select, distinct}
 use Rattle.metric_rules.specs.Row.{Row, IsProfile, rowOf}
 use Rattle.metric_rules.specs.Validity.{validTag, validMeasures}
 use Rattle.metric_rules.specs.Distance.{Space}
 use Rattle.metric_rules.proofs.Codec.{tag-of-row, profile-of-row}
 use Rattle.tree_rules.specs.Layout.{placed}
-use Rattle.tree_rules.specs.Guided.{All}
-use Rattle.tree_rules.proofs.Lists.{all-weaken, all-of-map, perm-map, perm-of-eq}
-use Rattle.tree_rules.proofs.Distinct.{distinct-perm, distinct-pairs}
 use Rattle.tree_rules.proofs.Placed.{tag-placed, profile-placed}
 use Rattle.search_rules.proofs.Selecting.{select-all}
 use Rattle.bucket_rules.specs.Refusals.{badTag, badMeasure, tagLive, tagNotLive, tableFull}

@@ -1,7 +1,7 @@
 -- A call's outcome with every definition that it goes by opened, so that antt computes it. Proofs about the definitions open one at a time;
 -- the worked lines, which are runs, open them all, and this is the one place that lists them.
 use mathlib.Core.List.{flatten}
-use Rattle.metric_rules.specs.Lists.{countFrom, total, select, every, alike, distinct, sameNumbers}
+use Rattle.lists.specs.Lists.{countFrom, total, select, every, alike, distinct, sameNumbers}
 use Rattle.metric_rules.specs.Row.{rowWidth, tagAt, measuresAt, codeAt, thresholdAt, markAt, zeroRow, word, wide, words, tagOf, profileOf, thresholdOf, markOf, isLive, measure, codeWord, rowOf, withThreshold, withMark}
 use Rattle.metric_rules.specs.Validity.{nationals, countryOf, nationalOf, lastCountry, lastNational, validTag, measureLimit, validMeasure, validMeasures}
 use Rattle.metric_rules.specs.Distance.{mostDistance, saturated, gap, measureDistance, differing, codeDistance, largest, worstDistance, distanceBy, distance, metricAt, spaceOf, lastMetric, validSpace}

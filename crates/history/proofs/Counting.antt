@@ -10,9 +10,8 @@ use mathlib.Core.Logic.{inl, inr}
 use mathlib.Core.List.{List, [], _∷_, map}
 use lib.Dec.{eqb}
 use borrow.Author.Tests.{eq-eqb, ne-eqb}
-use Rattle.metric_rules.specs.Lists.{countFrom, total}
-use Rattle.tree_rules.specs.Guided.{All}
-use Rattle.tree_rules.proofs.Lists.{Pairs, all-weaken, all-both}
+use Rattle.lists.specs.Lists.{countFrom, total, All}
+use Rattle.lists.proofs.Lists.{Pairs, all-weaken, all-both}
 use Rattle.bucket_rules.proofs.Puts.{apart-or}
 
 -- the sum of s over the buckets below n

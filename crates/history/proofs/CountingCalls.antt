@@ -7,8 +7,8 @@ use mathlib.Core.Path.{_≡_, refl, sym, _∙_, ap, ap₂, subst}
 use mathlib.Core.Bool.{true}
 use mathlib.Core.Option.{Option, none, some}
 use lib.ListN.{length}
+use Rattle.lists.proofs.Lists.{perm-length}
 use Rattle.metric_rules.specs.Row.{rowWidth}
-use Rattle.tree_rules.proofs.Lists.{perm-length}
 use Rattle.bucket_rules.specs.Geometry.{room}
 use Rattle.bucket_rules.specs.Table.{Table, orderOf, builtOf, liveOf, liveSlots}
 use Rattle.bucket_rules.specs.Rebuild.{Rebuilt}

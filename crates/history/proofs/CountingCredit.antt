@@ -8,10 +8,9 @@ use mathlib.Core.Bool.{Bool, true, false}
 use mathlib.Core.List.{List, [], _∷_, map}
 use lib.Pow.{pow-mono}
 use lib.Dec.{ltb}
-use Rattle.metric_rules.specs.Lists.{countFrom, total}
-use Rattle.tree_rules.specs.Guided.{All}
+use Rattle.lists.specs.Lists.{countFrom, total, All}
+use Rattle.lists.proofs.Lists.{Pairs, all-both}
 use Rattle.tree_rules.specs.Layout.{cost}
-use Rattle.tree_rules.proofs.Lists.{Pairs, all-both}
 use Rattle.tree_rules.proofs.Cost.{cost-bound}
 use Rattle.bucket_rules.specs.Geometry.{room}
 use Rattle.bucket_rules.specs.Add.{addBucket}

@@ -5,7 +5,7 @@ use mathlib.Core.Path.{_≡_, sym, subst}
 use mathlib.Core.Bool.{true}
 use mathlib.Core.List.{List, [], _∷_}
 use lib.ListN.{length}
-use Rattle.tree_rules.specs.Guided.{All}
+use Rattle.lists.specs.Lists.{All}
 use Rattle.bucket_rules.specs.Table.{Table}
 use Rattle.bucket_rules.specs.Fresh.{freshTable, tableAfterFresh}
 use Rattle.image_rules.specs.Load.{loadedTable, tableAfterLoad}

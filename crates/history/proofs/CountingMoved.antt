@@ -6,11 +6,11 @@ use mathlib.Core.Path.{_≡_, refl, _∙_, ap}
 use mathlib.Core.List.{List, [], _∷_, _++_}
 use lib.ListN.{length, take, drop, replicate, length-append, List·getD-append}
 use lib.Seq.{length-take-le, getD-take, getD-set-same, getD-set-other}
+use Rattle.lists.specs.Lists.{All}
+use Rattle.lists.proofs.Lists.{all-weaken, all-both}
 use Rattle.metric_rules.specs.Row.{Row, word, zeroRow}
 use Rattle.metric_rules.specs.Distance.{distance}
-use Rattle.tree_rules.specs.Guided.{All}
 use Rattle.tree_rules.specs.Layout.{layout}
-use Rattle.tree_rules.proofs.Lists.{all-weaken, all-both}
 use Rattle.tree_rules.proofs.Layouts.{layout-length}
 use Rattle.bucket_rules.specs.Geometry.{room, sizesRow, firstSlot, tableRows}
 use Rattle.bucket_rules.specs.Table.{Table, rowAt, orderOf, tableSpace, builtOf, liveOf, pairRow, putSizes, putBucket, emptied}

@@ -9,12 +9,11 @@ use mathlib.Core.List.{List, [], _∷_, map}
 use lib.Dec.{ltb, eqb}
 use lib.ListN.{length}
 use borrow.Author.Tests.{ltb-false, eqb-false}
+use Rattle.lists.specs.Lists.{countFrom, total, All}
+use Rattle.lists.proofs.Lists.{Pairs}
 use Rattle.metric_rules.specs.declared.Profile.{Profile}
-use Rattle.metric_rules.specs.Lists.{countFrom, total}
 use Rattle.metric_rules.specs.Row.{Row}
-use Rattle.tree_rules.specs.Guided.{All}
 use Rattle.tree_rules.specs.Layout.{cost}
-use Rattle.tree_rules.proofs.Lists.{Pairs}
 use Rattle.bucket_rules.specs.Geometry.{room, tableRows}
 use Rattle.bucket_rules.specs.Table.{Table, orderOf, builtOf, liveOf, inUse, liveSlots, liveTotal, emptied}
 use Rattle.bucket_rules.specs.Rebuild.{Rebuilt, liveItems, rebuilt}

@@ -5,11 +5,11 @@ use mathlib.Core.Bool.{true, _&&_}
 use native.Mathlib.Omega.{arith}
 use lib.Dec.{leb, eqb}
 use lib.ListN.{length}
-use Rattle.metric_rules.specs.Lists.{every, select}
+use Rattle.lists.specs.Lists.{every, select}
+use Rattle.lists.proofs.Tests.{and-second, and-pass, all-every}
 use Rattle.metric_rules.specs.Row.{isLive, markOf}
 use Rattle.metric_rules.specs.Distance.{validSpace}
 use Rattle.metric_rules.proofs.Laws.{metric-byte}
-use Rattle.tree_rules.proofs.Tests.{and-second, and-pass, all-every}
 use Rattle.bucket_rules.specs.Geometry.{validOrder, room, tableRows}
 use Rattle.bucket_rules.specs.Table.{Table, orderOf, tableSpace, liveOf, slotsOf, liveSlots}
 use Rattle.bucket_rules.specs.Checks.{marksPass}

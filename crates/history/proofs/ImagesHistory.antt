@@ -4,7 +4,7 @@ use Prim.Native.Nat.{ℕ, _≤_}
 use mathlib.Core.Path.{_≡_, sym, ap, subst}
 use mathlib.Core.List.{List, map}
 use lib.ListN.{length}
-use Rattle.tree_rules.proofs.Lists.{perm-of-eq}
+use Rattle.lists.proofs.Lists.{perm-of-eq}
 use Rattle.bucket_rules.specs.Geometry.{tableRows}
 use Rattle.bucket_rules.specs.Table.{Table, orderOf}
 use Rattle.image_rules.specs.Load.{loadedTable}

@@ -10,14 +10,13 @@ use native.Mathlib.Decide.{decLe}
 use lib.Dec.{leb, eqb}
 use lib.ListN.{length, getD, drop}
 use lib.Seq.{getD-take, getD-drop}
-use Rattle.metric_rules.specs.Lists.{every, select, distinct}
+use Rattle.lists.specs.Lists.{every, select, distinct, All}
+use Rattle.lists.proofs.Lists.{all-weaken}
+use Rattle.lists.proofs.Tests.{and-first, and-second, and-pass, every-all, all-every}
 use Rattle.metric_rules.specs.Row.{Row, IsRow, isLive, tagOf, profileOf, markOf}
 use Rattle.metric_rules.specs.Validity.{validTag, validMeasures}
 use Rattle.metric_rules.specs.Distance.{Space, distance, validSpace}
 use Rattle.tree_rules.specs.Layout.{isLayout}
-use Rattle.tree_rules.specs.Guided.{All}
-use Rattle.tree_rules.proofs.Lists.{all-weaken}
-use Rattle.tree_rules.proofs.Tests.{and-first, and-second, and-pass, every-all, all-every}
 use Rattle.bucket_rules.specs.Geometry.{validOrder, room, bucketsOf, headerRow, sizesRow, firstSlot, tableRows}
 use Rattle.bucket_rules.specs.Table.{Table, rowAt, orderOf, tableSpace, builtOf, liveOf, slotsOf, liveSlots, pairRow, headerOf}
 use Rattle.bucket_rules.specs.Checks.{sizesPass, marksPass}

@@ -11,15 +11,14 @@ use lib.Dec.{leb}
 use lib.ListN.{length, set, replicate, length-set}
 use lib.Seq.{set-append-left, map-set-same}
 use borrow.Author.Tests.{le-leb}
-use Rattle.metric_rules.specs.Lists.{select, distinct}
+use Rattle.lists.specs.Lists.{select, distinct, All}
+use Rattle.lists.proofs.Lists.{all-at, perm-length, perm-map}
+use Rattle.lists.proofs.Tests.{and-first, and-pass, every-all, all-every}
+use Rattle.lists.proofs.Distinct.{distinct-perm, distinct-right}
 use Rattle.metric_rules.specs.Row.{Row, IsRow, tagOf, profileOf, markOf, isLive, withMark, zeroRow}
 use Rattle.metric_rules.specs.Validity.{validTag, validMeasures}
 use Rattle.metric_rules.specs.Distance.{distance}
 use Rattle.metric_rules.proofs.Codec.{mark-with-mark, tag-with-mark, profile-with-mark, with-mark-fits}
-use Rattle.tree_rules.specs.Guided.{All}
-use Rattle.tree_rules.proofs.Lists.{all-at, perm-length, perm-map}
-use Rattle.tree_rules.proofs.Tests.{and-first, and-pass, every-all, all-every}
-use Rattle.tree_rules.proofs.Distinct.{distinct-perm, distinct-right}
 use Rattle.tree_rules.proofs.Marks.{mark-aside, is-layout-marks}
 use Rattle.bucket_rules.specs.Geometry.{room}
 use Rattle.bucket_rules.specs.Table.{Table, tableSpace, builtOf, liveOf, slotsOf, pairRow}

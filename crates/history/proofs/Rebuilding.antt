@@ -10,16 +10,15 @@ use native.Mathlib.Decide.{ℕ-discrete}
 use lib.Dec.{leb}
 use lib.ListN.{length, length-map}
 use borrow.Author.Tests.{le-leb}
-use Rattle.metric_rules.specs.Lists.{distinct}
+use Rattle.lists.specs.Lists.{distinct, All}
+use Rattle.lists.proofs.Lists.{Pairs, all-weaken, all-both, all-append, all-perm, all-map, all-of-map, perm-length, perm-map, perm-of-eq}
+use Rattle.lists.proofs.Tests.{and-first, and-pass, every-all, all-every}
+use Rattle.lists.proofs.Distinct.{distinct-perm, distinct-left, distinct-of}
 use Rattle.metric_rules.specs.Row.{Row, IsRow, tagOf, profileOf, markOf, isLive}
 use Rattle.metric_rules.specs.Validity.{validTag, validMeasures}
 use Rattle.metric_rules.specs.Distance.{Space, distance}
 use Rattle.metric_rules.proofs.Laws.{distance-metric}
 use Rattle.tree_rules.specs.Layout.{layout, placed}
-use Rattle.tree_rules.specs.Guided.{All}
-use Rattle.tree_rules.proofs.Lists.{Pairs, all-weaken, all-both, all-append, all-perm, all-map, all-of-map, perm-length, perm-map, perm-of-eq}
-use Rattle.tree_rules.proofs.Tests.{and-first, and-pass, every-all, all-every}
-use Rattle.tree_rules.proofs.Distinct.{distinct-perm, distinct-left, distinct-of}
 use Rattle.tree_rules.proofs.Placed.{tag-placed, profile-placed}
 use Rattle.tree_rules.proofs.Layouts.{layout-length, layout-permutes}
 use Rattle.tree_rules.proofs.InPlace.{layout-is-layout}

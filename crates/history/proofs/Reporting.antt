@@ -11,11 +11,10 @@ use mathlib.Core.Option.{Option, none, some}
 use lib.Dec.{ltb, eqb}
 use lib.ListN.{length, length-append}
 use borrow.Author.Tests.{ltb-true, ltb-false, eqb-false}
+use Rattle.lists.specs.Lists.{countFrom, select, All}
+use Rattle.lists.proofs.Lists.{all-weaken}
 use Rattle.metric_rules.specs.declared.Profile.{Profile}
-use Rattle.metric_rules.specs.Lists.{countFrom, select}
 use Rattle.metric_rules.specs.Row.{Row, isLive, withMark}
-use Rattle.tree_rules.specs.Guided.{All}
-use Rattle.tree_rules.proofs.Lists.{all-weaken}
 use Rattle.bucket_rules.specs.declared.Added.{Added}
 use Rattle.bucket_rules.specs.declared.Removed.{Removed}
 use Rattle.bucket_rules.specs.Geometry.{room, tableRows}

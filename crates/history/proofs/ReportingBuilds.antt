@@ -9,11 +9,11 @@ use mathlib.Core.List.{List}
 use lib.Dec.{eqb}
 use lib.ListN.{length}
 use borrow.Author.Tests.{eq-eqb, ne-eqb}
+use Rattle.lists.specs.Lists.{All}
+use Rattle.lists.proofs.Lists.{all-weaken}
+use Rattle.lists.proofs.Tests.{and-pass}
 use Rattle.metric_rules.specs.Row.{Row}
-use Rattle.tree_rules.specs.Guided.{All}
 use Rattle.tree_rules.specs.Layout.{cost}
-use Rattle.tree_rules.proofs.Lists.{all-weaken}
-use Rattle.tree_rules.proofs.Tests.{and-pass}
 use Rattle.bucket_rules.specs.Geometry.{bucketsOf, tableRows}
 use Rattle.bucket_rules.specs.Table.{Table, orderOf, builtOf, liveOf}
 use Rattle.bucket_rules.specs.Rebuild.{rebuilt}

@@ -4,8 +4,8 @@ use Prim.Native.Nat.{ℕ}
 use mathlib.Core.Path.{_≡_}
 use mathlib.Core.List.{[], map}
 use lib.ListN.{length}
+use Rattle.lists.specs.Lists.{All}
 use Rattle.metric_rules.specs.declared.Profile.{Profile}
-use Rattle.tree_rules.specs.Guided.{All}
 use Rattle.bucket_rules.specs.Table.{Table}
 use Rattle.bucket_rules.specs.Fresh.{freshRefusal, freshTable}
 use Rattle.bucket_rules.specs.Add.{added}

@@ -4,7 +4,7 @@ use Prim.Native.Nat.{ℕ, zero, suc}
 use mathlib.Core.Path.{_≡_, refl, sym, _∙_, ap, ap₂, subst}
 use mathlib.Core.List.{List, [], _∷_}
 use lib.ListN.{length, drop}
-use Rattle.tree_rules.specs.Guided.{All}
+use Rattle.lists.specs.Lists.{All}
 use Rattle.bucket_rules.specs.Table.{Table}
 use Rattle.bucket_rules.specs.Fresh.{tableAfterFresh}
 use Rattle.image_rules.specs.Load.{tableAfterLoad}

@@ -6,13 +6,12 @@ use mathlib.Core.List.{List, map, map-map, List·Permᴰ}
 use lib.Dec.{leb, eqb}
 use lib.ListN.{length, length-map}
 use borrow.Author.Tests.{eqb-true}
+use Rattle.lists.specs.Lists.{every, total, All}
+use Rattle.lists.proofs.Lists.{all-weaken, perm-length, perm-map}
+use Rattle.lists.proofs.Tests.{and-second, every-all}
 use Rattle.metric_rules.specs.declared.Profile.{Profile}
-use Rattle.metric_rules.specs.Lists.{every, total}
 use Rattle.metric_rules.specs.Row.{markOf, tagOf}
 use Rattle.metric_rules.specs.Distance.{Space, distance}
-use Rattle.tree_rules.specs.Guided.{All}
-use Rattle.tree_rules.proofs.Lists.{all-weaken, perm-length, perm-map}
-use Rattle.tree_rules.proofs.Tests.{and-second, every-all}
 use Rattle.search_rules.specs.Range.{Entry, entry, entryOf, toQuery}
 use Rattle.search_rules.proofs.Keep.{keep-permuted}
 use Rattle.bucket_rules.specs.Geometry.{bucketsOf}

@@ -8,10 +8,9 @@ use lib.Dec.{eqb}
 use lib.ListN.{length, set}
 use native.Mathlib.Omega.{arith}
 use borrow.Author.Tests.{eqb-true, not-true}
-use Rattle.metric_rules.specs.Lists.{select, every, distinct}
-use Rattle.tree_rules.specs.Guided.{All}
-use Rattle.tree_rules.proofs.Lists.{all-weaken, all-perm, all-of-map, perm-both, perm-length, perm-of-eq}
-use Rattle.tree_rules.proofs.Tests.{and-first, and-second, every-all}
+use Rattle.lists.specs.Lists.{select, every, distinct, All}
+use Rattle.lists.proofs.Lists.{all-weaken, all-perm, all-of-map, perm-both, perm-length, perm-of-eq}
+use Rattle.lists.proofs.Tests.{and-first, and-second, every-all}
 use Rattle.search_rules.proofs.Selecting.{select-none}
 
 module _ {A : Type 0} (test : A → Bool) where

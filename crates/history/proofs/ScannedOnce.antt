@@ -9,8 +9,7 @@ use lib.ListN.{length, length-append}
 use lib.Seq.{append-snoc}
 use native.Mathlib.Omega.{arith}
 use borrow.Author.Tests.{eq-eqb}
-use Rattle.metric_rules.specs.Lists.{select, every}
-use Rattle.tree_rules.specs.Guided.{All}
+use Rattle.lists.specs.Lists.{select, every, All}
 use Rattle.search_rules.proofs.Selecting.{select-append, select-none}
 use Rattle.history.proofs.ScannedLists.{select-yes, select-no}
 

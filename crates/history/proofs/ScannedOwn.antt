@@ -7,11 +7,10 @@ use mathlib.Core.List.{List, map, flatten, List·Permᴰ}
 use lib.Dec.{leb, eqb}
 use lib.ListN.{length, take}
 use native.Mathlib.Omega.{arith}
-use Rattle.metric_rules.specs.Lists.{every, total, distinct}
+use Rattle.lists.specs.Lists.{every, total, distinct, All}
 use Rattle.metric_rules.specs.Row.{Row, IsRow, tagOf, markOf}
 use Rattle.metric_rules.specs.Distance.{Space, distance, validSpace}
 use Rattle.tree_rules.specs.Layout.{isLayout}
-use Rattle.tree_rules.specs.Guided.{All}
 use Rattle.bucket_rules.specs.Geometry.{validOrder, room, bucketsOf, tableRows}
 use Rattle.bucket_rules.specs.Table.{Table, orderOf, tableSpace, builtOf, liveOf, slotsOf, liveSlots, pairRow, headerOf}
 use Rattle.bucket_rules.specs.Checks.{sizePasses, sizesPass, marksPass}

@@ -9,10 +9,10 @@ use lib.Dec.{leb}
 use lib.ListN.{length, replicate, drop, length-append, length-replicate}
 use native.Mathlib.Omega.{arith}
 use borrow.Author.Tests.{le-leb}
+use Rattle.lists.specs.Lists.{All}
+use Rattle.lists.proofs.Tests.{and-pass}
 use Rattle.metric_rules.specs.declared.Profile.{Profile}
 use Rattle.metric_rules.specs.Row.{Row, zeroRow}
-use Rattle.tree_rules.specs.Guided.{All}
-use Rattle.tree_rules.proofs.Tests.{and-pass}
 use Rattle.bucket_rules.specs.Geometry.{workRows}
 use Rattle.bucket_rules.specs.Table.{Table, orderOf, cleared}
 use Rattle.bucket_rules.specs.Add.{addRefusal, addReply, added, tableAfterAdd, workAfterAdd}

@@ -10,10 +10,10 @@ use lib.Dec.{leb}
 use lib.ListN.{length}
 use native.Mathlib.Omega.{arith}
 use borrow.Author.Tests.{le-leb, lt-leb}
+use Rattle.lists.proofs.Tests.{and-first, and-pass}
 use Rattle.metric_rules.specs.declared.Profile.{Profile}
 use Rattle.metric_rules.specs.Validity.{validTag, validMeasures}
 use Rattle.metric_rules.specs.Distance.{validSpace}
-use Rattle.tree_rules.proofs.Tests.{and-first, and-pass}
 use Rattle.search_rules.specs.Range.{Entry}
 use Rattle.bucket_rules.specs.Refusals.{badTag, badMeasure, resultShort, tagLive, tagNotLive, tableFull, areaShort, tableBroken}
 use Rattle.bucket_rules.specs.Geometry.{validOrder, room, tableRows, workRows, firstSlot}

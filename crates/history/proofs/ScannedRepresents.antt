@@ -8,11 +8,11 @@ use lib.Dec.{leb, ltb, eqb}
 use lib.ListN.{length, length-map}
 use native.Mathlib.Omega.{arith}
 use borrow.Author.Tests.{eq-eqb}
-use Rattle.metric_rules.specs.Lists.{select, distinct}
+use Rattle.lists.specs.Lists.{select, distinct}
+use Rattle.lists.proofs.Lists.{all-weaken, perm-map}
+use Rattle.lists.proofs.Tests.{and-first, and-second, every-all, all-every}
+use Rattle.lists.proofs.Distinct.{distinct-perm}
 use Rattle.metric_rules.specs.Row.{tagOf}
-use Rattle.tree_rules.proofs.Lists.{all-weaken, perm-map}
-use Rattle.tree_rules.proofs.Tests.{and-first, and-second, every-all, all-every}
-use Rattle.tree_rules.proofs.Distinct.{distinct-perm}
 use Rattle.bucket_rules.specs.Geometry.{room, bucketsOf}
 use Rattle.bucket_rules.specs.Table.{Table, orderOf, builtOf, liveOf, inUse, liveSlots}
 use Rattle.bucket_rules.specs.Checks.{sizePasses, sizesPass}

@@ -5,15 +5,15 @@ use mathlib.Core.Path.{_≡_, refl, sym, _∙_, ap, ap₂, subst}
 use mathlib.Core.Bool.{Bool, true}
 use mathlib.Core.List.{List, [], _∷_, _++_, map, flatten, foldl, foldr, map-append, append-assoc, append-nil, List·Permᴰ}
 use lib.Dec.{leb}
+use Rattle.lists.specs.Lists.{select, All}
+use Rattle.lists.proofs.Lists.{all-always, all-append, all-map, pairs-of-all}
 use Rattle.metric_rules.specs.declared.Profile.{Profile}
-use Rattle.metric_rules.specs.Lists.{select}
 use Rattle.metric_rules.specs.Row.{Row}
 use Rattle.metric_rules.specs.Distance.{Metric}
 use Rattle.tree_rules.specs.Layout.{isLayout}
-use Rattle.tree_rules.specs.Guided.{All, Whole}
+use Rattle.tree_rules.specs.Guided.{Whole}
 use Rattle.search_rules.specs.Range.{Entry, Pair, entry, entryDistance, entryKey, ordered, nothing, both, toQuery, entryOf, isHit, rangeTree}
 use Rattle.search_rules.specs.Nearest.{Tally, keep, nearestTree}
-use Rattle.tree_rules.proofs.Lists.{all-always, all-append, all-map, pairs-of-all}
 use Rattle.tree_rules.proofs.Sorting.{sort-permuted}
 use Rattle.tree_rules.proofs.InPlace.{is-layout-guided}
 use Rattle.search_rules.proofs.Selecting.{select-append}

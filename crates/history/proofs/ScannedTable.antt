@@ -4,12 +4,12 @@ use Prim.Native.Nat.{ℕ, _≤_}
 use mathlib.Core.Path.{_≡_, _∙_, ap}
 use mathlib.Core.List.{List, [], map, List·Permᴰ, Permᴰ·symm, Permᴰ·reverse}
 use native.Mathlib.Omega.{arith}
+use Rattle.lists.specs.Lists.{All}
+use Rattle.lists.proofs.Lists.{all-weaken, all-perm, perm-map}
 use Rattle.metric_rules.specs.declared.Profile.{Profile}
 use Rattle.metric_rules.specs.Row.{isLive}
 use Rattle.metric_rules.specs.Distance.{distance}
 use Rattle.metric_rules.proofs.Laws.{distance-metric}
-use Rattle.tree_rules.specs.Guided.{All}
-use Rattle.tree_rules.proofs.Lists.{all-weaken, all-perm, perm-map}
 use Rattle.search_rules.specs.Range.{Entry, ordered, entryOf}
 use Rattle.search_rules.specs.Nearest.{keep}
 use Rattle.search_rules.proofs.Keep.{keep-permuted}

@@ -5,11 +5,10 @@ use mathlib.Core.Path.{_≡_}
 use mathlib.Core.Bool.{true}
 use mathlib.Core.List.{map}
 use lib.ListN.{length, take}
-use Rattle.metric_rules.specs.Lists.{every, distinct}
+use Rattle.lists.specs.Lists.{every, distinct, All}
 use Rattle.metric_rules.specs.Row.{IsRow, tagOf, zeroRow}
 use Rattle.metric_rules.specs.Distance.{distance, validSpace}
 use Rattle.tree_rules.specs.Layout.{isLayout}
-use Rattle.tree_rules.specs.Guided.{All}
 use Rattle.bucket_rules.specs.Geometry.{validOrder, room, bucketsOf, headerRow, sizesRow, firstSlot, tableRows}
 use Rattle.bucket_rules.specs.Table.{Table, rowAt, orderOf, tableSpace, builtOf, liveOf, slotsOf, pairRow, headerOf}
 use Rattle.bucket_rules.specs.Checks.{sizesPass, marksPass}

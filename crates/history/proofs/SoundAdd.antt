@@ -8,16 +8,15 @@ use native.Mathlib.Omega.{arith}
 use lib.Dec.{leb}
 use lib.ListN.{length}
 use borrow.Author.Tests.{leb-false}
+use Rattle.lists.specs.Lists.{countFrom, distinct, All}
+use Rattle.lists.proofs.Lists.{all-map, all-weaken}
+use Rattle.lists.proofs.Tests.{and-pass}
+use Rattle.lists.proofs.Distinct.{distinct-pairs, pairs-distinct}
 use Rattle.metric_rules.specs.declared.Profile.{Profile}
-use Rattle.metric_rules.specs.Lists.{countFrom, distinct}
 use Rattle.metric_rules.specs.Row.{Row, IsRow, IsProfile, rowOf, tagOf, profileOf}
 use Rattle.metric_rules.specs.Validity.{validTag, validMeasures}
 use Rattle.metric_rules.proofs.Codec.{tag-of-row, profile-of-row, row-fits}
 use Rattle.tree_rules.specs.Layout.{placed}
-use Rattle.tree_rules.specs.Guided.{All}
-use Rattle.tree_rules.proofs.Lists.{all-map, all-weaken}
-use Rattle.tree_rules.proofs.Tests.{and-pass}
-use Rattle.tree_rules.proofs.Distinct.{distinct-pairs, pairs-distinct}
 use Rattle.bucket_rules.specs.Refusals.{badTag, badMeasure, tagLive, tableFull}
 use Rattle.bucket_rules.specs.Geometry.{room}
 use Rattle.bucket_rules.specs.Table.{Table, orderOf, builtOf, liveOf, liveTotal}

@@ -7,10 +7,9 @@ use native.Mathlib.Omega.{arith}
 use lib.Dec.{leb}
 use lib.ListN.{length}
 use borrow.Author.Tests.{leb-true}
-use Rattle.metric_rules.specs.Lists.{distinct, select}
+use Rattle.lists.specs.Lists.{distinct, select, All}
 use Rattle.metric_rules.specs.Row.{Row}
 use Rattle.metric_rules.specs.Distance.{Space, validSpace}
-use Rattle.tree_rules.specs.Guided.{All}
 use Rattle.bucket_rules.specs.Refusals.{badOrder, badMetric, areaShort}
 use Rattle.bucket_rules.specs.Geometry.{validOrder, bucketsOf, tableRows}
 use Rattle.bucket_rules.specs.Table.{Table, orderOf, liveSlots, headerOf}

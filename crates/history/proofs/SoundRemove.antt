@@ -11,12 +11,11 @@ use native.Mathlib.Decide.{ℕ-discrete}
 use lib.Dec.{ltb, eqb}
 use lib.ListN.{length, length-map}
 use borrow.Author.Tests.{ltb-true, ltb-false, eqb-true, eqb-false}
-use Rattle.metric_rules.specs.Lists.{distinct}
+use Rattle.lists.specs.Lists.{distinct, All}
+use Rattle.lists.proofs.Lists.{perm-length, perm-map, perm-of-eq}
+use Rattle.lists.proofs.Distinct.{distinct-perm}
 use Rattle.metric_rules.specs.Row.{Row, tagOf}
 use Rattle.tree_rules.specs.Layout.{placed}
-use Rattle.tree_rules.specs.Guided.{All}
-use Rattle.tree_rules.proofs.Lists.{perm-length, perm-map, perm-of-eq}
-use Rattle.tree_rules.proofs.Distinct.{distinct-perm}
 use Rattle.tree_rules.proofs.Placed.{tag-placed, placed-again}
 use Rattle.bucket_rules.specs.Geometry.{room}
 use Rattle.bucket_rules.specs.Table.{Table, orderOf, tableSpace, builtOf, liveOf, liveTotal, liveSlots, emptied}

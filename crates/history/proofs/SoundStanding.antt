@@ -9,12 +9,11 @@ use lib.Dec.{leb, eqb}
 use lib.Pow.{pow-mono}
 use lib.ListN.{length, replicate}
 use borrow.Author.Tests.{eqb-true, eq-eqb}
-use Rattle.metric_rules.specs.Lists.{every, select, distinct}
+use Rattle.lists.specs.Lists.{every, select, distinct, All}
+use Rattle.lists.proofs.Lists.{all-at, all-append, all-take, all-weaken}
+use Rattle.lists.proofs.Tests.{and-second, and-pass, every-all, all-every}
 use Rattle.metric_rules.specs.Row.{Row, IsRow, tagOf, profileOf, markOf, isLive, zeroRow}
 use Rattle.metric_rules.specs.Validity.{validTag, validMeasures}
-use Rattle.tree_rules.specs.Guided.{All}
-use Rattle.tree_rules.proofs.Lists.{all-at, all-append, all-take, all-weaken}
-use Rattle.tree_rules.proofs.Tests.{and-second, and-pass, every-all, all-every}
 use Rattle.bucket_rules.specs.Geometry.{validOrder, room, bucketsOf, sizesRow, firstSlot}
 use Rattle.bucket_rules.specs.Table.{Table, rowAt, orderOf, tableSpace, builtOf, liveOf, liveTotal, slotsOf, liveSlots, pairRow, headerOf}
 use Rattle.bucket_rules.specs.Checks.{sizePasses, marksPass}

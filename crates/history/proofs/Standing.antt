@@ -7,11 +7,10 @@ use mathlib.Core.Logic.{_⊎_, inl, inr}
 use mathlib.Core.List.{List, [], map}
 use native.Mathlib.Omega.{arith}
 use lib.ListN.{length}
-use Rattle.metric_rules.specs.Lists.{every, select, distinct}
+use Rattle.lists.specs.Lists.{every, select, distinct, All}
 use Rattle.metric_rules.specs.Row.{Row, IsRow, tagOf, isLive}
 use Rattle.metric_rules.specs.Distance.{Space, distance, validSpace}
 use Rattle.tree_rules.specs.Layout.{isLayout}
-use Rattle.tree_rules.specs.Guided.{All}
 use Rattle.bucket_rules.specs.Geometry.{validOrder, headerRow, tableRows}
 use Rattle.bucket_rules.specs.Table.{Table, rowAt, orderOf, tableSpace, headerOf}
 use Rattle.bucket_rules.proofs.Views.{Only, same-order, same-space}

@@ -8,10 +8,9 @@ use Prim.Native.Nat.{ℕ, _^_, _≤_, _<_, min}
 use mathlib.Core.Path.{_≡_}
 use mathlib.Core.List.{List, map}
 use lib.ListN.{length}
+use Rattle.lists.specs.Lists.{total, All}
 use Rattle.metric_rules.specs.declared.Profile.{Profile}
-use Rattle.metric_rules.specs.Lists.{total}
 use Rattle.metric_rules.specs.Distance.{distance}
-use Rattle.tree_rules.specs.Guided.{All}
 use Rattle.search_rules.specs.Reached.{reached}
 use Rattle.bucket_rules.specs.Geometry.{tableRows}
 use Rattle.bucket_rules.specs.Table.{Table, tableSpace, slotsOf, liveSlots}

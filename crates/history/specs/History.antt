@@ -2,8 +2,8 @@
 use Prim.Native.Nat.{_^_, _<_}
 use mathlib.Core.Path.{_≡_}
 use mathlib.Core.List.{List, [], _∷_}
+use Rattle.lists.specs.Lists.{All}
 use Rattle.metric_rules.specs.Row.{IsProfile}
-use Rattle.tree_rules.specs.Guided.{All}
 use Rattle.bucket_rules.specs.Table.{Table}
 use Rattle.history.specs.Calls.{Call}
 use Rattle.history.specs.Calls.Call.{fresh, load, add, remove, lookUp, range, nearest, write, readList}

@@ -3,7 +3,7 @@ use Prim.Native.Nat.{ℕ}
 use mathlib.Core.Path.{_≡_}
 use mathlib.Core.List.{List, map}
 use lib.ListN.{take, length}
-use Rattle.metric_rules.specs.Lists.{total}
+use Rattle.lists.specs.Lists.{total}
 use Rattle.bucket_rules.specs.Geometry.{bucketsOf, tableRows}
 use Rattle.bucket_rules.specs.Table.{Table, orderOf, builtOf}
 use Rattle.image_rules.specs.Bytes.{imageLength}

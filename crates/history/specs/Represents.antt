@@ -5,8 +5,8 @@ use mathlib.Core.Bool.{Bool, true, not, _||_}
 use mathlib.Core.List.{List, map, List·Permᴰ}
 use lib.ListN.{length}
 use lib.Dec.{ltb, eqb}
+use Rattle.lists.specs.Lists.{every, select, distinct}
 use Rattle.metric_rules.specs.declared.Profile.{Profile}
-use Rattle.metric_rules.specs.Lists.{every, select, distinct}
 use Rattle.metric_rules.specs.Row.{IsProfile, tagOf}
 use Rattle.metric_rules.specs.Distance.{validSpace, distance}
 use Rattle.tree_rules.specs.Layout.{isLayout}

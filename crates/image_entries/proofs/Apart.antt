@@ -10,11 +10,10 @@ use lib.Dec.{eqb}
 use lib.ListN.{length, getD, drop}
 use lib.Seq.{drop-cons}
 use borrow.Author.Tests.{ne-eqb}
-use Rattle.metric_rules.specs.Lists.{every, distinct}
-use Rattle.tree_rules.specs.Guided.{All}
-use Rattle.tree_rules.proofs.Lists.{Pairs, all-weaken, pairs-drop}
-use Rattle.tree_rules.proofs.Distinct.{Differ, distinct-pairs, distinct-perm}
-use Rattle.tree_rules.proofs.Tests.{pass-alike, all-every}
+use Rattle.lists.specs.Lists.{every, distinct, All}
+use Rattle.lists.proofs.Lists.{Pairs, all-weaken, pairs-drop}
+use Rattle.lists.proofs.Tests.{pass-alike, all-every}
+use Rattle.lists.proofs.Distinct.{Differ, distinct-pairs, distinct-perm}
 
 differing : (m n : ℕ) → Differ n m → not (eqb m n) ≡ true
 differing m n f = ap not (ne-eqb m n (λ e. f (sym e)))

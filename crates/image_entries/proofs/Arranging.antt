@@ -9,10 +9,10 @@ use mathlib.Core.List.{List, [], _∷_, _++_, map, foldl, foldl-append, List·Pe
 use lib.ListN.{length, length-drop, getD, take, drop}
 use lib.Seq.{take-suc, getD-take, getD-drop}
 use borrow.Rule.Slice.PartMut.{putMid}
+use Rattle.lists.specs.Lists.{All}
+use Rattle.lists.proofs.Lists.{all-append, all-weaken, all-map, all-perm}
 use Rattle.metric_rules.specs.declared.Profile.{Profile}
 use Rattle.metric_rules.specs.Row.{Row}
-use Rattle.tree_rules.specs.Guided.{All}
-use Rattle.tree_rules.proofs.Lists.{all-append, all-weaken, all-map, all-perm}
 use Rattle.tree_rules.proofs.Parts.{part-rest, put-rest}
 use Rattle.tree_rules.proofs.Brought.{brought, brought-perm, brought-first}
 use Rattle.search_rules.specs.Range.{Entry, entry, entryDistance, ordered}

@@ -9,13 +9,13 @@ use mathlib.Core.List.{List, [], _∷_, map, map-map, Permᴰ·symm}
 use lib.Dec.{ltb, eqb}
 use lib.ListN.{length, length-map, getD}
 use borrow.Author.Tests.{leb-true, ltb-true, ltb-false}
+use Rattle.lists.specs.Lists.{countFrom, distinct, sameNumbers, All}
+use Rattle.lists.proofs.Lists.{Pairs, all-both, all-perm, all-map, pairs-map, perm-map, perm-length}
+use Rattle.lists.proofs.Distinct.{Differ, distinct-pairs}
 use Rattle.metric_rules.specs.declared.Profile.{Profile}
-use Rattle.metric_rules.specs.Lists.{countFrom, distinct, sameNumbers}
 use Rattle.metric_rules.specs.Row.{Row, tagOf, withMark}
 use Rattle.tree_rules.specs.Sorting.{sortBy}
-use Rattle.tree_rules.specs.Guided.{All}
 use Rattle.tree_rules.specs.Layout.{Ranked, rankedFrom, layout, isLayout}
-use Rattle.tree_rules.proofs.Lists.{Pairs, all-both, all-perm, all-map, pairs-map, perm-map, perm-length}
 use Rattle.tree_rules.proofs.Parts.{getD-mapped}
 use Rattle.tree_rules.proofs.Sorting.{NotAfter, key-le-cases, key-le-last, sort-perm, sort-sorted}
 use Rattle.tree_rules.proofs.Layouts.{layoutOf, layout-ranked, layout-reordered}
@@ -25,7 +25,6 @@ use Rattle.image_rules.proofs.Blocks.{length-count, getD-count}
 use Rattle.image_entries.specs.FirstFault.{firstUnlike, firstFault}
 use Rattle.image_entries.specs.Entries.{places, entryTag, entryPlace, tagEntry, Fresh, IsEntry, TagsTell, slotEntries, rankedIn, laidOut, partFault}
 use Rattle.image_entries.proofs.FirstFault.{is-layout-no-fault}
-use Rattle.tree_rules.proofs.Distinct.{Differ, distinct-pairs}
 use Rattle.image_entries.proofs.Apart.{pairs-at}
 use Rattle.image_entries.proofs.Ranking.{ordered-perm, told-places, laid-out}
 

@@ -8,12 +8,12 @@ use mathlib.Core.List.{List, [], _∷_, _++_, map}
 use lib.Dec.{eqb}
 use lib.ListN.{length, length-map}
 use borrow.Author.Tests.{eqb-true, eq-eqb, ne-eqb}
+use Rattle.lists.specs.Lists.{alike, sameNumbers}
+use Rattle.lists.proofs.Tests.{pass-alike}
 use Rattle.metric_rules.specs.declared.Profile.{Profile}
-use Rattle.metric_rules.specs.Lists.{alike, sameNumbers}
 use Rattle.metric_rules.specs.Row.{Row, withMark}
 use Rattle.tree_rules.specs.Layout.{layout, isLayout}
 use Rattle.tree_rules.proofs.Layouts.{layout-length}
-use Rattle.tree_rules.proofs.Tests.{pass-alike}
 use Rattle.image_entries.specs.FirstFault.{firstUnlike, firstFault}
 
 eqb-suc : (m n : ℕ) → eqb m n ≡ eqb (suc m) (suc n)

@@ -9,14 +9,14 @@ use mathlib.Core.List.{List, [], _∷_, _++_, map, foldl, map-map, List·Permᴰ
 use lib.Dec.{leb, ltb, eqb}
 use lib.ListN.{length, length-map, getD, take, drop}
 use borrow.Author.Tests.{ltb-true, ltb-false, leb-true, le-leb}
+use Rattle.lists.specs.Lists.{All}
+use Rattle.lists.proofs.Lists.{Pairs, all-always, all-weaken, all-both, all-map, all-perm, all-take, pairs-map, pairs-of-all, perm-map, map-take, map-drop, map-alike}
+use Rattle.lists.proofs.Tests.{pass-alike}
 use Rattle.metric_rules.specs.declared.Profile.{Profile}
 use Rattle.metric_rules.specs.Row.{Row, profileOf}
 use Rattle.tree_rules.specs.Sorting.{keyLe, insertBy, sortBy}
-use Rattle.tree_rules.specs.Guided.{All}
 use Rattle.tree_rules.specs.Layout.{leftSize, Ranked, tagKey, placed, fromPivot, nearKey, lastDistance, split, layoutWithin}
-use Rattle.tree_rules.proofs.Lists.{Pairs, all-always, all-weaken, all-both, all-map, all-perm, all-take, pairs-map, pairs-of-all, perm-map, map-take, map-drop, map-alike}
 use Rattle.tree_rules.proofs.Sorting.{NotAfter, Told, key-le-cases, key-le-less, key-le-same, key-le-last, sort-perm, sort-map}
-use Rattle.tree_rules.proofs.Tests.{pass-alike}
 use Rattle.tree_rules.proofs.Layouts.{layoutOf, layout-reordered, layout-pivot}
 use Rattle.search_rules.specs.Range.{Entry, entry, entryDistance, entryKey, ordered}
 use Rattle.image_entries.specs.Entries.{places, entryTag, entryPlace, lastOf, IsEntry, rankedIn, measuredIn, laidOut, laidFrom}

@@ -4,8 +4,8 @@ use Prim.Native.Nat.{ℕ, suc, _+_, _*_, _/_, _%_, _^_, _<_}
 use mathlib.Core.Path.{_≡_}
 use mathlib.Core.List.{List, [], _∷_, _++_, map, foldl}
 use lib.ListN.{length, take, drop, getD}
+use Rattle.lists.specs.Lists.{countFrom, sameNumbers}
 use Rattle.metric_rules.specs.declared.Profile.{Profile}
-use Rattle.metric_rules.specs.Lists.{countFrom, sameNumbers}
 use Rattle.metric_rules.specs.Row.{Row, tagOf, profileOf, withMark}
 use Rattle.tree_rules.specs.Layout.{leftSize, Ranked, placed, layoutWithin}
 use Rattle.search_rules.specs.Range.{Entry, Pair, entry, entryDistance}

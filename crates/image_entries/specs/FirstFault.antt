@@ -2,8 +2,8 @@
 use Prim.Native.Nat.{ℕ, suc}
 use mathlib.Core.Bool.{Bool, true, false}
 use mathlib.Core.List.{List, [], _∷_, map}
+use Rattle.lists.specs.Lists.{sameNumbers}
 use Rattle.metric_rules.specs.declared.Profile.{Profile}
-use Rattle.metric_rules.specs.Lists.{sameNumbers}
 use Rattle.metric_rules.specs.Row.{Row, withMark}
 use Rattle.tree_rules.specs.Layout.{layout}
 

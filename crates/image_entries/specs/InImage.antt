@@ -1,7 +1,7 @@
 -- A bucket's slots in an image, by the number of its first slot.
 use Prim.Native.Nat.{ℕ, _+_, _≤_}
 use mathlib.Core.List.{List, map}
-use Rattle.metric_rules.specs.Lists.{countFrom}
+use Rattle.lists.specs.Lists.{countFrom}
 use Rattle.metric_rules.specs.Row.{Row}
 use Rattle.image_rules.specs.Read.{slotsIn, rowIn}
 use Rattle.image_read.specs.Places.{Places}

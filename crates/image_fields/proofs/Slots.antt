@@ -8,10 +8,10 @@ use native.Mathlib.Decide.{decLe}
 use borrow.Author.Tests.{leb-true, eq-eqb, ne-eqb}
 use lib.Dec.{leb}
 use lib.ListN.{length, getD, take, length-append}
-use Rattle.metric_rules.specs.Lists.{select}
+use Rattle.lists.specs.Lists.{select}
+use Rattle.lists.proofs.Tests.{and-second}
 use Rattle.metric_rules.specs.Row.{Row, tagOf, profileOf, markOf, isLive}
 use Rattle.metric_rules.specs.Validity.{validTag, validMeasures}
-use Rattle.tree_rules.proofs.Tests.{and-second}
 use Rattle.image_rules.specs.Load.{fieldsPass}
 use Rattle.gather.proofs.Selected.{selected-next, passed-over}
 

@@ -4,7 +4,7 @@ use mathlib.Core.Bool.{Bool, _&&_}
 use mathlib.Core.List.{List}
 use lib.ListN.{length}
 use lib.Dec.{eqb}
-use Rattle.metric_rules.specs.Lists.{every, select}
+use Rattle.lists.specs.Lists.{every, select}
 use Rattle.metric_rules.specs.Row.{Row, isLive}
 use Rattle.image_rules.specs.Load.{fieldsPass}
 

@@ -4,7 +4,7 @@ ghost use mathlib.Core.Bool.{true};
 ghost use mathlib.Core.List.{_++_, map, foldl};
 ghost use Prim.Native.Nat.{_+_, _-_, _≤_};
 ghost use lib.ListN.{length, getD, replicate};
-ghost use Rattle.metric_rules.specs.Lists.{countFrom};
+ghost use Rattle.lists.specs.Lists.{countFrom};
 ghost use Rattle.metric_rules.specs.Row.{zeroRow};
 ghost use Rattle.bucket_rules.specs.Geometry.{room, bucketsOf};
 ghost use Rattle.bucket_rules.specs.Table.{putBucket};

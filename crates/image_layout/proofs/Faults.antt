@@ -9,8 +9,9 @@ use mathlib.Core.List.{List, [], _∷_, _++_, map, map-append}
 use lib.Dec.{eqb}
 use lib.ListN.{length, length-map}
 use borrow.Author.Tests.{eqb-true, eq-eqb}
+use Rattle.lists.specs.Lists.{countFrom, sameNumbers}
+use Rattle.lists.proofs.Tests.{alike-equal, equal-alike}
 use Rattle.metric_rules.specs.declared.Profile.{Profile}
-use Rattle.metric_rules.specs.Lists.{countFrom, sameNumbers}
 use Rattle.metric_rules.specs.Row.{Row, rowWidth, tagOf, thresholdOf, withMark}
 use Rattle.metric_rules.proofs.Codec.{tag-with-mark, threshold-with-mark}
 use Rattle.tree_rules.specs.Layout.{placed}
@@ -18,7 +19,6 @@ use Rattle.tree_rules.proofs.Layouts.{layout-of-length}
 use Rattle.tree_rules.proofs.Placed.{tag-placed, threshold-placed, placed-own}
 use Rattle.search_rules.specs.Range.{Entry}
 use Rattle.image_rules.proofs.Blocks.{length-count, count-append}
-use Rattle.tree_rules.proofs.Tests.{alike-equal, equal-alike}
 use Rattle.image_entries.specs.FirstFault.{firstUnlike}
 use Rattle.image_entries.specs.Entries.{rankedIn, laidOut, partFault}
 use Rattle.image_entries.proofs.FirstFault.{unlike-here, unlike-past, unlike-left, unlike-right}

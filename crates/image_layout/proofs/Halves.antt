@@ -9,13 +9,12 @@ use lib.Dec.{eqb}
 use lib.ListN.{length, take, drop, getD, length-take, length-drop}
 use lib.Seq.{drop-cons}
 use borrow.Author.Tests.{eqb-true, eq-eqb}
+use Rattle.lists.specs.Lists.{sameNumbers, All}
+use Rattle.lists.proofs.Lists.{all-at, all-take, all-drop}
+use Rattle.lists.proofs.Tests.{and-first, and-second, and-pass}
 use Rattle.metric_rules.specs.declared.Profile.{Profile}
-use Rattle.metric_rules.specs.Lists.{sameNumbers}
 use Rattle.metric_rules.specs.Row.{Row, rowWidth, thresholdOf, withMark}
-use Rattle.tree_rules.specs.Guided.{All}
 use Rattle.tree_rules.specs.Layout.{leftSize, placed}
-use Rattle.tree_rules.proofs.Lists.{all-at, all-take, all-drop}
-use Rattle.tree_rules.proofs.Tests.{and-first, and-second, and-pass}
 use Rattle.tree_rules.proofs.Parts.{leftPart, left-part, left-part-length, leftBack, left-back-length, rightPart, right-part, right-part-length, rightBack, right-back-length}
 use Rattle.search_rules.specs.Range.{Entry}
 use Rattle.image_entries.specs.Entries.{entryPlace, lastOf, IsEntry, TagsTell, laidOut, laidFrom, partFault}

@@ -6,10 +6,9 @@ use native.Mathlib.Numerals.{add-one}
 use native.Mathlib.Omega.{arith}
 use lib.ListN.{length, getD, take, drop, length-take}
 use lib.Seq.{sets, take-suc, take-all}
-use Rattle.metric_rules.specs.Lists.{total}
+use Rattle.lists.specs.Lists.{total, All}
+use Rattle.lists.proofs.Lists.{all-always, all-take}
 use Rattle.metric_rules.specs.Row.{Row}
-use Rattle.tree_rules.specs.Guided.{All}
-use Rattle.tree_rules.proofs.Lists.{all-always, all-take}
 use Rattle.tree_rules.proofs.Stores.{sets-more}
 use Rattle.image_rules.specs.Bytes.{bytesOf, tagFields, recordFields, bytesOfFields, tagWords}
 use Rattle.image_rules.specs.Write.{tagsOf, recordsOf}

@@ -5,7 +5,7 @@ use mathlib.Core.List.{List, [], _∷_}
 use native.Mathlib.Nat.{add-assoc}
 use native.Mathlib.Omega.{arith}
 use lib.ListN.{length, getD}
-use Rattle.metric_rules.specs.Lists.{total}
+use Rattle.lists.specs.Lists.{total}
 use Rattle.image_rules.specs.Bytes.{tagFields, recordFields, tagBytes, recordBytes, imageLength}
 use Rattle.image_rules.specs.Read.{numberAt, fieldsAt, slotsIn}
 use Rattle.image_reader.proofs.Numbers.{number-more, two-at}

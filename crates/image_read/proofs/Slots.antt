@@ -8,7 +8,7 @@ use native.Mathlib.Decide.{decLe}
 use native.Mathlib.Nat.{le-of-suc-le-suc, not-suc-le-zero, lt-of-not-le}
 use native.Mathlib.Numerals.{add-one}
 use lib.ListN.{length, getD, length-map}
-use Rattle.metric_rules.specs.Lists.{total, countFrom}
+use Rattle.lists.specs.Lists.{total, countFrom}
 use Rattle.bucket_rules.specs.Geometry.{room}
 use Rattle.bucket_rules.specs.Checks.{sizesPass}
 use Rattle.bucket_rules.proofs.Sizes.{size-room, sizes-at}

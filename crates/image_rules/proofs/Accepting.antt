@@ -7,9 +7,8 @@ use native.Mathlib.Omega.{arith}
 use lib.ListN.{length, drop}
 use lib.Dec.{leb, ltb, eqb}
 use borrow.Author.Tests.{leb-true, eqb-true, le-ltb, le-leb, eq-eqb}
-use Rattle.metric_rules.specs.Lists.{total}
+use Rattle.lists.specs.Lists.{total, All}
 use Rattle.metric_rules.specs.Distance.{validSpace}
-use Rattle.tree_rules.specs.Guided.{All}
 use Rattle.bucket_rules.specs.Geometry.{validOrder, tableRows}
 use Rattle.bucket_rules.specs.Checks.{sizesPass}
 use Rattle.image_rules.specs.Bytes.{headerFields, headerBytes, sizesEnd, imageLength}

@@ -7,10 +7,9 @@ use native.Mathlib.Nat.{zero-add, suc-add, mul-suc, le-of-suc-le-suc, not-suc-le
 use native.Mathlib.Omega.{arith}
 use lib.ListN.{length, getD, take, drop, length-append}
 use lib.Seq.{getD-at, drop-drop, take-add}
-use Rattle.metric_rules.specs.Lists.{total, countFrom}
+use Rattle.lists.specs.Lists.{total, countFrom, All}
+use Rattle.lists.proofs.Lists.{all-append}
 use Rattle.metric_rules.specs.Row.{word}
-use Rattle.tree_rules.specs.Guided.{All}
-use Rattle.tree_rules.proofs.Lists.{all-append}
 use Rattle.bucket_rules.proofs.ByNumber as by-number
 pub use Rattle.bucket_rules.proofs.ByNumber.{map-count}
 use Rattle.image_rules.proofs.Counting.{total-more}

@@ -6,8 +6,7 @@ use native.Mathlib.Nat.{pow-suc}
 use native.Mathlib.Omega.{arith}
 use lib.ListN.{length, length-append}
 use lib.Seq.{take-at, drop-at}
-use Rattle.metric_rules.specs.Lists.{total}
-use Rattle.tree_rules.specs.Guided.{All}
+use Rattle.lists.specs.Lists.{total, All}
 use Rattle.image_rules.specs.Bytes.{bytesOf, numberOf, bytesOfFields}
 use Rattle.image_rules.specs.Read.{numberAt, fieldsAt}
 

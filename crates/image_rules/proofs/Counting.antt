@@ -4,7 +4,7 @@ use mathlib.Core.Path.{_≡_, refl, sym, ap, _∙_}
 use mathlib.Core.List.{List, [], _∷_, _++_, map, map-append, append-assoc, append-nil, flatten}
 use native.Mathlib.Nat.{mul-suc}
 use native.Mathlib.Omega.{arith}
-use Rattle.metric_rules.specs.Lists.{total, countFrom}
+use Rattle.lists.specs.Lists.{total, countFrom}
 use Rattle.bucket_rules.proofs.Down.{count-last}
 
 map-count-more : {A : Type 0} (f : ℕ → A) (n : ℕ) → map f (countFrom 0 (suc n)) ≡ map f (countFrom 0 n) ++ (f n ∷ [])

@@ -4,8 +4,7 @@ use mathlib.Core.Path.{_≡_, refl, ap₂}
 use mathlib.Core.Bool.{Bool, _&&_}
 use mathlib.Core.List.{map}
 use native.Mathlib.Omega.{arith}
-use Rattle.metric_rules.specs.Lists.{every, countFrom}
-use Rattle.tree_rules.specs.Guided.{All}
+use Rattle.lists.specs.Lists.{every, countFrom, All}
 use Rattle.bucket_rules.specs.Geometry.{bucketsOf}
 use Rattle.bucket_rules.proofs.ByNumber.{all-count, count-all, map-count}
 

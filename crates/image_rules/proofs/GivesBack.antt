@@ -7,9 +7,8 @@ use native.Mathlib.Nat.{mul-suc, add-mul, mul-le-mul-left}
 use native.Mathlib.Omega.{arith}
 use lib.ListN.{length, take, drop, length-drop, take-append-drop}
 use lib.Seq.{take-all, take-at, drop-at, take-add, drop-drop}
-use Rattle.metric_rules.specs.Lists.{total, countFrom}
+use Rattle.lists.specs.Lists.{total, countFrom, All}
 use Rattle.metric_rules.specs.Row.{Row}
-use Rattle.tree_rules.specs.Guided.{All}
 use Rattle.bucket_rules.specs.Geometry.{bucketsOf}
 use Rattle.bucket_rules.specs.Table.{Table, orderOf, tableSpace, builtOf, liveOf, slotsOf}
 use Rattle.bucket_rules.proofs.ByNumber.{map-count}

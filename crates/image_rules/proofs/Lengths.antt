@@ -9,11 +9,10 @@ use native.Mathlib.Omega.{arith}
 use lib.ListN.{length, take, drop, length-append}
 use lib.Dec.{eqb}
 use borrow.Author.Tests.{eqb-true}
-use Rattle.metric_rules.specs.Lists.{total, countFrom, every}
+use Rattle.lists.specs.Lists.{total, countFrom, every, All}
+use Rattle.lists.proofs.Lists.{all-always, all-append, all-map}
+use Rattle.lists.proofs.Tests.{and-first, and-second}
 use Rattle.metric_rules.specs.Row.{Row, IsRow, rowWidth, word}
-use Rattle.tree_rules.specs.Guided.{All}
-use Rattle.tree_rules.proofs.Lists.{all-always, all-append, all-map}
-use Rattle.tree_rules.proofs.Tests.{and-first, and-second}
 use Rattle.bucket_rules.specs.Geometry.{bucketsOf}
 use Rattle.bucket_rules.specs.Table.{Table, orderOf, tableSpace, builtOf, liveOf, slotsOf}
 use Rattle.bucket_rules.proofs.ByNumber.{length-flatten}

@@ -5,8 +5,7 @@ use mathlib.Core.Path.{_≡_, refl, sym, ap, _∙_}
 use mathlib.Core.List.{List}
 use native.Mathlib.Omega.{arith}
 use lib.ListN.{length, drop, length-map}
-use Rattle.metric_rules.specs.Lists.{countFrom}
-use Rattle.tree_rules.specs.Guided.{All}
+use Rattle.lists.specs.Lists.{countFrom, All}
 use Rattle.bucket_rules.specs.Geometry.{room, bucketsOf, headerRow, tableRows}
 use Rattle.bucket_rules.specs.Table.{Table, rowAt, orderOf, tableSpace, headerOf}
 use Rattle.bucket_rules.specs.Fresh.{freshTable}

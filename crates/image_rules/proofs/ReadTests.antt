@@ -5,7 +5,7 @@ use mathlib.Core.Path.{_≡_, ap, ap₂}
 use mathlib.Core.Bool.{Bool, _&&_}
 use mathlib.Core.List.{List, map, flatten}
 use lib.Dec.{leb}
-use Rattle.metric_rules.specs.Lists.{every, total, select, distinct}
+use Rattle.lists.specs.Lists.{every, total, select, distinct}
 use Rattle.metric_rules.specs.Row.{isLive, tagOf}
 use Rattle.bucket_rules.specs.Geometry.{room, bucketsOf}
 use Rattle.bucket_rules.specs.Table.{Table, orderOf, tableSpace, builtOf, liveOf, slotsOf, liveSlots}

@@ -2,7 +2,7 @@
 use Prim.Native.Nat.{ℕ, zero, suc, _+_, _*_, _/_, _%_}
 use mathlib.Core.List.{List, [], _∷_, _++_}
 use lib.ListN.{length}
-use Rattle.metric_rules.specs.Lists.{total}
+use Rattle.lists.specs.Lists.{total}
 
 -- the w bytes of a number, lowest first, and the number of some bytes
 unfoldable pub bytesOf : ℕ → ℕ → List ℕ

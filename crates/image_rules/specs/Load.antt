@@ -4,7 +4,7 @@ use mathlib.Core.Bool.{Bool, true, false, _&&_}
 use mathlib.Core.List.{List, map, foldl, flatten}
 use lib.ListN.{length}
 use lib.Dec.{leb, ltb, eqb}
-use Rattle.metric_rules.specs.Lists.{every, select, distinct}
+use Rattle.lists.specs.Lists.{every, select, distinct}
 use Rattle.metric_rules.specs.Row.{Row, tagOf, profileOf, markOf, isLive}
 use Rattle.metric_rules.specs.Validity.{validTag, validMeasures}
 use Rattle.metric_rules.specs.Distance.{Space, validSpace, distance}

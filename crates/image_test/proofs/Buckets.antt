@@ -7,7 +7,7 @@ use mathlib.Core.Path.{_≡_, refl, sym, _∙_, ap, ap₂}
 use mathlib.Core.Bool.{Bool, _&&_}
 use mathlib.Core.List.{List, _∷_, _++_, map, flatten, map-append}
 use lib.ListN.{length, getD, take, length-take}
-use Rattle.metric_rules.specs.Lists.{countFrom, total, select, distinct}
+use Rattle.lists.specs.Lists.{countFrom, total, select, distinct}
 use Rattle.metric_rules.specs.Row.{Row, tagOf, isLive}
 use Rattle.metric_rules.specs.Distance.{Space, distance}
 use Rattle.tree_rules.specs.Layout.{isLayout}

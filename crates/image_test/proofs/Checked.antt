@@ -9,15 +9,14 @@ use mathlib.Core.List.{List, [], _∷_, map}
 use lib.Dec.{leb, eqb}
 use lib.ListN.{length}
 use borrow.Author.Tests.{eqb-true}
-use Rattle.metric_rules.specs.Lists.{countFrom, total, every, select, distinct}
+use Rattle.lists.specs.Lists.{countFrom, total, every, select, distinct, All}
+use Rattle.lists.proofs.Lists.{all-of-map}
+use Rattle.lists.proofs.Tests.{and-first, and-second, every-all}
 use Rattle.metric_rules.specs.Row.{Row, tagOf, profileOf, markOf, isLive}
 use Rattle.metric_rules.specs.Validity.{validTag, validMeasures}
 use Rattle.metric_rules.specs.Distance.{Space, distance}
 use Rattle.metric_rules.proofs.Ranges.{tag-below}
-use Rattle.tree_rules.specs.Guided.{All}
 use Rattle.tree_rules.specs.Layout.{isLayout}
-use Rattle.tree_rules.proofs.Lists.{all-of-map}
-use Rattle.tree_rules.proofs.Tests.{and-first, and-second, every-all}
 use Rattle.bucket_rules.specs.Geometry.{mostOrder, room, bucketsOf}
 use Rattle.bucket_rules.specs.Checks.{sizesPass}
 use Rattle.bucket_rules.proofs.ByNumber.{count-all, map-count, length-flatten}

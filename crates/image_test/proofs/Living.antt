@@ -8,10 +8,9 @@ use mathlib.Core.Bool.{Bool, true, false}
 use mathlib.Core.List.{List, [], _∷_, _++_, map, map-append, map-map, append-nil}
 use lib.ListN.{length, length-map, length-append, getD, set, take, drop, take-append-drop}
 use lib.Seq.{take-suc, take-suc-set, take-all}
-use Rattle.metric_rules.specs.Lists.{countFrom, select}
+use Rattle.lists.specs.Lists.{countFrom, select, All}
+use Rattle.lists.proofs.Lists.{all-map, all-always, map-alike}
 use Rattle.metric_rules.specs.Row.{Row, tagOf, isLive}
-use Rattle.tree_rules.specs.Guided.{All}
-use Rattle.tree_rules.proofs.Lists.{all-map, all-always, map-alike}
 use Rattle.tree_rules.proofs.Parts.{getD-mapped}
 use Rattle.search_rules.specs.Range.{Entry, entry, entryDistance}
 use Rattle.search_rules.proofs.Selecting.{select-append}

@@ -5,7 +5,7 @@ use mathlib.Core.Bool.{Bool, _&&_}
 use mathlib.Core.List.{List, map}
 use lib.ListN.{length}
 use lib.Dec.{eqb}
-use Rattle.metric_rules.specs.Lists.{every, select, distinct}
+use Rattle.lists.specs.Lists.{every, select, distinct}
 use Rattle.metric_rules.specs.Row.{Row, tagOf, isLive}
 use Rattle.metric_rules.specs.Distance.{Space, distance}
 use Rattle.tree_rules.specs.Layout.{isLayout}

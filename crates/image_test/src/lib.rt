@@ -4,7 +4,7 @@ ghost use Prim.Native.Nat.{ℕ, _+_, _≤_, _<_, _^_};
 ghost use mathlib.Core.Bool.{true};
 ghost use mathlib.Core.List.{map};
 ghost use lib.ListN.{length, take};
-ghost use Rattle.metric_rules.specs.Lists.{every, select, distinct};
+ghost use Rattle.lists.specs.Lists.{every, select, distinct};
 ghost use Rattle.metric_rules.specs.Row.{tagOf, isLive};
 ghost use Rattle.metric_rules.specs.Distance.{spaceOf};
 ghost use Rattle.bucket_rules.specs.Geometry.{mostOrder, bucketsOf};

@@ -6,7 +6,7 @@ use native.Mathlib.Omega.{arith}
 use lib.ListN.{length, length-append}
 use lib.Pow.{pow-mono}
 use lib.Seq.{sets}
-use Rattle.metric_rules.specs.Lists.{total, countFrom}
+use Rattle.lists.specs.Lists.{total, countFrom}
 use Rattle.bucket_rules.specs.Geometry.{room, bucketsOf}
 use Rattle.bucket_rules.specs.Table.{Table, orderOf, tableSpace, builtOf, liveOf, slotsOf}
 use Rattle.bucket_rules.specs.Passed.{Passed}

@@ -9,7 +9,7 @@ use native.Mathlib.Omega.{arith}
 use native.Mathlib.Decide.{decLe}
 use lib.ListN.{length, drop, length-append, length-take, length-drop}
 use lib.Seq.{sets}
-use Rattle.metric_rules.specs.Lists.{countFrom}
+use Rattle.lists.specs.Lists.{countFrom}
 use Rattle.metric_rules.specs.Row.{Row}
 use Rattle.bucket_rules.specs.Geometry.{bucketsOf, sizesRow, firstSlot}
 use Rattle.bucket_rules.specs.Table.{Table, orderOf, builtOf, slotsOf}

@@ -8,10 +8,9 @@ use lib.Dec.{eqb, ltb}
 use lib.IntN.{ℤ}
 use lib.ListN.{length, getD}
 use borrow.Author.Tests.{eq-eqb, ne-eqb, eqb-true, eqb-false, ltb-true, ltb-false}
-use Rattle.metric_rules.specs.Lists.{every}
-use Rattle.tree_rules.specs.Guided.{All}
-use Rattle.tree_rules.proofs.Lists.{all-append}
-use Rattle.tree_rules.proofs.Tests.{and-first, and-second, and-pass}
+use Rattle.lists.specs.Lists.{every, All}
+use Rattle.lists.proofs.Lists.{all-append}
+use Rattle.lists.proofs.Tests.{and-first, and-second, and-pass}
 use Rattle.text_rules.specs.Text.{minus, parted, partAt, partsIn, digitOf, isDigit, isNumeral, numeralAfter, numeral}
 use Rattle.text_rules.specs.Fields.{isNegative, unsigned, isMeasure, hundredths, measureIn}
 use Rattle.text_rules.proofs.Digits.{below-digits, digit-from, decimal-below, length-passes, numeral-digits, numeral-longest, numeral-shortest}

@@ -9,9 +9,9 @@ use lib.Dec.{eqb}
 use lib.IntN.{ℤ}
 use lib.ListN.{length, getD, drop, length-drop}
 use borrow.Author.Tests.{eqb-true}
+use Rattle.lists.proofs.Lists.{all-append}
+use Rattle.lists.proofs.Tests.{and-first, and-second, and-pass}
 use Rattle.metric_rules.specs.declared.Profile.{Profile}
-use Rattle.tree_rules.proofs.Lists.{all-append}
-use Rattle.tree_rules.proofs.Tests.{and-first, and-second, and-pass}
 use Rattle.text_rules.specs.Text.{lineFeed, parted, partAt, partsIn, isDigit, numeral}
 use Rattle.text_rules.specs.Fields.{isTag, isMeasure, measureIn}
 use Rattle.text_rules.proofs.Digits.{below-digits, above-decimal, numeral-digits, numeral-longest, numeral-shortest}

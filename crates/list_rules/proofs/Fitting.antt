@@ -12,11 +12,10 @@ use lib.ListN.{length}
 use mir.Syntax.{w32}
 use mir.Val.{SFits}
 use mir.Facts.{sfits-lit}
-use Rattle.metric_rules.specs.Lists.{every}
+use Rattle.lists.specs.Lists.{every, All}
+use Rattle.lists.proofs.Tests.{and-first, and-second}
 use Rattle.metric_rules.specs.Row.{IsProfile, measure, codeWord}
 use Rattle.metric_rules.proofs.Elements.{each-at}
-use Rattle.tree_rules.specs.Guided.{All}
-use Rattle.tree_rules.proofs.Tests.{and-first, and-second}
 use Rattle.text_rules.specs.Text.{partAt, partsIn, digitOf, isDigit, isNumeral, numeralAfter, numeral}
 use Rattle.text_rules.specs.Fields.{isTag, isNegative, unsigned, isMeasure, hundredths, measureIn}
 use Rattle.text_rules.proofs.Digits.{digit-below, numeral-digits, numeral-longest}

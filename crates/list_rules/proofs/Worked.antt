@@ -3,7 +3,7 @@ use Prim.Native.Nat.{ℕ}
 use mathlib.Core.Path.{_≡_, refl}
 use mathlib.Core.List.{List, [], _∷_}
 use lib.IntN.{pos, negℤ}
-use Rattle.metric_rules.specs.Lists.{every}
+use Rattle.lists.specs.Lists.{every}
 use Rattle.text_rules.specs.Text.{onto, parted, partAt, partsIn, digitOf, isDigit, isNumeral, numeralAfter, numeral}
 use Rattle.text_rules.specs.Fields.{isNegative, unsigned, isMeasure, hundredths, measureIn}
 use Rattle.list_rules.specs.Lines.{ListLine, isItemLine, itemTag, itemProfile, lineOf, linesFrom, linesOf}

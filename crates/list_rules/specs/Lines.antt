@@ -4,8 +4,8 @@ use mathlib.Core.Bool.{Bool, true, false, _&&_}
 use mathlib.Core.List.{List, [], _∷_}
 use lib.ListN.{length, take, drop}
 use lib.Dec.{eqb}
+use Rattle.lists.specs.Lists.{sameNumbers}
 use Rattle.metric_rules.specs.declared.Profile.{Profile}
-use Rattle.metric_rules.specs.Lists.{sameNumbers}
 use Rattle.text_rules.specs.Text.{lineFeed, parted, partAt, partsIn, numeral}
 use Rattle.text_rules.specs.Fields.{isTag, isMeasure, measureIn}
 

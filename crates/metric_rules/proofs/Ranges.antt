@@ -9,8 +9,8 @@ use lib.Dec.{leb, ltb}
 use lib.IntN.{ℤ, pos, negsuc}
 use lib.Signed.{leZ}
 use borrow.Author.Tests.{leb-true, leb-false, le-leb, lt-leb, ltb-true}
+use Rattle.lists.specs.Lists.{countFrom, every}
 use Rattle.metric_rules.specs.declared.Profile.{Profile}
-use Rattle.metric_rules.specs.Lists.{countFrom, every}
 use Rattle.metric_rules.specs.Row.{IsProfile, measure}
 use Rattle.metric_rules.specs.Validity.{nationalOf, lastNational, validTag, validMeasure, validMeasures}
 use Rattle.metric_rules.proofs.Elements.{elements, both-true}

@@ -1,4 +1,3 @@
-pub mod Lists
 pub mod Row
 pub mod Validity
 pub mod Distance

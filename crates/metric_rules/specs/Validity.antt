@@ -3,8 +3,8 @@ use Prim.Native.Nat.{ℕ, _/_, _%_, _^_}
 use mathlib.Core.Bool.{Bool, _&&_}
 use lib.IntN.{ℤ, natAbs}
 use lib.Dec.{leb}
+use Rattle.lists.specs.Lists.{every}
 use Rattle.metric_rules.specs.declared.Profile.{Profile}
-use Rattle.metric_rules.specs.Lists.{every}
 
 -- a tag is country × 10^12 + national
 unfoldable pub nationals : ℕ

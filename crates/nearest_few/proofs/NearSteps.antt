@@ -11,6 +11,7 @@ use borrow.Author.Tests.{le-leb, lt-leb}
 use native.Mathlib.Decide.{decLe}
 use native.Mathlib.Omega.{arith}
 use native.Mathlib.Nat.{add-comm}
+use Rattle.lists.proofs.Lists.{pairs-take}
 use Rattle.metric_rules.specs.declared.Profile.{Profile}
 use Rattle.metric_rules.specs.Row.{Row, thresholdOf}
 use Rattle.nearest_few.specs.declared.Nearby.{Nearby}
@@ -18,7 +19,6 @@ use Rattle.tree_rules.specs.Layout.{leftSize}
 use Rattle.search_rules.specs.Range.{Entry, entryKey, entryOf, ordered, toQuery, entersLeft, entersRight}
 use Rattle.search_rules.specs.Nearest.{Tally, keep, opens, taken, turn, halvesInTurn, nearestWithin, nearestTree}
 use Rattle.nearest_few.specs.Nearby.{tallyOf, Ready, Leaves, takenAt, nearInHalves}
-use Rattle.tree_rules.proofs.Lists.{pairs-take}
 use Rattle.tree_rules.proofs.Sorting.{NotAfter, sort-sorted, sort-of-sorted}
 use Rattle.search_rules.proofs.NearestLaws.{nearestStep, nearest-none, nearest-step, Counted, lives, nearest-counted, counted-turn, counted-taken}
 use Rattle.tree_rules.proofs.Parts.{left-size, part-rest}

@@ -10,14 +10,14 @@ use lib.Dec.{leb, ltb}
 use borrow.Author.Tests.{lt-ltb, le-ltb, le-leb, lt-leb, leb-true, leb-false}
 use native.Mathlib.Decide.{decLe}
 use native.Mathlib.Omega.{arith}
+use Rattle.lists.specs.Lists.{All}
+use Rattle.lists.proofs.Lists.{perm-length}
 use Rattle.metric_rules.specs.Row.{Row, tagOf}
 use Rattle.nearest_few.specs.declared.Nearby.{Nearby}
 use Rattle.tree_rules.specs.Sorting.{keyLe, insertBy, sortBy}
-use Rattle.tree_rules.specs.Guided.{All}
 use Rattle.search_rules.specs.Range.{Entry, entry, entryDistance, entryKey, ordered, entersLeft}
 use Rattle.search_rules.specs.Nearest.{Tally, keep, worst, opens}
 use Rattle.nearest_few.specs.Nearby.{reach, tallyOf, Ready, Leaves, takenAt}
-use Rattle.tree_rules.proofs.Lists.{perm-length}
 use Rattle.tree_rules.proofs.Sorting.{NotAfter, key-le-differ, insert-perm, insert-append}
 use Rattle.entries.proofs.Sliding.{sorted-of-ordered, front-ordered, insert-split, before-last}
 

@@ -7,11 +7,10 @@ use mathlib.Core.Path.{_≡_, sym, _∙_, ap, ap₂, subst⁻¹}
 use mathlib.Core.List.{List}
 use lib.ListN.{length, take, set}
 use lib.Seq.{sets}
+use Rattle.lists.specs.Lists.{countFrom, All}
 use Rattle.metric_rules.specs.declared.Profile.{Profile}
-use Rattle.metric_rules.specs.Lists.{countFrom}
 use Rattle.metric_rules.specs.Row.{Row, rowOf, zeroRow}
 use Rattle.metric_rules.specs.Distance.{distance}
-use Rattle.tree_rules.specs.Guided.{All}
 use Rattle.tree_rules.specs.Layout.{layout, cost}
 use Rattle.bucket_rules.specs.Geometry.{room, tableRows, workRows}
 use Rattle.bucket_rules.specs.Table.{Table, orderOf, tableSpace, putBucket, emptied, cleared}

@@ -3,7 +3,7 @@ ghost use mathlib.Core.Path.{_≡_};
 ghost use Prim.Native.Nat.{_+_, _≤_, _<_};
 ghost use lib.ListN.{length};
 ghost use lib.Seq.{sets};
-ghost use Rattle.metric_rules.specs.Lists.{countFrom};
+ghost use Rattle.lists.specs.Lists.{countFrom};
 ghost use Rattle.metric_rules.specs.Row.{zeroRow};
 ghost use Rattle.bucket_rules.specs.Geometry.{workRows};
 ghost use Rattle.bucket_rules.specs.Table.{orderOf, emptied, cleared};

@@ -8,7 +8,7 @@ use lib.Dec.{eqb}
 use lib.ListN.{length, getD, drop, drop-of-length-le}
 use lib.Seq.{drop-cons}
 use borrow.Author.Tests.{eq-eqb, ne-eqb}
-use Rattle.metric_rules.specs.Lists.{alike, sameNumbers}
+use Rattle.lists.specs.Lists.{alike, sameNumbers}
 
 pub other-length : (xs ys : List ℕ) → (length xs ≡ length ys → ⊥) → sameNumbers xs ys ≡ false
 unfolding sameNumbers alike

@@ -2,7 +2,7 @@
 ghost use mathlib.Core.Path.{_≡_};
 ghost use Prim.Native.Nat.{_≤_};
 ghost use lib.ListN.{length};
-ghost use Rattle.metric_rules.specs.Lists.{sameNumbers};
+ghost use Rattle.lists.specs.Lists.{sameNumbers};
 ghost use Rattle.list_rules.specs.Lines.{listHeader, hasHeader, itemLines};
 ghost use Rattle.list_rules.specs.ReadList.{reading, readListReply, tableAfterReadList, workAfterReadList};
 use add::add;

@@ -7,10 +7,10 @@ use mathlib.Core.List.{List, _++_, append-assoc}
 use lib.ListN.{length, take, drop, replicate, length-take, length-drop, replicate-append-replicate}
 use lib.Seq.{drop-drop, drop-append-add, sets, sets-eq}
 use borrow.Rule.Slice.PartMut.{putMid}
+use Rattle.lists.specs.Lists.{All}
 use Rattle.metric_rules.specs.Row.{Row, zeroRow}
 use Rattle.tree_rules.proofs.Parts.{part-behind, put-behind}
 use Rattle.metric_rules.specs.Distance.{Space, distance}
-use Rattle.tree_rules.specs.Guided.{All}
 use Rattle.tree_rules.specs.Layout.{layout}
 use Rattle.tree_rules.proofs.Layouts.{layout-length}
 use Rattle.bucket_rules.specs.Geometry.{room, firstSlot, tableRows}

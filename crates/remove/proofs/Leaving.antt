@@ -8,8 +8,8 @@ use mathlib.Core.Bool.{true}
 use mathlib.Core.List.{List, []}
 use lib.ListN.{length, getD}
 use lib.Seq.{getD-take, getD-drop}
+use Rattle.lists.proofs.Lists.{perm-length}
 use Rattle.metric_rules.specs.Row.{Row, rowWidth}
-use Rattle.tree_rules.proofs.Lists.{perm-length}
 use Rattle.bucket_rules.specs.Geometry.{room, firstSlot, tableRows}
 use Rattle.bucket_rules.specs.Table.{Table, rowAt, orderOf, builtOf, liveOf, slotsOf, liveSlots}
 use Rattle.bucket_rules.specs.Checks.{sizePasses}

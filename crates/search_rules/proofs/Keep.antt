@@ -8,11 +8,11 @@ use mathlib.Core.List.{List, [], _∷_, _++_, foldl, List·Permᴰ, List·Perm�
 use lib.ListN.{length, take, getD, length-take}
 use lib.Seq.{take-take, take-all, take-at}
 use native.Mathlib.Omega.{arith}
+use Rattle.lists.specs.Lists.{All}
+use Rattle.lists.proofs.Lists.{all-weaken, all-always, all-append, all-take, all-perm, pairs-of-all, pairs-take}
 use Rattle.tree_rules.specs.Sorting.{keyLe, insertBy, sortBy}
-use Rattle.tree_rules.specs.Guided.{All}
 use Rattle.search_rules.specs.Range.{Entry, entry, entryDistance, entryKey, ordered, Pair}
 use Rattle.search_rules.specs.Nearest.{keep, worst}
-use Rattle.tree_rules.proofs.Lists.{all-weaken, all-always, all-append, all-take, all-perm, pairs-of-all, pairs-take}
 use Rattle.tree_rules.proofs.Sorting.{NotAfter, Sorted, Told, sort-perm, sort-length, sort-sorted, sort-of-sorted, sort-permuted, key-le-cases, insert-behind}
 
 pair-form : (e : Entry) → Pair e → e ≡ entry (getD e 0 0) (entryDistance e)

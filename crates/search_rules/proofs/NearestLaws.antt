@@ -9,15 +9,15 @@ use lib.Dec.{leb, ltb}
 use borrow.Author.Tests.{ltb-false}
 use native.Mathlib.Omega.{arith}
 use native.Mathlib.Nat.{add-comm}
+use Rattle.lists.specs.Lists.{select, All}
+use Rattle.lists.proofs.Lists.{all-weaken, all-always, all-append, all-map}
 use Rattle.metric_rules.specs.declared.Profile.{Profile}
-use Rattle.metric_rules.specs.Lists.{select}
 use Rattle.metric_rules.specs.Row.{Row, thresholdOf}
 use Rattle.metric_rules.specs.Distance.{Metric}
 use Rattle.tree_rules.specs.Layout.{leftSize}
-use Rattle.tree_rules.specs.Guided.{All, fromSlot, GuidedWithin, Guided}
+use Rattle.tree_rules.specs.Guided.{fromSlot, GuidedWithin, Guided}
 use Rattle.search_rules.specs.Range.{Entry, entry, entryDistance, toQuery, entryOf, entersLeft, entersRight, Pair}
 use Rattle.search_rules.specs.Nearest.{keep, Tally, worst, opens, taken, turn, halvesInTurn, nearestWithin, nearestTree}
-use Rattle.tree_rules.proofs.Lists.{all-weaken, all-always, all-append, all-map}
 use Rattle.search_rules.proofs.Selecting.{select-append}
 use Rattle.search_rules.proofs.Pruning.{left-out, right-out}
 use Rattle.search_rules.proofs.Keep.{Kept, keep-length, keep-kept, keep-of-kept, keep-permuted, keep-absorbs, keep-drops, append-swap}

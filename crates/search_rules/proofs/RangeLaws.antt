@@ -7,14 +7,14 @@ use mathlib.Core.List.{List, [], _∷_, _++_, map, map-append}
 use lib.ListN.{length, take, drop, length-take, length-drop, take-append-drop, length-append}
 use borrow.Author.Tests.{lt-leb}
 use native.Mathlib.Omega.{arith}
+use Rattle.lists.specs.Lists.{select, All}
+use Rattle.lists.proofs.Lists.{all-weaken, all-append}
 use Rattle.metric_rules.specs.declared.Profile.{Profile}
-use Rattle.metric_rules.specs.Lists.{select}
 use Rattle.metric_rules.specs.Row.{Row, thresholdOf}
 use Rattle.metric_rules.specs.Distance.{Metric}
 use Rattle.tree_rules.specs.Layout.{leftSize}
-use Rattle.tree_rules.specs.Guided.{All, GuidedWithin, Guided}
+use Rattle.tree_rules.specs.Guided.{GuidedWithin, Guided}
 use Rattle.search_rules.specs.Range.{Entry, entry, Met, nothing, both, toQuery, entryOf, isHit, visited, entersLeft, entersRight, rangeWithin, rangeTree, Pair}
-use Rattle.tree_rules.proofs.Lists.{all-weaken, all-append}
 use Rattle.search_rules.proofs.Selecting.{select-append, select-none}
 use Rattle.search_rules.proofs.Pruning.{left-out, right-out}
 

@@ -3,8 +3,7 @@
 use mathlib.Core.Path.{_≡_, refl, ap}
 use mathlib.Core.Bool.{Bool, true, false}
 use mathlib.Core.List.{List, [], _∷_, _++_}
-use Rattle.metric_rules.specs.Lists.{select}
-use Rattle.tree_rules.specs.Guided.{All}
+use Rattle.lists.specs.Lists.{select, All}
 
 module _ {A : Type 0} (test : A → Bool) where
   pub select-append : (xs ys : List A) → select test (xs ++ ys) ≡ select test xs ++ select test ys

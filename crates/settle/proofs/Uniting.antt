@@ -7,9 +7,9 @@ use mathlib.Core.Path.{_≡_, sym, _∙_, ap, subst}
 use mathlib.Core.List.{List, [], _∷_, _++_, flatten, append-nil}
 use lib.ListN.{length, take, length-append}
 use lib.Seq.{sets}
+use Rattle.lists.specs.Lists.{All}
 use Rattle.metric_rules.specs.Row.{Row, zeroRow}
 use Rattle.metric_rules.specs.Distance.{distance}
-use Rattle.tree_rules.specs.Guided.{All}
 use Rattle.tree_rules.specs.Layout.{layout, cost}
 use Rattle.bucket_rules.specs.Geometry.{room, tableRows, workRows}
 use Rattle.bucket_rules.specs.Table.{Table, orderOf, tableSpace, liveSlots, putBucket, emptied, cleared}

@@ -4,7 +4,7 @@ use mathlib.Core.Bool.{Bool, true, false, _&&_}
 use mathlib.Core.List.{List, [], _∷_}
 use lib.ListN.{length}
 use lib.Dec.{leb, eqb}
-use Rattle.metric_rules.specs.Lists.{every, select}
+use Rattle.lists.specs.Lists.{every, select}
 use Rattle.metric_rules.specs.Row.{Row, markOf, isLive}
 use Rattle.metric_rules.specs.Distance.{validSpace}
 use Rattle.bucket_rules.specs.Refusals.{areaShort, tableBroken}

@@ -4,7 +4,7 @@ ghost use mathlib.Core.Bool.{true};
 ghost use Prim.Native.Nat.{_<_};
 ghost use lib.Dec.{leb};
 ghost use lib.ListN.{length};
-ghost use Rattle.metric_rules.specs.Lists.{every};
+ghost use Rattle.lists.specs.Lists.{every};
 ghost use Rattle.bucket_rules.specs.Geometry.{bucketsOf, sizesRow, workRows};
 ghost use Rattle.bucket_rules.specs.Table.{orderOf, builtOf, liveOf};
 ghost use Rattle.bucket_rules.specs.Checks.{sizePasses, sizesPass, marksPass, tableRefusal, readRefusal};

@@ -10,9 +10,9 @@ use lib.Dec.{leb, ltb}
 use lib.ListN.{length, getD, drop, drop-of-length-le}
 use lib.Seq.{drop-cons}
 use borrow.Author.Tests.{lt-ltb, le-ltb, le-leb, lt-leb, ltb-true, ltb-false, leb-true, leb-false}
-use Rattle.tree_rules.proofs.Tests.{and-first, and-second}
+use Rattle.lists.specs.Lists.{every}
+use Rattle.lists.proofs.Tests.{and-first, and-second}
 use Rattle.text_rules.specs.Text.{digitOf, isDigit, isNumeral, numeralAfter}
-use Rattle.metric_rules.specs.Lists.{every}
 
 pub low-value : (b : ℕ) → b < 58 → digitOf b ≡ b - 48
 unfolding digitOf

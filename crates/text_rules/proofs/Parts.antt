@@ -8,8 +8,8 @@ use mathlib.Core.Bool.{Bool, true, false}
 use lib.Dec.{eqb}
 use lib.ListN.{length, getD}
 use borrow.Author.Tests.{ne-eqb, eq-eqb, eqb-true}
-use Rattle.tree_rules.specs.Guided.{All}
-use Rattle.tree_rules.proofs.Lists.{all-append}
+use Rattle.lists.specs.Lists.{All}
+use Rattle.lists.proofs.Lists.{all-append}
 use Rattle.text_rules.specs.Text.{onto, parted, digits}
 
 -- no separator among some bytes

@@ -5,7 +5,7 @@ use mathlib.Core.Bool.{Bool, true, false, _&&_, _||_}
 use mathlib.Core.List.{List, [], _∷_, _++_}
 use lib.ListN.{length, getD}
 use lib.Dec.{leb, ltb, eqb}
-use Rattle.metric_rules.specs.Lists.{every}
+use Rattle.lists.specs.Lists.{every}
 
 abbrev pub lineFeed : ℕ
 lineFeed = 10

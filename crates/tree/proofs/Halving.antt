@@ -9,12 +9,12 @@ use lib.Dec.{leb}
 use lib.ListN.{length, length-map, length-set, length-drop, getD, set, take, drop, replicate, replicate-append-replicate}
 use lib.Seq.{drop-cons}
 use borrow.Author.Tests.{leb-true, leb-false}
+use Rattle.lists.proofs.Lists.{Pairs, all-take, all-drop, pairs-take, pairs-drop}
 use Rattle.metric_rules.specs.declared.Profile.{Profile}
 use Rattle.metric_rules.specs.Row.{Row, rowWidth, zeroRow}
 use Rattle.tree_rules.specs.Layout.{leftSize, cost, placed, layoutWithin}
 use Rattle.working_rows.specs.Working.{rankedOf, RanksApart, arranged, lastMeasured}
 use Rattle.tree_rules.specs.Guided.{Whole}
-use Rattle.tree_rules.proofs.Lists.{Pairs, all-take, all-drop, pairs-take, pairs-drop}
 use Rattle.tree_rules.proofs.Cost.{cost-few, cost-halves}
 use Rattle.tree_rules.proofs.Layouts.{layoutOf}
 use Rattle.tree_rules.proofs.Parts.{leftPart, left-part, left-part-length, leftBack, left-back-length, rightPart, right-part, right-part-length, rightBack, right-back, right-back-length, take-set-first, drop-set-first}

@@ -4,12 +4,12 @@ use Prim.Native.Nat.{ℕ, _^_, _<_}
 use native.Mathlib.Omega.{arith}
 use mathlib.Core.Path.{_≡_, sym, subst}
 use mathlib.Core.List.{List, [], _∷_, foldl, Permᴰ·symm}
+use Rattle.lists.specs.Lists.{All}
+use Rattle.lists.proofs.Lists.{all-append, all-append-left, all-append-right, all-perm}
 use Rattle.metric_rules.specs.declared.Profile.{Profile}
 use Rattle.metric_rules.specs.Row.{Row, IsRow, markOf, withThreshold}
 use Rattle.metric_rules.proofs.Codec.{mark-with-mark, with-mark-fits, with-threshold-fits}
 use Rattle.tree_rules.specs.Layout.{Ranked, rankedFrom, placed, fromPivot, lastDistance, layout}
-use Rattle.tree_rules.specs.Guided.{All}
-use Rattle.tree_rules.proofs.Lists.{all-append, all-append-left, all-append-right, all-perm}
 use Rattle.tree_rules.proofs.Layouts.{layoutOf, layout-ranked, layout-by-nodes}
 
 -- a row of mark 0

@@ -5,10 +5,11 @@ use native.Mathlib.Omega.{arith}
 use mathlib.Core.Path.{_≡_, refl, sym, _∙_, ap, ap₂}
 use mathlib.Core.Bool.{Bool, true, false}
 use mathlib.Core.List.{List, [], _∷_, foldl, map, foldl-map, List·Permᴰ, List·Permᴰ·nil, List·Permᴰ·cons, List·Permᴰ·swap, List·Permᴰ·trans}
+use Rattle.lists.specs.Lists.{All}
 use Rattle.metric_rules.specs.declared.Profile.{Profile}
 use Rattle.metric_rules.specs.Row.{Row, tagOf}
 use Rattle.tree_rules.specs.Sorting.{keyLe}
-use Rattle.tree_rules.specs.Guided.{All, fromSlot}
+use Rattle.tree_rules.specs.Guided.{fromSlot}
 use Rattle.tree_rules.proofs.Sorting.{key-le-refl, key-le-trans, key-le-flip, key-le-antisym, key-le-less, key-le-same}
 
 -- the key that stands later in the order

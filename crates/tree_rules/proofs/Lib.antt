@@ -1,6 +1,4 @@
--- The laws of trees, for the code and for the crates above: lists and sorting, the layout, c(n), the test in place, and marks.
-pub mod Lists
-pub mod Tests
+-- The laws of trees, for the code and for the crates above: sorting, the layout, c(n), the test in place, and marks.
 pub mod Parts
 pub mod Filled
 pub mod Stores
@@ -13,4 +11,3 @@ pub mod LastKey
 pub mod InPlace
 pub mod Marks
 pub mod Built
-pub mod Distinct

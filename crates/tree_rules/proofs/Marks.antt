@@ -5,8 +5,8 @@ use mathlib.Core.Path.{_≡_, refl, sym, _∙_, ap, ap₂}
 use mathlib.Core.List.{List, [], _∷_, map}
 use lib.ListN.{getD, set}
 use lib.Seq.{map-set-same, set-set}
+use Rattle.lists.specs.Lists.{alike, sameNumbers}
 use Rattle.metric_rules.specs.declared.Profile.{Profile}
-use Rattle.metric_rules.specs.Lists.{alike, sameNumbers}
 use Rattle.metric_rules.specs.Row.{Row, withMark, markAt}
 use Rattle.tree_rules.specs.Layout.{Ranked, rankedFrom, layout, isLayout}
 use Rattle.tree_rules.proofs.Placed.{placed-with-mark}

@@ -5,14 +5,10 @@ use Prim.Native.Nat.{ℕ, zero, suc, _≤_}
 use mathlib.Core.Path.{_≡_}
 use mathlib.Core.List.{List, [], _∷_}
 use lib.ListN.{length, take, drop}
+use Rattle.lists.specs.Lists.{All}
 use Rattle.metric_rules.specs.declared.Profile.{Profile}
 use Rattle.metric_rules.specs.Row.{Row, rowWidth, profileOf, thresholdOf}
 use Rattle.tree_rules.specs.Layout.{leftSize}
-
--- every element has a property
-abbrev pub All : {A : Type 0} → (A → Type 0) → List A → Type 0
-All P [] = Unit {0}
-All P (x ∷ xs) = P x × All P xs
 
 -- every row has all its words
 abbrev pub Whole : List Row → Type 0

@@ -4,8 +4,8 @@ use mathlib.Core.Bool.{Bool, true, false}
 use mathlib.Core.List.{List, [], _∷_, _++_, map, foldl}
 use lib.ListN.{length, take, drop}
 use lib.Dec.{leb}
+use Rattle.lists.specs.Lists.{alike, sameNumbers}
 use Rattle.metric_rules.specs.declared.Profile.{Profile}
-use Rattle.metric_rules.specs.Lists.{alike, sameNumbers}
 use Rattle.metric_rules.specs.Row.{Row, tagOf, profileOf, withThreshold, withMark}
 use Rattle.tree_rules.specs.Sorting.{sortBy}
 

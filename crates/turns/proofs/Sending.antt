@@ -4,7 +4,7 @@ use Prim.Native.Nat.{ℕ, _+_, _-_, _/_, _≤_, _<_}
 use mathlib.Core.Path.{_≡_, refl, sym, ap, ap₂, subst, _∙_}
 use mathlib.Core.Bool.{Bool, true, false}
 use mathlib.Core.List.{List, [], _∷_, _++_, append-assoc, append-nil}
-use Rattle.tree_rules.proofs.Lists.{all-at}
+use Rattle.lists.proofs.Lists.{all-at}
 use lib.ListN.{length, take, getD, set, length-append}
 use lib.Seq.{length-take-le, getD-take}
 use lib.Dec.{leb, eqb}

@@ -5,7 +5,7 @@ use mathlib.Core.Bool.{true, false}
 use mathlib.Core.List.{List, [], _∷_, _++_}
 use lib.ListN.{length, take, getD}
 use lib.Dec.{leb, eqb}
-use Rattle.tree_rules.specs.Guided.{All}
+use Rattle.lists.specs.Lists.{All}
 use Rattle.turns.specs.declared.Turn.{Turn}
 
 -- a part: where it starts, how many slots it has, and by how much the query is on the other side of its threshold

@@ -9,7 +9,7 @@ use native.Mathlib.Numerals.{add-one}
 use lib.ListN.{length, getD, take, drop, length-drop, take-append-drop, drop-of-length-le}
 use lib.Seq.{drop-cons, take-suc, drop-drop, getD-drop, drop-nil}
 use borrow.Author.Tests.{le-leb, lt-leb, eq-eqb, ne-eqb}
-use Rattle.tree_rules.proofs.Lists.{all-append}
+use Rattle.lists.proofs.Lists.{all-append}
 use Rattle.text_rules.specs.Text.{onto, parted, partAt}
 use Rattle.text_rules.proofs.Parts.{Free, parted-some, parted-separator, parted-byte, parted-one, parted-first}
 use Rattle.yard_fields.specs.Found.{partsFrom, PartEnd}

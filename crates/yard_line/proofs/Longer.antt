@@ -8,8 +8,8 @@ use native.Mathlib.Omega.{arith}
 use lib.Dec.{ltb, eqb}
 use lib.ListN.{length, getD, length-drop}
 use borrow.Author.Tests.{eqb-true, eqb-false}
-use Rattle.metric_rules.specs.Lists.{total}
-use Rattle.tree_rules.proofs.Tests.{and-first}
+use Rattle.lists.specs.Lists.{total}
+use Rattle.lists.proofs.Tests.{and-first}
 use Rattle.yard_rules.specs.declared.Header.the-variants as header
 use Rattle.yard_rules.specs.declared.Command.the-variants as command
 use Rattle.text_rules.specs.Text.{space, point, minus, onto, parted, partAt, partsIn, isNumeral, numeral}

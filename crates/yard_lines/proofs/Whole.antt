@@ -5,7 +5,7 @@ use mathlib.Core.Bool.{Bool, true, false}
 use mathlib.Core.List.{List, [], _∷_, _++_, append-assoc, append-nil}
 use lib.Dec.{eqb}
 use borrow.Author.Tests.{eqb-true, eqb-false}
-use Rattle.tree_rules.proofs.Lists.{all-append}
+use Rattle.lists.proofs.Lists.{all-append}
 use Rattle.text_rules.specs.Text.{lineFeed, parted}
 use Rattle.yard_rules.specs.Spoken.{lastKept, firstKept, linesIn}
 use Rattle.text_rules.proofs.Parts.{Free, parted-one, parted-first}

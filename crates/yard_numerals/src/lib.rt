@@ -3,7 +3,7 @@ ghost use mathlib.Core.Path.{_≡_};
 ghost use mathlib.Core.Bool.{true};
 ghost use Prim.Native.Nat.{_≤_, _<_, _^_};
 ghost use lib.ListN.{length};
-ghost use Rattle.metric_rules.specs.Lists.{every};
+ghost use Rattle.lists.specs.Lists.{every};
 ghost use Rattle.text_rules.specs.Text.{digitOf, isDigit, isNumeral, numeral};
 ghost use Rattle.text_rules.specs.Fields.{isTag};
 ghost use Rattle.yard_rules.specs.Line.{isNumber};

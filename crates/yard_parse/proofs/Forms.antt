@@ -9,9 +9,9 @@ use lib.ListN.{length, getD, take, drop, length-drop}
 use lib.Seq.{take-all}
 use native.Mathlib.Nat.{pow-le-pow-right, lt-of-lt-of-le}
 use borrow.Author.Tests.{eq-eqb, ne-eqb}
-use Rattle.metric_rules.specs.Lists.{every}
-use Rattle.tree_rules.proofs.Lists.{all-take, all-drop}
-use Rattle.tree_rules.proofs.Tests.{every-all, all-every, and-first, and-second}
+use Rattle.lists.specs.Lists.{every}
+use Rattle.lists.proofs.Lists.{all-take, all-drop}
+use Rattle.lists.proofs.Tests.{every-all, all-every, and-first, and-second}
 use Rattle.text_rules.specs.Text.{minus, partAt, partsIn, isNumeral, numeral}
 use Rattle.text_rules.specs.Fields.{isNegative, unsigned, isMeasure}
 use Rattle.text_rules.proofs.Signs.{unsigned-minus, unsigned-plain}

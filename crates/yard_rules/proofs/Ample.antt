@@ -9,8 +9,8 @@ use native.Mathlib.Nat.{le-trans}
 use lib.Dec.{leb}
 use lib.ListN.{length}
 use borrow.Author.Tests.{le-leb, leb-true}
+use Rattle.lists.proofs.Tests.{and-pass}
 use Rattle.metric_rules.specs.Distance.{validSpace}
-use Rattle.tree_rules.proofs.Tests.{and-pass}
 use Rattle.bucket_rules.specs.Refusals.{badOrder, badMetric, areaShort}
 use Rattle.bucket_rules.specs.Geometry.{validOrder, room, firstSlot, tableRows, workRows}
 use Rattle.bucket_rules.specs.Table.{Table, orderOf}

@@ -1,7 +1,7 @@
 -- A conversation with every definition that it goes by opened, so that antt computes it; the one place that lists them.
 use Prim.Native.Nat.{ℕ}
 use mathlib.Core.List.{List, flatten}
-use Rattle.metric_rules.specs.Lists.{countFrom, total, select, every}
+use Rattle.lists.specs.Lists.{countFrom, total, select, every}
 use Rattle.metric_rules.specs.Row.{rowWidth, tagAt, measuresAt, codeAt, thresholdAt, markAt, zeroRow, word, wide, words, tagOf, profileOf, thresholdOf, markOf, isLive, measure, codeWord, rowOf, withThreshold, withMark}
 use Rattle.metric_rules.specs.Validity.{nationals, countryOf, nationalOf, lastCountry, lastNational, validTag, measureLimit, validMeasure, validMeasures}
 use Rattle.metric_rules.specs.Distance.{mostDistance, saturated, gap, measureDistance, differing, codeDistance, largest, worstDistance, distanceBy, distance, metricAt, spaceOf, lastMetric, validSpace}

@@ -5,10 +5,10 @@ use mathlib.Core.Path.{_≡_, refl, ap, ap₂, sym, _∙_}
 use mathlib.Core.List.{List, [], _∷_, _++_, map, append-assoc, append-nil}
 use native.Mathlib.Omega.{arith}
 use lib.ListN.{take, drop, getD}
+use Rattle.lists.specs.Lists.{All}
+use Rattle.lists.proofs.Lists.{all-append}
 use Rattle.search_rules.specs.Range.{Entry}
 use Rattle.bucket_rules.specs.declared.Searched.{Searched}
-use Rattle.tree_rules.specs.Guided.{All}
-use Rattle.tree_rules.proofs.Lists.{all-append}
 use Rattle.text_rules.specs.Text.{lineFeed, space, parted, numeral, digits, decimal}
 use Rattle.yard_rules.specs.Reply.{spaced, replyLine, replyNumbers, entryText, entriesText, searchText}
 use Rattle.yard_rules.specs.Spoken.{lastKept}

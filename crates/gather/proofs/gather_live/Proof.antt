@@ -9,7 +9,7 @@ use mathlib.Core.List.{List, [], _∷_, _++_}
 use Prim.Native.Nat.{ℕ, _+_, _-_, _≤_, _<_}
 use lib.ListN.{length, take, set, getD, length-append, length-set}
 use lib.Seq.{sets, take-all}
-use Rattle.metric_rules.specs.Lists.{select}
+use Rattle.lists.specs.Lists.{select}
 use Rattle.metric_rules.specs.Row.{Row, isLive}
 use Rattle.tree_rules.proofs.Stores.{sets-more}
 use Rattle.gather.proofs.Selected.{selected-next, passed-over, selected-within}

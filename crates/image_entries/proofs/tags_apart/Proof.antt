@@ -6,9 +6,8 @@ use mathlib.Core.Bool.{false}
 use mathlib.Core.List.{List, [], map}
 use Prim.Native.Nat.{ℕ, _+_, _-_, _/_, _≤_, _<_}
 use lib.ListN.{length, length-map, drop, getD}
-use Rattle.metric_rules.specs.Lists.{distinct}
-use Rattle.tree_rules.specs.Guided.{All}
-use Rattle.tree_rules.proofs.Lists.{Pairs, all-weaken, perm-map}
+use Rattle.lists.specs.Lists.{distinct, All}
+use Rattle.lists.proofs.Lists.{Pairs, all-weaken, perm-map}
 use Rattle.tree_rules.proofs.Parts.{getD-mapped}
 use Rattle.search_rules.specs.Range.{Entry, Pair, ordered}
 use Rattle.image_entries.specs.Entries.{entryTag, places, Fresh}

@@ -6,7 +6,7 @@ use mathlib.Core.Bool.{Bool}
 use mathlib.Core.List.{List, map}
 use native.Mathlib.Omega.{arith}
 use borrow.Author.Tests.{not-true, not-false}
-use Rattle.metric_rules.specs.Lists.{total, countFrom, every}
+use Rattle.lists.specs.Lists.{total, countFrom, every}
 use Rattle.bucket_rules.specs.Geometry.{bucketsOf}
 use Rattle.bucket_rules.proofs.Buckets.{bucketsFrom, buckets-all, bucket-fails, bucket-passes, buckets-pass}
 use Rattle.image_rules.specs.Bytes.{headerFields, headerBytes, sizesEnd}

@@ -5,7 +5,7 @@ use mathlib.Core.List.{map}
 use borrow.Author.Needs.{needs}
 use borrow.Author.Tests.{not-true, not-false}
 use lib.Dec.{leb}
-use Rattle.metric_rules.specs.Lists.{total}
+use Rattle.lists.specs.Lists.{total}
 use Rattle.bucket_rules.specs.Geometry.{room, bucketsOf}
 use Rattle.bucket_rules.specs.Checks.{sizesPass}
 use Rattle.image_rules.specs.Read.{liveIn}

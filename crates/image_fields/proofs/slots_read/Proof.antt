@@ -10,9 +10,9 @@ use borrow.Author.Tests.{not-true, not-false}
 use lib.Dec.{eqb}
 use lib.ListN.{length, getD, take, drop}
 use lib.Seq.{take-all}
-use Rattle.metric_rules.specs.Lists.{countFrom, every, select}
+use Rattle.lists.specs.Lists.{countFrom, every, select}
+use Rattle.lists.proofs.Tests.{scan-fails, scan-passes, scan-ends}
 use Rattle.metric_rules.specs.Row.{Row, markOf, isLive}
-use Rattle.tree_rules.proofs.Tests.{scan-fails, scan-passes, scan-ends}
 use Rattle.image_rules.specs.Read.{rowIn}
 use Rattle.image_rules.specs.Load.{fieldsPass}
 use Rattle.image_fields.specs.SlotsRead.{slotsRead}

@@ -5,7 +5,7 @@ use mathlib.Core.List.{List, [], _++_, map}
 use native.Mathlib.Omega.{arith}
 use lib.ListN.{length, getD, replicate, length-append, length-replicate, length-set}
 use lib.Seq.{paste}
-use Rattle.metric_rules.specs.Lists.{countFrom}
+use Rattle.lists.specs.Lists.{countFrom}
 use Rattle.metric_rules.specs.Row.{Row, zeroRow}
 use Rattle.image_rules.specs.Read.{rowIn}
 use Rattle.image_read.proofs.Slots.{length-counted}

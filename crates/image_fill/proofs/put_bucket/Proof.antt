@@ -6,7 +6,7 @@ use native.Mathlib.Omega.{arith}
 use borrow.Author.Needs.{needs}
 use borrow.Rule.Slice.PartMut.{putMid, same-len-mid}
 use lib.ListN.{length, take, drop, replicate, length-take, length-drop}
-use Rattle.metric_rules.specs.Lists.{countFrom}
+use Rattle.lists.specs.Lists.{countFrom}
 use Rattle.metric_rules.specs.Row.{Row, zeroRow}
 use Rattle.bucket_rules.specs.Geometry.{room, firstSlot}
 use Rattle.bucket_rules.specs.Table.{Table, putSizes}

@@ -4,7 +4,7 @@ use mathlib.Core.Path.{_≡_, refl, sym, _∙_, ap}
 use mathlib.Core.List.{List, foldl}
 use native.Mathlib.Omega.{arith}
 use lib.ListN.{length}
-use Rattle.metric_rules.specs.Lists.{total, countFrom}
+use Rattle.lists.specs.Lists.{total, countFrom}
 use Rattle.bucket_rules.specs.Geometry.{room, bucketsOf}
 use Rattle.bucket_rules.specs.Table.{Table, putBucket}
 use Rattle.bucket_rules.proofs.Buckets.{bucketsFrom, buckets-all, buckets-next, buckets-end}

@@ -3,7 +3,7 @@ use mathlib.Core.Path.{_∙_, sym}
 use mathlib.Core.List.{map}
 use native.Mathlib.Omega.{arith}
 use lib.ListN.{List·getD-eq-default}
-use Rattle.metric_rules.specs.Lists.{countFrom}
+use Rattle.lists.specs.Lists.{countFrom}
 use Rattle.metric_rules.specs.Row.{rowWidth, zeroRow}
 use Rattle.image_rules.specs.Read.{rowIn}
 use Rattle.image_read.proofs.Slots.{counted-at, length-counted, few-slots}

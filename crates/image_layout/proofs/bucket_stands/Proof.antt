@@ -5,11 +5,10 @@ use mathlib.Core.Path.{_≡_, sym, _∙_, ap, subst}
 use mathlib.Core.List.{List, map}
 use Prim.Native.Nat.{ℕ, _+_, _≤_}
 use lib.ListN.{length}
+use Rattle.lists.specs.Lists.{distinct, All}
 use Rattle.metric_rules.specs.declared.Profile.{Profile}
-use Rattle.metric_rules.specs.Lists.{distinct}
 use Rattle.metric_rules.specs.Row.{Row}
 use Rattle.metric_rules.specs.Distance.{distance, spaceOf}
-use Rattle.tree_rules.specs.Guided.{All}
 use Rattle.search_rules.specs.Range.{Entry, ordered}
 use Rattle.image_entries.specs.Entries.{entryTag, Fresh, IsEntry, slotEntries, partFault}
 use Rattle.image_entries.specs.InImage.{slotIn, slotsAt}

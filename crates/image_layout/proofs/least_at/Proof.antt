@@ -7,7 +7,7 @@ use mathlib.Core.List.{List, []}
 use Prim.Native.Nat.{ℕ, _+_, _-_, _≤_, _<_}
 use lib.ListN.{length, getD}
 use lib.Seq.{take-all}
-use Rattle.tree_rules.specs.Guided.{All}
+use Rattle.lists.specs.Lists.{All}
 use Rattle.search_rules.specs.Range.{Entry}
 use Rattle.image_entries.proofs.Arranging.{Least, least-with, least-moved}
 use Rattle.image_layout.proofs.least_at.Statement.{statement}

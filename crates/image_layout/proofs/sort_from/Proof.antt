@@ -1,7 +1,7 @@
 -- Entries with their distances are pairs, so that the sort gives their order. Assumes nothing.
 use mathlib.Core.Path.{refl, sym, _∙_, ap, subst}
-use Rattle.tree_rules.specs.Guided.{All}
-use Rattle.tree_rules.proofs.Lists.{all-map, all-always}
+use Rattle.lists.specs.Lists.{All}
+use Rattle.lists.proofs.Lists.{all-map, all-always}
 use Rattle.metric_rules.specs.Distance.{distance, spaceOf}
 use Rattle.search_rules.specs.Range.{Entry, Pair, entry, ordered}
 use Rattle.image_entries.specs.Entries.{measuredIn}

@@ -6,7 +6,7 @@ use borrow.Author.Needs.{needs}
 use borrow.Author.Tests.{leb-true, leb-false, lt-ltb, le-ltb, eq-eqb, ne-eqb, not-true, not-false}
 use lib.Dec.{leb, ltb}
 use lib.ListN.{length}
-use Rattle.metric_rules.specs.Lists.{total}
+use Rattle.lists.specs.Lists.{total}
 use Rattle.metric_rules.specs.Distance.{validSpace}
 use Rattle.bucket_rules.specs.Geometry.{validOrder}
 use Rattle.image_rules.specs.Bytes.{headerFields, headerBytes}

@@ -6,7 +6,7 @@ use native.Mathlib.Omega.{arith}
 use borrow.Author.Needs.{needs}
 use borrow.Author.Tests.{leb-true, leb-false, le-leb, lt-leb, eq-eqb, ne-eqb, not-true, not-false}
 use lib.ListN.{length}
-use Rattle.metric_rules.specs.Lists.{total}
+use Rattle.lists.specs.Lists.{total}
 use Rattle.bucket_rules.specs.Geometry.{tableRows}
 use Rattle.bucket_rules.specs.Checks.{sizesPass}
 use Rattle.image_rules.specs.Bytes.{tagFields, recordFields, tagBytes, recordBytes, sizesEnd, imageLength}

@@ -4,7 +4,7 @@ use mathlib.Core.Path.{_≡_, sym, ap, _∙_}
 use mathlib.Core.Bool.{Bool, _&&_}
 use borrow.Author.Needs.{needs}
 use borrow.Author.Tests.{not-true, not-false}
-use Rattle.metric_rules.specs.Lists.{every}
+use Rattle.lists.specs.Lists.{every}
 use Rattle.metric_rules.specs.Distance.{Space, spaceOf}
 use Rattle.bucket_rules.specs.Geometry.{mostOrder, bucketsOf}
 use Rattle.image_rules.specs.Read.{orderIn, spaceIn}

@@ -6,7 +6,7 @@ use native.Mathlib.Omega.{arith}
 use borrow.Author.Needs.{needs}
 use lib.ListN.{length, drop, length-drop}
 use lib.Seq.{sets, take-all}
-use Rattle.metric_rules.specs.Lists.{total}
+use Rattle.lists.specs.Lists.{total}
 use Rattle.metric_rules.specs.Row.{rowWidth}
 use Rattle.metric_rules.proofs.Values.{is-row}
 use Rattle.image_rules.specs.Bytes.{bytesOf, recordFields, tagFields, recordBytes, tagWords}

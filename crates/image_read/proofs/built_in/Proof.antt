@@ -2,7 +2,7 @@
 use mathlib.Core.Path.{ap}
 use native.Mathlib.Omega.{arith}
 use borrow.Author.Needs.{needs}
-use Rattle.metric_rules.specs.Lists.{total}
+use Rattle.lists.specs.Lists.{total}
 use Rattle.image_rules.specs.Bytes.{headerFields, headerBytes, sizeBytes, pairBytes, sizesEnd}
 use Rattle.image_rules.specs.Read.{builtIn}
 use Rattle.image_read.proofs.built_in.Statement.{statement}

@@ -1,7 +1,7 @@
 -- `image_read::metric_in` meets its contract: the metric is the second field of the header.
 use mathlib.Core.Path.{ap}
 use native.Mathlib.Omega.{arith}
-use Rattle.metric_rules.specs.Lists.{total}
+use Rattle.lists.specs.Lists.{total}
 use Rattle.image_rules.specs.Bytes.{headerFields, headerBytes}
 use Rattle.image_rules.specs.Read.{fieldsAt, headerNumbers, spaceIn}
 use Rattle.image_read.proofs.metric_in.Statement.{statement}

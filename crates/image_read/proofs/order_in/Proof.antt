@@ -1,7 +1,7 @@
 -- `image_read::order_in` meets its contract: the order is the first field of the header.
 use mathlib.Core.Path.{ap}
 use native.Mathlib.Omega.{arith}
-use Rattle.metric_rules.specs.Lists.{total}
+use Rattle.lists.specs.Lists.{total}
 use Rattle.image_rules.specs.Bytes.{headerFields, headerBytes}
 use Rattle.image_rules.specs.Read.{fieldsAt, headerNumbers, orderIn}
 use Rattle.image_read.proofs.order_in.Statement.{statement}

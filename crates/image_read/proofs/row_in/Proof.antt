@@ -3,7 +3,7 @@ use Prim.Native.Nat.{_+_, _*_}
 use mathlib.Core.Path.{_≡_, refl, _∙_}
 use mathlib.Core.List.{_++_}
 use native.Mathlib.Omega.{arith}
-use Rattle.metric_rules.specs.Lists.{total}
+use Rattle.lists.specs.Lists.{total}
 use Rattle.image_rules.specs.Bytes.{tagFields, recordFields, tagBytes, recordBytes}
 use Rattle.image_rules.specs.Read.{fieldsAt, rowIn}
 use Rattle.image_read.proofs.Numbers.{slot-within}

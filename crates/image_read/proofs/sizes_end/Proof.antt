@@ -1,7 +1,7 @@
 -- `image_read::sizes_end` meets its contract: header and pairs.
 use native.Mathlib.Omega.{arith}
 use borrow.Author.Needs.{needs}
-use Rattle.metric_rules.specs.Lists.{total}
+use Rattle.lists.specs.Lists.{total}
 use Rattle.image_rules.specs.Bytes.{headerFields, headerBytes, sizeBytes, pairBytes, sizesEnd}
 use Rattle.image_read.proofs.sizes_end.Statement.{statement}
 use Rattle.image_read.proofs.sizes_end.Tie as tie

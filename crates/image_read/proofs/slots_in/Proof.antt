@@ -3,7 +3,7 @@ use mathlib.Core.Path.{_≡_, refl, sym, ap, ap₂, _∙_}
 use Prim.Native.Nat.{suc, _+_, _-_, _*_, _≤_}
 use native.Mathlib.Numerals.{add-one}
 use native.Mathlib.Omega.{arith}
-use Rattle.metric_rules.specs.Lists.{total, countFrom}
+use Rattle.lists.specs.Lists.{total, countFrom}
 use Rattle.image_rules.specs.Bytes.{headerFields, headerBytes, sizeBytes, pairBytes, sizesEnd}
 use Rattle.image_rules.specs.Read.{orderIn, builtIn, slotsBefore, slotsIn}
 use Rattle.image_rules.proofs.Counting.{total-more}

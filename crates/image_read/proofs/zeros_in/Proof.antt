@@ -1,7 +1,7 @@
 -- `image_read::zeros_in` meets its contract: the zero bytes are the third field of the header.
 use mathlib.Core.Path.{ap}
 use native.Mathlib.Omega.{arith}
-use Rattle.metric_rules.specs.Lists.{total}
+use Rattle.lists.specs.Lists.{total}
 use Rattle.image_rules.specs.Bytes.{headerFields, headerBytes}
 use Rattle.image_rules.specs.Read.{fieldsAt, headerNumbers, zerosIn}
 use Rattle.image_read.proofs.zeros_in.Statement.{statement}

@@ -9,9 +9,9 @@ use mathlib.Core.Bool.{Bool}
 use Prim.Native.Nat.{ℕ, _+_, _-_, _≤_}
 use lib.ListN.{length, drop}
 use lib.Seq.{length-take-le, length-front}
-use Rattle.metric_rules.specs.Lists.{countFrom, total, every}
+use Rattle.lists.specs.Lists.{countFrom, total, every}
+use Rattle.lists.proofs.Tests.{scan-fails, scan-passes, scan-ends}
 use Rattle.metric_rules.specs.Distance.{spaceOf}
-use Rattle.tree_rules.proofs.Tests.{scan-fails, scan-passes, scan-ends}
 use Rattle.bucket_rules.specs.Geometry.{bucketsOf}
 use Rattle.image_rules.specs.Read.{orderIn, slotsBefore, bucketIn}
 use Rattle.image_entries.specs.Entries.{places}

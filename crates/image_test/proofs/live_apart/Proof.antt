@@ -3,9 +3,8 @@ use native.Mathlib.Omega.{arith}
 use mathlib.Core.Path.{sym, _∙_, ap, subst}
 use mathlib.Core.List.{List, map}
 use lib.Seq.{length-take-le}
-use Rattle.metric_rules.specs.Lists.{select, distinct}
+use Rattle.lists.specs.Lists.{select, distinct, All}
 use Rattle.metric_rules.specs.Row.{isLive}
-use Rattle.tree_rules.specs.Guided.{All}
 use Rattle.search_rules.specs.Range.{Entry}
 use Rattle.image_entries.specs.Entries.{entryTag, Fresh}
 use Rattle.image_entries.specs.InImage.{slotsAt}

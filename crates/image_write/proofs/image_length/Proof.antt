@@ -1,7 +1,7 @@
 -- `image_write::image_length` meets its contract: header, sizes, and 48 bytes for each slot.
 use native.Mathlib.Omega.{arith}
 use borrow.Author.Needs.{needs}
-use Rattle.metric_rules.specs.Lists.{total}
+use Rattle.lists.specs.Lists.{total}
 use Rattle.image_rules.specs.Bytes.{headerFields, tagFields, recordFields, headerBytes, tagBytes, recordBytes, sizeBytes, pairBytes, sizesEnd, imageLength}
 use Rattle.image_rules.proofs.Lengths.{length-image}
 use Rattle.image_write.proofs.Counts.{slots-most}

@@ -3,7 +3,7 @@ use mathlib.Core.Path.{_∙_}
 use native.Mathlib.Omega.{arith}
 use borrow.Author.Needs.{needs}
 use lib.ListN.{length-set}
-use Rattle.metric_rules.specs.Lists.{total}
+use Rattle.lists.specs.Lists.{total}
 use Rattle.metric_rules.specs.Row.{word}
 use Rattle.metric_rules.specs.Distance.{spaceOf, metricAt}
 use Rattle.image_rules.specs.Bytes.{bytesOf, headerFields, bytesOfFields, headerBytes}

@@ -6,7 +6,7 @@ use native.Mathlib.Omega.{arith}
 use borrow.Author.Needs.{needs}
 use lib.ListN.{length}
 use lib.Seq.{sets}
-use Rattle.metric_rules.specs.Lists.{total}
+use Rattle.lists.specs.Lists.{total}
 use Rattle.bucket_rules.specs.Geometry.{headerRow}
 use Rattle.bucket_rules.specs.Table.{rowAt, orderOf, tableSpace, builtOf, liveOf}
 use Rattle.image_rules.specs.Bytes.{headerFields, headerBytes, pairBytes, sizeBytes, sizesEnd}

@@ -6,7 +6,7 @@ use native.Mathlib.Numerals.{add-one}
 use native.Mathlib.Omega.{arith}
 use lib.ListN.{length, length-append}
 use lib.Seq.{sets}
-use Rattle.metric_rules.specs.Lists.{total, countFrom}
+use Rattle.lists.specs.Lists.{total, countFrom}
 use Rattle.bucket_rules.specs.Geometry.{bucketsOf}
 use Rattle.bucket_rules.specs.Table.{Table, builtOf, liveOf}
 use Rattle.image_rules.specs.Bytes.{bytesOf, headerFields, headerBytes, sizeBytes, pairBytes, sizesEnd}

@@ -5,7 +5,7 @@ use mathlib.Core.Path.{_≡_, refl, sym, _∙_, ap}
 use mathlib.Core.List.{List, _++_, flatten}
 use lib.ListN.{length, length-append}
 use lib.Seq.{sets}
-use Rattle.metric_rules.specs.Lists.{countFrom}
+use Rattle.lists.specs.Lists.{countFrom}
 use Rattle.metric_rules.specs.Row.{Row}
 use Rattle.bucket_rules.specs.Table.{liveSlots}
 use Rattle.bucket_rules.specs.Rebuild.{liveItems}

@@ -6,7 +6,7 @@ use mathlib.Core.Path.{refl, _∙_, ap, ap₂, subst⁻¹}
 use mathlib.Core.List.{List}
 use lib.ListN.{set, length-set}
 use lib.Seq.{sets}
-use Rattle.metric_rules.specs.Lists.{countFrom}
+use Rattle.lists.specs.Lists.{countFrom}
 use Rattle.metric_rules.specs.Row.{Row}
 use Rattle.bucket_rules.specs.Geometry.{workRows}
 use Rattle.bucket_rules.specs.Rebuild.{liveItems}

@@ -6,8 +6,8 @@ use mathlib.Core.List.{List, []}
 use mathlib.Core.Bool.{Bool, true, false, _&&_}
 use borrow.Author.Tests.{ltb-false}
 use lib.Dec.{leb, ltb}
+use Rattle.lists.proofs.Tests.{and-second}
 use Rattle.tree_rules.proofs.Parts.{left-size, part-rest}
-use Rattle.tree_rules.proofs.Tests.{and-second}
 use Rattle.metric_rules.specs.Row.{Row, isLive}
 use Rattle.tree_rules.specs.Layout.{leftSize}
 use Rattle.search_rules.specs.Range.{Met, nothing, entersLeft, entersRight, toQuery}

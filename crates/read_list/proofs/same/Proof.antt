@@ -3,7 +3,7 @@ use Prim.Native.Nat.{_-_, _≤_}
 use mathlib.Core.Path.{_≡_, refl, sym, _∙_}
 use native.Mathlib.Omega.{arith}
 use lib.ListN.{length, drop}
-use Rattle.metric_rules.specs.Lists.{sameNumbers}
+use Rattle.lists.specs.Lists.{sameNumbers}
 use Rattle.read_list.proofs.Alike.{other-length, same-over, same-so-far, other-here}
 use Rattle.read_list.proofs.same.Statement.{statement}
 use Rattle.read_list.proofs.same.Tie as tie

@@ -5,7 +5,7 @@ use native.Mathlib.Omega.{arith}
 use borrow.Author.Needs.{needs}
 use mathlib.Core.Path.{_≡_, ap}
 use mathlib.Core.List.{List, map}
-use Rattle.metric_rules.specs.Lists.{total}
+use Rattle.lists.specs.Lists.{total}
 use Rattle.bucket_rules.specs.Geometry.{bucketsOf, sizesRow}
 use Rattle.bucket_rules.specs.Table.{Table, liveOf}
 use Rattle.bucket_rules.proofs.Buckets.{bucketsFrom, buckets-all, buckets-next, buckets-end}

@@ -5,7 +5,7 @@ use Prim.Native.Nat.{ℕ, _+_, _-_, _≤_, _<_}
 use borrow.Author.Tests.{not-true, not-false}
 use mathlib.Core.Path.{_≡_, sym, _∙_, ap, ap₂}
 use mathlib.Core.Bool.{Bool}
-use Rattle.metric_rules.specs.Lists.{every}
+use Rattle.lists.specs.Lists.{every}
 use Rattle.bucket_rules.specs.Geometry.{bucketsOf}
 use Rattle.bucket_rules.specs.Table.{Table, orderOf, liveOf, slotsOf, liveSlots}
 use Rattle.bucket_rules.specs.Checks.{marksPass}

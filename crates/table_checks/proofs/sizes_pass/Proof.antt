@@ -5,7 +5,7 @@ use mathlib.Core.Path.{sym, _∙_, ap, ap₂}
 use mathlib.Core.Bool.{Bool, _&&_}
 use mathlib.Core.List.{map}
 use lib.Dec.{leb}
-use Rattle.metric_rules.specs.Lists.{total}
+use Rattle.lists.specs.Lists.{total}
 use Rattle.bucket_rules.specs.Geometry.{room, bucketsOf}
 use Rattle.bucket_rules.specs.Table.{liveOf}
 use Rattle.bucket_rules.specs.Checks.{sizesPass}

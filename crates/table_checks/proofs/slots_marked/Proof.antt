@@ -11,10 +11,10 @@ use mathlib.Core.List.{List, [], _∷_}
 use lib.Dec.{leb, eqb}
 use lib.ListN.{length, drop, getD, drop-of-length-le}
 use lib.Seq.{drop-cons}
-use Rattle.metric_rules.specs.Lists.{every, select}
+use Rattle.lists.specs.Lists.{every, select}
+use Rattle.lists.proofs.Tests.{scan-fails, scan-passes, scan-ends}
 use Rattle.metric_rules.specs.Row.{Row, markOf, isLive}
 use Rattle.table_checks.specs.Frame.{slotsMarked}
-use Rattle.tree_rules.proofs.Tests.{scan-fails, scan-passes, scan-ends}
 use borrow.Author.Needs.{needs}
 use Rattle.table_checks.proofs.slots_marked.Statement.{statement}
 use Rattle.table_checks.proofs.slots_marked.Tie as tie

@@ -8,13 +8,13 @@ use Prim.Native.Nat.{ℕ, _-_, _≤_, _<_}
 use lib.Seq.{getD-take}
 use lib.ListN.{length, take, drop, getD, length-set, length-take, length-drop}
 use borrow.Rule.Slice.PartMut.{putMid}
+use Rattle.lists.specs.Lists.{every}
+use Rattle.lists.proofs.Lists.{all-perm}
+use Rattle.lists.proofs.Tests.{every-all}
 use Rattle.metric_rules.specs.Row.{Row}
 use Rattle.metric_rules.specs.Distance.{Space, distance, spaceOf}
-use Rattle.metric_rules.specs.Lists.{every}
 use Rattle.tree_rules.specs.Sorting.{keyLe, sortBy}
 use Rattle.working_rows.specs.Working.{workKey, firstKey, RanksApart, measuredFrom, sortedFrom, arranged}
-use Rattle.tree_rules.proofs.Lists.{all-perm}
-use Rattle.tree_rules.proofs.Tests.{every-all}
 use Rattle.tree_rules.proofs.Sorting.{NotAfter}
 use Rattle.tree_rules.proofs.Parts.{part-rest, put-rest, part-behind, put-behind}
 use Rattle.tree_rules.proofs.Brought.{brought, brought-perm, brought-first}

@@ -11,13 +11,13 @@ use mathlib.Core.List.{List, [], _∷_}
 use Prim.Native.Nat.{ℕ, _+_, _-_, _≤_, _<_}
 use lib.Seq.{take-suc, take-all}
 use lib.ListN.{length, take, getD}
+use Rattle.lists.specs.Lists.{All}
+use Rattle.lists.proofs.Lists.{all-append, all-weaken}
+use Rattle.lists.proofs.Tests.{all-every}
 use Rattle.metric_rules.specs.Row.{Row}
 use Rattle.tree_rules.specs.Sorting.{keyLe}
-use Rattle.tree_rules.specs.Guided.{All}
 use Rattle.working_rows.specs.Working.{firstKey}
 use Rattle.tree_rules.proofs.Sorting.{key-le-refl, key-le-trans, key-le-flip}
-use Rattle.tree_rules.proofs.Lists.{all-append, all-weaken}
-use Rattle.tree_rules.proofs.Tests.{all-every}
 use Rattle.tree_arrange.proofs.first_at.Statement.{statement}
 use Rattle.tree_arrange.proofs.first_at.Tie as tie
 

@@ -5,8 +5,8 @@ use mathlib.Core.Path.{_≡_, sym, _∙_}
 use lib.ListN.{length, drop}
 use borrow.Author.Needs.{needs}
 use borrow.Author.Tests.{not-true, not-false}
-use Rattle.metric_rules.specs.Lists.{every}
-use Rattle.tree_rules.proofs.Tests.{scan-fails, scan-passes, scan-ends}
+use Rattle.lists.specs.Lists.{every}
+use Rattle.lists.proofs.Tests.{scan-fails, scan-passes, scan-ends}
 use Rattle.text_rules.specs.Text.{isDigit, isNumeral}
 use Rattle.text_rules.proofs.Digits.{too-short, too-long, length-passes}
 use Rattle.yard_numerals.proofs.is_numeral.Statement.{statement}

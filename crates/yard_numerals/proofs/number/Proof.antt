@@ -4,7 +4,7 @@ use native.Mathlib.Omega.{arith}
 use lib.Dec.{ltb}
 use borrow.Author.Needs.{needs}
 use borrow.Author.Tests.{ltb-true}
-use Rattle.tree_rules.proofs.Tests.{and-first, and-second}
+use Rattle.lists.proofs.Tests.{and-first, and-second}
 use Rattle.text_rules.specs.Text.{isNumeral, numeral}
 use Rattle.yard_rules.specs.Line.{isNumber}
 use Rattle.text_rules.proofs.Digits.{numeral-digits, numeral-longest}

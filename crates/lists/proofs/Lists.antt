@@ -5,7 +5,7 @@ use native.Mathlib.Omega.{arith}
 use mathlib.Core.Path.{_≡_, refl, _∙_, ap, ap₂, subst}
 use mathlib.Core.List.{List, [], _∷_, _++_, map, List·Permᴰ, List·Permᴰ·nil, List·Permᴰ·cons, List·Permᴰ·swap, List·Permᴰ·trans, Permᴰ·refl, Permᴰ·append-left, Permᴰ·append-right}
 use lib.ListN.{length, take, drop, getD}
-use Rattle.tree_rules.specs.Guided.{All}
+use Rattle.lists.specs.Lists.{All}
 
 module _ {A : Type 0} where
   -- R holds of every element and each element after it

@@ -9,8 +9,7 @@ use lib.Dec.{eqb}
 use lib.ListN.{length, drop, getD, drop-of-length-le}
 use lib.Seq.{drop-cons}
 use borrow.Author.Tests.{eqb-true, eq-eqb}
-use Rattle.metric_rules.specs.Lists.{every, alike, sameNumbers}
-use Rattle.tree_rules.specs.Guided.{All}
+use Rattle.lists.specs.Lists.{every, alike, sameNumbers, All}
 
 pub and-first : (a b : Bool) → (a && b) ≡ true → a ≡ true
 and-first true b h = refl

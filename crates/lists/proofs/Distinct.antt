@@ -6,9 +6,9 @@ use mathlib.Core.Bool.{Bool, true, not}
 use mathlib.Core.List.{List, [], _∷_, _++_, map, List·Permᴰ}
 use lib.Dec.{eqb}
 use borrow.Author.Tests.{eqb-false, ne-eqb, not-true}
-use Rattle.metric_rules.specs.Lists.{every, distinct}
-use Rattle.tree_rules.proofs.Lists.{Pairs, all-weaken, pairs-left, pairs-right, pairs-perm, pairs-of-map}
-use Rattle.tree_rules.proofs.Tests.{and-first, and-second, and-pass, every-all, all-every}
+use Rattle.lists.specs.Lists.{every, distinct}
+use Rattle.lists.proofs.Lists.{Pairs, all-weaken, pairs-left, pairs-right, pairs-perm, pairs-of-map}
+use Rattle.lists.proofs.Tests.{and-first, and-second, and-pass, every-all, all-every}
 
 abbrev pub Differ : ℕ → ℕ → Type 0
 Differ m n = m ≡ n → ⊥

@@ -31,6 +31,11 @@ module _ {A : Type 0} where
   alike same (x ∷ xs) [] = false
   alike same (x ∷ xs) (y ∷ ys) = same x y && alike same xs ys
 
+-- every element has a property
+abbrev pub All : {A : Type 0} → (A → Type 0) → List A → Type 0
+All P [] = Unit {0}
+All P (x ∷ xs) = P x × All P xs
+
 -- no number occurs twice
 unfoldable pub distinct : List ℕ → Bool
 unfolding every

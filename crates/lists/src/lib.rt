@@ -1,0 +1,1 @@
+// Plain lists: the operations that the rules are written with, and their laws. No function.
