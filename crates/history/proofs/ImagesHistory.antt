@@ -1,7 +1,7 @@
 -- Images in a list of calls: an accepted load begins or goes on with a table that matches the model, and the table after every list is written and
 -- loads back.
 use Prim.Native.Nat.{ℕ, _≤_}
-use mathlib.Core.Path.{_≡_, sym, ap, subst}
+use mathlib.Core.Path.{sym, ap, subst}
 use mathlib.Core.List.{List, map}
 use lib.ListN.{length}
 use Rattle.lists.proofs.Lists.{perm-of-eq}

@@ -21,7 +21,7 @@ use Rattle.bucket_rules.specs.Geometry.{room}
 use Rattle.bucket_rules.specs.Table.{Table, orderOf, tableSpace, builtOf, liveOf, liveTotal, liveSlots, emptied}
 use Rattle.bucket_rules.specs.Checks.{sizePasses}
 use Rattle.bucket_rules.specs.LookUp.{Place, find}
-use Rattle.bucket_rules.specs.Rebuild.{Rebuilt, liveItems, rebuilt}
+use Rattle.bucket_rules.specs.Rebuild.{Rebuilt, liveItems}
 use Rattle.bucket_rules.specs.Remove.{marked, thinned, settled, removed}
 use Rattle.bucket_rules.proofs.Views.{Only, only-own, only-twice, only-fewer, same-order, kept-built, kept-live}
 use Rattle.bucket_rules.proofs.Puts.{Holds, held-built, held-live, apart-or, emptied-only, emptied-holds}

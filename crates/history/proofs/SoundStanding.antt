@@ -15,7 +15,7 @@ use Rattle.lists.proofs.Tests.{and-second, and-pass, every-all, all-every}
 use Rattle.metric_rules.specs.Row.{Row, IsRow, tagOf, profileOf, markOf, isLive, zeroRow}
 use Rattle.metric_rules.specs.Validity.{validTag, validMeasures}
 use Rattle.bucket_rules.specs.Geometry.{validOrder, room, bucketsOf, sizesRow, firstSlot}
-use Rattle.bucket_rules.specs.Table.{Table, rowAt, orderOf, tableSpace, builtOf, liveOf, liveTotal, slotsOf, liveSlots, pairRow, headerOf}
+use Rattle.bucket_rules.specs.Table.{Table, rowAt, orderOf, tableSpace, builtOf, liveOf, liveTotal, slotsOf, liveSlots, pairRow}
 use Rattle.bucket_rules.specs.Checks.{sizePasses, marksPass}
 use Rattle.bucket_rules.proofs.Buckets.{order-most}
 use Rattle.bucket_rules.proofs.Views.{roomOf, room-row, room-length, slots-of-room}

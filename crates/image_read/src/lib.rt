@@ -3,7 +3,7 @@ ghost use mathlib.Core.Path.{_≡_};
 ghost use Prim.Native.Nat.{_+_, _*_, _≤_, _<_};
 ghost use mathlib.Core.List.{_++_};
 ghost use lib.ListN.{length};
-ghost use Rattle.image_rules.specs.Bytes.{tagFields, recordFields, headerBytes, sizesEnd};
+ghost use Rattle.image_rules.specs.Bytes.{tagFields, recordFields, headerBytes, tagBytes, recordBytes, sizesEnd};
 ghost use Rattle.image_rules.specs.Read.{numberAt, fieldsAt, orderIn, spaceIn, zerosIn, builtIn, liveIn, slotsIn, rowIn};
 ghost use Rattle.image_read.specs.Places.{Places};
 use image_reader::two_from;
@@ -90,7 +90,7 @@ pub fn slots_in(image: &[u8]) -> usize
 
 // The row whose tag stands at t and whose record stands at r.
 fn row_at(image: &[u8], t: usize, r: usize) -> Row
-    requires { ⌜ (t + 8 ≤ length (now image)) × (r + 40 ≤ length (now image)) ⌝ }
+    requires { ⌜ (t + tagBytes ≤ length (now image)) × (r + recordBytes ≤ length (now image)) ⌝ }
     ensures { λ row. ⌜ row ≡ fieldsAt (now (image .entry)) tagFields t ++ fieldsAt (now (image .entry)) recordFields r ⌝ }
 {
     [

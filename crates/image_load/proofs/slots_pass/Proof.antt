@@ -6,7 +6,7 @@ use borrow.Author.Needs.{needs}
 use borrow.Author.Tests.{not-true, not-false}
 use Rattle.lists.specs.Lists.{every}
 use Rattle.metric_rules.specs.Distance.{Space, spaceOf}
-use Rattle.bucket_rules.specs.Geometry.{mostOrder, bucketsOf}
+use Rattle.bucket_rules.specs.Geometry.{bucketsOf}
 use Rattle.image_rules.specs.Read.{orderIn, spaceIn}
 use Rattle.image_fields.specs.SlotsRead.{slotsRead}
 use Rattle.image_test.specs.Standing.{bucketRead, slotsStand}

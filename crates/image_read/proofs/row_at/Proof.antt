@@ -2,6 +2,8 @@
 use mathlib.Core.Path.{_∙_, sym, ap₂}
 use mathlib.Core.List.{[], _∷_, _++_}
 use borrow.Author.Needs.{needs}
+use Rattle.lists.specs.Lists.{total}
+use Rattle.image_rules.specs.Bytes.{tagFields, recordFields, tagBytes, recordBytes}
 use Rattle.image_read.proofs.Numbers.{tag-fields, record-fields}
 use Rattle.image_read.proofs.row_at.Statement.{statement}
 use Rattle.image_read.proofs.row_at.Tie as tie
@@ -26,6 +28,7 @@ returns c =
     ∙ sym (ap₂ _++_ (tag-fields (a .image .now) (a .t)) (record-fields (a .image .now) (a .r)))
 
 pub row-at-spec : {M : Type 1} → statement M
+unfolding tagBytes recordBytes tagFields recordFields total
 row-at-spec =
     tie.close
     (tie.spec

@@ -28,6 +28,7 @@ read-at : (c : tie.After-row-at) → (let a = c .before .before .args in
 read-at c = c .row-at .ensures
 
 row-at-requires : tie.Need-row-at-requires
+unfolding tagBytes recordBytes tagFields recordFields total
 row-at-requires c κs = slot-within (c .before .args .i) (c .before .pre .0) (c .before .pre .1)
 
 returns : tie.Need-returns
