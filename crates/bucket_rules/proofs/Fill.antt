@@ -22,7 +22,8 @@ use Rattle.bucket_rules.specs.Passed.{Passed}
 use Rattle.bucket_rules.specs.LookUp.{isLiveTag}
 use Rattle.bucket_rules.specs.Add.{addRefusal, lowestEmpty, gathered, addTarget}
 use Rattle.bucket_rules.proofs.Buckets.{every-bucket}
-use Rattle.bucket_rules.proofs.Passing.{passed}
+use Rattle.bucket_rules.proofs.Passing.{passed, bucket-within}
+use Rattle.bucket_rules.proofs.Live.{Roomy}
 use Rattle.bucket_rules.proofs.Adding.{Target, add-target}
 
 pub rooms-grow : {j k : ℕ} → j ≤ k → room j ≤ room k
@@ -32,6 +33,10 @@ rooms-grow h = pow-mono h
 pub room-most : (k : ℕ) → k ≤ 12 → room k ≤ 4096
 unfolding room
 room-most k h = pow-mono h
+
+-- a table that passed the tests has room for what it says is built
+pub passed-roomy : {t : Table} → Passed t → Roomy t
+passed-roomy p = record { long = p .framed .long; within = λ k h. bucket-within p k h .1 }
 
 -- what add and remove go on with: sizes that pass, as many live slots in each bucket as its live size says, and a work area of 2^T rows
 pub record Changeable (work : List Row) (t : Table) : Type 0 where

@@ -2,7 +2,6 @@
 -- and put one number in their place. Each by the count of buckets, or by the list of those cleared. Assumes nothing.
 use Prim.Native.Nat.{ℕ, zero, suc, _+_, _≤_, _<_}
 use native.Mathlib.Omega.{arith}
-use native.Mathlib.Nat.{add-zero, zero-add}
 use native.Mathlib.Decide.{ℕ-discrete}
 use mathlib.Core.Path.{_≡_, refl, sym, _∙_, ap, ap₂}
 use mathlib.Core.Bool.{Bool, true, false}
@@ -12,16 +11,12 @@ use lib.Dec.{eqb}
 use borrow.Author.Tests.{eq-eqb, ne-eqb}
 use Rattle.lists.specs.Lists.{countFrom, total, All}
 use Rattle.lists.proofs.Lists.{Pairs, all-weaken, all-both}
+use Rattle.lists.proofs.Totals.{total-more}
 use Rattle.bucket_rules.proofs.Puts.{apart-or}
 
 -- the sum of s over the buckets below n
 unfoldable pub below : (ℕ → ℕ) → ℕ → ℕ
 below s n = total (map s (countFrom 0 n))
-
-sum-last : (s : ℕ → ℕ) (a n : ℕ) → total (map s (countFrom a (suc n))) ≡ total (map s (countFrom a n)) + s (a + n)
-unfolding total countFrom
-sum-last s a zero = omega (arith, ap s (add-zero a))
-sum-last s a (suc n) = let e : suc a + n ≡ a + suc n = omega arith in omega (arith, sum-last s (suc a) n, ap s e)
 
 pub below-none : (s : ℕ → ℕ) → below s 0 ≡ 0
 unfolding below total countFrom
@@ -29,7 +24,7 @@ below-none s = refl
 
 pub below-next : (s : ℕ → ℕ) (n : ℕ) → below s (suc n) ≡ below s n + s n
 unfolding below
-below-next s n = sum-last s 0 n ∙ ap (λ (i : ℕ). total (map s (countFrom 0 n)) + s i) (zero-add n)
+below-next s n = total-more s n
 
 pub below-same : (s u : ℕ → ℕ) (n : ℕ) → ((i : ℕ) → i < n → u i ≡ s i) → below u n ≡ below s n
 below-same s u zero h = omega (arith, below-none s, below-none u)

@@ -32,7 +32,7 @@ use Rattle.bucket_rules.proofs.Live.{slots-length}
 use Rattle.bucket_rules.proofs.Finding.{Found, found}
 use Rattle.bucket_rules.proofs.Sizes.{Used, size-in-use, sizes-at, room-zero, room-positive}
 use Rattle.bucket_rules.proofs.Adding.{Target, gathered-buckets, not-in-use}
-use Rattle.bucket_rules.proofs.Fill.{Changeable, changeable, add-accepted, add-fits}
+use Rattle.bucket_rules.proofs.Fill.{passed-roomy, Changeable, changeable, add-accepted, add-fits}
 use Rattle.history.specs.Reports.{builtIn, buildCost, ReportsBuilds}
 use Rattle.history.proofs.ScannedLists.{select-set}
 use Rattle.history.proofs.ReportingBuilds.{dead-not-built, kept-not-built, none-built, no-build, kept-reports, rebuild-reports}
@@ -86,7 +86,7 @@ module _ {work : List Row} {t : Table} (c : Changeable work t) (tag : ℕ) (plac
   within = bucket-within (c .passed)
 
   slot-built : place .slot < builtOf t k
-  slot-built = omega (arith, at .within, slots-length (record { long = long; within = λ j h. within j h .1 }) k (at .inOrder))
+  slot-built = omega (arith, at .within, slots-length (passed-roomy (c .passed)) k (at .inOrder))
 
   slot-room : place .slot < room k
   slot-room = omega (arith, slot-built, within k (at .inOrder) .1)

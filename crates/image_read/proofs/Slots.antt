@@ -15,7 +15,7 @@ use Rattle.bucket_rules.proofs.Sizes.{size-room, sizes-at}
 use Rattle.image_rules.specs.Bytes.{tagFields, recordFields, tagBytes, recordBytes, sizeBytes, pairBytes, sizesEnd, imageLength}
 use Rattle.image_rules.specs.Read.{orderIn, builtIn, liveIn, slotsBefore, slotsIn}
 use Rattle.image_rules.proofs.Blocks.{length-count}
-use Rattle.image_rules.proofs.Counting.{total-more}
+use Rattle.lists.proofs.Totals.{total-more}
 use Rattle.image_read.specs.Places.{Places}
 
 pub counted-at : {A : Type 0} (f : ℕ → A) (a n i : ℕ) (d : A) → i < n → getD (map f (countFrom a n)) i d ≡ f (a + i)

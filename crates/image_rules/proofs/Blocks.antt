@@ -12,7 +12,7 @@ use Rattle.lists.proofs.Lists.{all-append}
 use Rattle.metric_rules.specs.Row.{word}
 use Rattle.bucket_rules.proofs.ByNumber as by-number
 pub use Rattle.bucket_rules.proofs.ByNumber.{map-count}
-use Rattle.image_rules.proofs.Counting.{total-more}
+use Rattle.lists.proofs.Totals.{total-more}
 
 -- what holds of every element of some lists holds of every element of them put end to end, and of the one at a place
 module _ {A : Type 0} (P : A → Type 0) where

@@ -5,20 +5,11 @@ use mathlib.Core.List.{List, [], _∷_, _++_, map, map-append, append-assoc, app
 use native.Mathlib.Nat.{mul-suc}
 use native.Mathlib.Omega.{arith}
 use Rattle.lists.specs.Lists.{total, countFrom}
+use Rattle.lists.proofs.Totals.{total-more}
 use Rattle.bucket_rules.proofs.Down.{count-last}
 
 map-count-more : {A : Type 0} (f : ℕ → A) (n : ℕ) → map f (countFrom 0 (suc n)) ≡ map f (countFrom 0 n) ++ (f n ∷ [])
 map-count-more f n = ap (map f) (count-last 0 n n (omega arith)) ∙ map-append f (countFrom 0 n) (n ∷ [])
-
-total-append : (xs ys : List ℕ) → total (xs ++ ys) ≡ total xs + total ys
-unfolding total
-total-append [] ys = omega arith
-total-append (x ∷ xs) ys = omega (arith, total-append xs ys)
-
-pub total-more : (f : ℕ → ℕ) (n : ℕ) → total (map f (countFrom 0 (suc n))) ≡ total (map f (countFrom 0 n)) + f n
-unfolding total
-total-more f n =
-    ap total (map-count-more f n) ∙ total-append (map f (countFrom 0 n)) (f n ∷ []) ∙ omega arith
 
 pub total-most : (f : ℕ → ℕ) (m n : ℕ) → ((k : ℕ) → k < n → f k ≤ m) → total (map f (countFrom 0 n)) ≤ m * n
 unfolding total countFrom

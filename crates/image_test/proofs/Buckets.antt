@@ -18,7 +18,8 @@ use Rattle.image_rules.specs.Bytes.{headerFields, headerBytes, sizeBytes, pairB
 use Rattle.image_rules.specs.Read.{orderIn, builtIn, slotsBefore, slotsIn, rowIn, bucketIn}
 use Rattle.image_rules.specs.Load.{liveRows}
 use Rattle.image_rules.proofs.Blocks.{length-count, getD-count, count-append}
-use Rattle.image_rules.proofs.Counting.{total-more, flatten-more}
+use Rattle.lists.proofs.Totals.{total-more}
+use Rattle.image_rules.proofs.Counting.{flatten-more}
 use Rattle.image_read.specs.Places.{Places}
 use Rattle.image_entries.specs.declared.Slots.{Slots}
 use Rattle.image_entries.specs.Entries.{places, TagsFit}

@@ -11,6 +11,7 @@ use native.Mathlib.Decide.{ℕ-discrete}
 use lib.Dec.{ltb}
 use lib.ListN.{length}
 use Rattle.lists.specs.Lists.{countFrom, total, All}
+use Rattle.lists.proofs.Totals.{total-more}
 use Rattle.metric_rules.specs.declared.Profile.{Profile}
 use Rattle.metric_rules.specs.Row.{Row}
 use Rattle.tree_rules.specs.Layout.{cost}
@@ -23,33 +24,15 @@ use Rattle.bucket_rules.specs.Add.{addRefusal, lowestEmpty, gathered, addBucket
 use Rattle.bucket_rules.proofs.ByNumber.{all-count, count-all}
 use Rattle.bucket_rules.proofs.Views.{Only, same-order, kept-live}
 use Rattle.bucket_rules.proofs.Puts.{Holds, held-live}
-use Rattle.bucket_rules.proofs.Passing.{bucket-within}
 use Rattle.bucket_rules.proofs.Live.{Roomy, rebuilt-holds, rebuilt-only, rebuilt-empties}
 use Rattle.bucket_rules.proofs.Adding.{Target, not-in-use, vacant-live, lowest-within, lowest-empty, gathered-buckets, live-counted}
-use Rattle.bucket_rules.proofs.Fill.{room-most, Changeable, changeable, add-accepted, add-fits}
-
--- totals over the numbers from 0 on
-total-from : (f : ℕ → ℕ) (a n : ℕ) → total (map f (countFrom a (suc n))) ≡ total (map f (countFrom a n)) + f (a + n)
-unfolding total countFrom
-total-from f a zero = omega (arith, ap f zero-more)
-  where
-    zero-more : a + 0 ≡ a
-    zero-more = omega arith
-total-from f a (suc n) = omega (arith, total-from f (suc a) n, ap f one-more)
-  where
-    one-more : suc a + n ≡ a + suc n
-    one-more = omega arith
-
-total-next : (f : ℕ → ℕ) (n : ℕ) → total (map f (countFrom 0 (suc n))) ≡ total (map f (countFrom 0 n)) + f n
-total-next f n =
-    let e : 0 + n ≡ n = omega arith in
-    total-from f 0 n ∙ ap (λ m. total (map f (countFrom 0 n)) + f m) e
+use Rattle.bucket_rules.proofs.Fill.{room-most, Changeable, changeable, add-accepted, add-fits, passed-roomy}
 
 module _ (f g : ℕ → ℕ) (k : ℕ) (below : (j : ℕ) → j < k → g j ≡ 0) where
   nothing-below : (n : ℕ) → n ≤ k → total (map g (countFrom 0 n)) ≡ 0
   unfolding total countFrom
   nothing-below zero h = refl
-  nothing-below (suc n) h = omega (arith, total-next g n, nothing-below n (omega arith), below n (omega arith))
+  nothing-below (suc n) h = omega (arith, total-more g n, nothing-below n (omega arith), below n (omega arith))
 
   module _ (here : g k ≡ suc (total (map f (countFrom 0 (suc k))))) where
     grown : (n : ℕ) → k < n → ((j : ℕ) → k < j → j < n → g j ≡ f j) → total (map g (countFrom 0 n)) ≡ suc (total (map f (countFrom 0 n)))
@@ -57,13 +40,13 @@ module _ (f g : ℕ → ℕ) (k : ℕ) (below : (j : ℕ) → j < k → g j ≡ 
     grown (suc n) h above =
         elim (ℕ-discrete n k) [
           | yes e ↦ last e
-          | no ne ↦ omega (arith, total-next f n, total-next g n, grown n (omega arith) (λ j l m. above j l (omega arith)), above n (omega arith) (omega arith))
+          | no ne ↦ omega (arith, total-more f n, total-more g n, grown n (omega arith) (λ j l m. above j l (omega arith)), above n (omega arith) (omega arith))
         ]
       where
         last : n ≡ k → total (map g (countFrom 0 (suc n))) ≡ suc (total (map f (countFrom 0 (suc n))))
         last e =
             subst (λ m. total (map g (countFrom 0 (suc m))) ≡ suc (total (map f (countFrom 0 (suc m))))) (sym e)
-            (omega (arith, total-next g k, nothing-below k (omega arith), here))
+            (omega (arith, total-more g k, nothing-below k (omega arith), here))
 
 -- the bucket that is built is the lowest empty one or the one below it
 target-place : (t : Table) (tag : ℕ) (p : Profile) → (addTarget t tag p ≡ lowestEmpty t) ⊎ (suc (addTarget t tag p) ≡ lowestEmpty t)
@@ -110,7 +93,7 @@ module _ (t : Table) (work : List Row) (tag : ℕ) (p : Profile) (accepted : add
   now = added t tag p .table
 
   roomy : Roomy t
-  roomy = record { long = changes .passed .framed .long; within = λ k h. bucket-within (changes .passed) k h .1 }
+  roomy = passed-roomy (changes .passed)
 
   -- the buckets of the table before that the one built stands for
   stood-for : total (map (liveOf t) (countFrom 0 (suc (addTarget t tag p)))) ≡ total (map (liveOf t) (countFrom 0 (lowestEmpty t)))
@@ -120,7 +103,7 @@ module _ (t : Table) (work : List Row) (tag : ℕ) (p : Profile) (accepted : add
       let vacant : liveOf t (lowestEmpty t) ≡ 0 =
       let reached : lowestEmpty t ≤ orderOf t = omega (arith, target .reached) in
       sym (changes .lives (lowestEmpty t) reached) ∙ ap length (vacant-live t (lowestEmpty t) (not-in-use t (lowestEmpty t) (lowest-empty t reached))) in
-      ap (λ k. total (map (liveOf t) (countFrom 0 (suc k)))) e ∙ omega (arith, total-next (liveOf t) (lowestEmpty t), vacant))
+      ap (λ k. total (map (liveOf t) (countFrom 0 (suc k)))) e ∙ omega (arith, total-more (liveOf t) (lowestEmpty t), vacant))
       (λ e. ap (λ k. total (map (liveOf t) (countFrom 0 k))) e)
       (target-place t tag p)
 

@@ -1,4 +1,5 @@
--- The laws of lists: what holds of all elements and of pairs, tests as facts, and lists without a number twice.
+-- The laws of lists: what holds of all elements and of pairs, tests as facts, lists without a number twice, and totals.
 pub mod Lists
 pub mod Tests
 pub mod Distinct
+pub mod Totals

@@ -21,13 +21,10 @@ use Rattle.bucket_rules.proofs.Changes.{marked-only, marked-built, marked-live}
 use Rattle.bucket_rules.proofs.Live.{Roomy, slots-length, changed-roomy}
 use Rattle.bucket_rules.proofs.Finding.{Found, marked-loses}
 use Rattle.bucket_rules.proofs.Sizes.{Used, size-in-use, sizes-at, room-positive}
-use Rattle.bucket_rules.proofs.Fill.{Changeable}
+use Rattle.bucket_rules.proofs.Fill.{passed-roomy, Changeable}
 use Rattle.buckets.specs.Lent.{Housed}
 use Rattle.buckets.proofs.Places.{lent-only}
 use Rattle.settle.specs.Lost.{Lost}
-
-pub roomy-of : {work : List Row} {t : Table} → Changeable work t → Roomy t
-roomy-of {t = t} c = record { long = c .passed .framed .long; within = λ k h. bucket-within (c .passed) k h .1 }
 
 pub housed-of : {work : List Row} {t : Table} → Changeable work t → (order : ℕ) → order ≡ orderOf t → Housed t order
 housed-of {t = t} c order e =
@@ -43,7 +40,7 @@ slot-row t k i h = rw (getD-take, getD-drop)
 
 module _ {work : List Row} {t : Table} (c : Changeable work t) {tag : ℕ} {place : Place} (found : Found t tag place) where
   pub within-built : place .slot < builtOf t (place .bucket)
-  within-built = omega (arith, found .within, slots-length (roomy-of c) (place .bucket) (found .inOrder))
+  within-built = omega (arith, found .within, slots-length (passed-roomy (c .passed)) (place .bucket) (found .inOrder))
 
   pub within-room : place .slot < room (place .bucket)
   within-room = omega (arith, within-built, bucket-within (c .passed) (place .bucket) (found .inOrder) .1)
@@ -68,7 +65,7 @@ module _ {work : List Row} {t : Table} (c : Changeable work t) {tag : ℕ} {plac
     counted : length (liveSlots (marked t place) (place .bucket)) ≡ liveOf (marked t place) (place .bucket)
     counted =
         omega
-        (arith, perm-length (marked-loses t tag place (roomy-of c) found whole), c .lives (place .bucket) (found .inOrder), fewer)
+        (arith, perm-length (marked-loses t tag place (passed-roomy (c .passed)) found whole), c .lives (place .bucket) (found .inOrder), fewer)
 
     module _ (j : ℕ) (inside : j ≤ orderOf t) (other : j ≡ place .bucket → ⊥) where
       kept : Kept t (marked t place) j
@@ -97,7 +94,7 @@ module _ {work : List Row} {t : Table} (c : Changeable work t) {tag : ℕ} {plac
 
     roomy-still : Roomy (marked t place)
     roomy-still =
-        changed-roomy (place .bucket) (found .inOrder) (roomy-of c) changed
+        changed-roomy (place .bucket) (found .inOrder) (passed-roomy (c .passed)) changed
         (omega (arith, marked-built t place (found .inOrder) (c .passed .framed .long) within-room, bucket-within (c .passed) (place .bucket) (found .inOrder) .1))
 
     pub housed-still : (order : ℕ) → order ≡ orderOf t → Housed (marked t place) order

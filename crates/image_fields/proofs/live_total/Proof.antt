@@ -7,7 +7,7 @@ use native.Mathlib.Omega.{arith}
 use Rattle.lists.specs.Lists.{total, countFrom}
 use Rattle.bucket_rules.specs.Geometry.{bucketsOf}
 use Rattle.image_rules.specs.Read.{liveIn}
-use Rattle.image_rules.proofs.Counting.{total-more}
+use Rattle.lists.proofs.Totals.{total-more}
 use Rattle.image_read.proofs.Slots.{pair-inside}
 use Rattle.image_fields.proofs.live_total.Statement.{statement}
 use Rattle.image_fields.proofs.live_total.Tie as tie

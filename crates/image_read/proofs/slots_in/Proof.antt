@@ -6,7 +6,7 @@ use native.Mathlib.Omega.{arith}
 use Rattle.lists.specs.Lists.{total, countFrom}
 use Rattle.image_rules.specs.Bytes.{headerFields, headerBytes, sizeBytes, pairBytes, sizesEnd}
 use Rattle.image_rules.specs.Read.{orderIn, builtIn, slotsBefore, slotsIn}
-use Rattle.image_rules.proofs.Counting.{total-more}
+use Rattle.lists.proofs.Totals.{total-more}
 use Rattle.image_read.proofs.slots_in.Statement.{statement}
 use Rattle.image_read.proofs.slots_in.Tie as tie
 

@@ -6,7 +6,7 @@ use native.Mathlib.Numerals.{add-one}
 use native.Mathlib.Omega.{arith}
 use Rattle.lists.specs.Lists.{total, countFrom}
 use Rattle.bucket_rules.specs.Table.{orderOf, builtOf}
-use Rattle.image_rules.proofs.Counting.{total-more}
+use Rattle.lists.proofs.Totals.{total-more}
 use Rattle.image_write.proofs.Runs.{sizes-in}
 use Rattle.image_write.proofs.Counts.{count-slots}
 use Rattle.image_write.proofs.slots_in_all.Statement.{statement}
