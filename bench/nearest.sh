@@ -10,7 +10,7 @@ alone=$out/alone
 mkdir -p "$out"
 
 # Where nearest goes over to its loop, a number or a name: once in the file, or there is nothing to turn off.
-nearest=crates/nearest/src/lib.rt
+nearest=crates/tree_nearest/src/lib.rt
 limit='if slots\.len() < [A-Za-z0-9_:]\{1,\} {'
 if [ "$(grep -c "$limit" $nearest)" != 1 ]; then
     echo "bench/nearest.sh: \`$limit\` does not stand once in $nearest" >&2

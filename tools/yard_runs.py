@@ -16,7 +16,7 @@ from pathlib import Path
 from types import SimpleNamespace
 
 sys.dont_write_bytecode = True
-import bucket_runs
+import table_runs
 from image_runs import distance, layout
 
 ROOT = Path(__file__).resolve().parent.parent
@@ -39,7 +39,7 @@ COMMANDS = [
 ]
 
 
-class Table(bucket_runs.Table):
+class Table(table_runs.Table):
     """Buckets with their slots, so that searches walk the trees and count what they visit."""
 
     def fresh(self, order, metric):

@@ -1,3 +1,3 @@
 -- Laws of the order of entries and of an insertion among them.
 pub mod Keys
-pub mod Sliding
+pub mod Inserting

@@ -20,16 +20,16 @@ use Rattle.metric_rules.proofs.Codec.{tag-of-row, profile-of-row}
 use Rattle.tree_rules.specs.Layout.{placed}
 use Rattle.tree_rules.proofs.Placed.{tag-placed, profile-placed}
 use Rattle.search_rules.proofs.Selecting.{select-all}
-use Rattle.bucket_rules.specs.Refusals.{badTag, badMeasure, tagLive, tagNotLive, tableFull}
-use Rattle.bucket_rules.specs.Geometry.{room}
-use Rattle.bucket_rules.specs.Table.{Table}
-use Rattle.bucket_rules.specs.LookUp.{Place, find, isLiveTag}
-use Rattle.bucket_rules.specs.Fresh.{freshRefusal, freshTable}
-use Rattle.bucket_rules.specs.Add.{added}
-use Rattle.bucket_rules.specs.Remove.{removed}
-use Rattle.bucket_rules.proofs.Views.{same-order, same-space}
-use Rattle.bucket_rules.proofs.Changes.{fresh-order, fresh-space}
-use Rattle.bucket_rules.proofs.Live.{allLive}
+use Rattle.table_rules.specs.Refusals.{badTag, badMeasure, alreadyLive, notLive, full}
+use Rattle.table_rules.specs.Geometry.{room}
+use Rattle.table_rules.specs.Table.{Table}
+use Rattle.table_rules.specs.LookUp.{Place, find, isLiveTag}
+use Rattle.table_rules.specs.Fresh.{freshRefusal, freshTable}
+use Rattle.table_rules.specs.Add.{added}
+use Rattle.table_rules.specs.Remove.{removed}
+use Rattle.table_rules.proofs.Views.{same-order, same-space}
+use Rattle.table_rules.proofs.Changes.{fresh-order, fresh-space}
+use Rattle.table_rules.proofs.Live.{allLive}
 use Rattle.list_rules.specs.Lines.{ListLine, itemLines}
 use Rattle.list_rules.specs.Lines.ListLine.{anItem, malformed}
 use Rattle.list_rules.proofs.Fitting.{LineFits, lines-fit}
@@ -38,15 +38,15 @@ use Rattle.history.specs.Calls.Call.{fresh, load, add, remove, lookUp, r
 use Rattle.history.specs.History.{IsCall}
 use Rattle.history.specs.Model.{Item, itemOf, Model, withTag, with, without, itemRefusal, tagRefusal}
 use Rattle.history.specs.Represents.{itemsIn}
-use Rattle.history.proofs.SoundFresh.{Freshable, freshable, sound-fresh, fresh-live}
-use Rattle.history.proofs.SoundAdd.{Addable, sound-added, added-only, added-live}
-use Rattle.history.proofs.SoundRemove.{sound-removed, removed-only, removed-live, removed-tag}
-use Rattle.history.proofs.ScannedLists.{select-no, select-perm}
-use Rattle.history.proofs.ScannedFinding.{rowFound}
-use Rattle.history.proofs.ScannedRepresents.{tags-once}
-use Rattle.history.proofs.ScannedChange.{LineAdds, Change}
+use Rattle.history.proofs.InvariantFresh.{Freshable, freshable, invariant-fresh, fresh-live}
+use Rattle.history.proofs.InvariantAdd.{Addable, invariant-added, added-only, added-live}
+use Rattle.history.proofs.InvariantRemove.{invariant-removed, removed-only, removed-live, removed-tag}
+use Rattle.history.proofs.RefinesLists.{select-no, select-perm}
+use Rattle.history.proofs.RefinesFinding.{rowFound}
+use Rattle.history.proofs.RefinesRepresents.{tags-once}
+use Rattle.history.proofs.RefinesChange.{LineAdds, Change}
 use Rattle.history.proofs.ImagesHistory.{load-matches}
-use Rattle.history.proofs.ScannedItems.{Matches, found-items, live-total}
+use Rattle.history.proofs.RefinesItems.{Matches, found-items, live-total}
 
 item-placed : (m : ℕ) (row : Row) → itemOf (placed m row) ≡ itemOf row
 unfolding itemOf
@@ -65,7 +65,7 @@ pub matches-fresh : (order : ℕ) (space : Space) (t : Table) → freshRefusal (
 matches-fresh order space t h =
     let ok : Freshable (length t) order space = freshable (length t) order space h in
     record {
-      sound = sound-fresh order space t ok;
+      invariant = invariant-fresh order space t ok;
       order = fresh-order order space t;
       space = fresh-space order space t;
       same = perm-of-eq (items-live (freshTable order space t) ∙ ap (map itemOf) (fresh-live order space t ok));
@@ -90,7 +90,7 @@ module _ {t : Table} {m : Model} (ok : Matches t m) where
           → leb (room (m .order)) (length (m .items)) ≡ f
           → _≡_ {A = ℕ} (elim a [
             | false ↦ badTag
-            | true ↦ elim b [ false ↦ badMeasure | true ↦ elim is [ i ∷ js ↦ tagLive | [] ↦ elim f [ true ↦ tableFull | false ↦ 0 ] ] ]
+            | true ↦ elim b [ false ↦ badMeasure | true ↦ elim is [ i ∷ js ↦ alreadyLive | [] ↦ elim f [ true ↦ full | false ↦ 0 ] ] ]
           ]) 0
           → Addable t tag p
       go false ea b eb is ei f ef h = absurd (omega arith)
@@ -110,14 +110,14 @@ module _ {t : Table} {m : Model} (ok : Matches t m) where
   unfolding with
   matches-added tag p fits isProfile h =
       let asked : Addable t tag p = model-addable tag p h in
-      let only = added-only (ok .sound) tag p fits isProfile asked in
+      let only = added-only (ok .invariant) tag p fits isProfile asked in
       record {
-        sound = sound-added (ok .sound) tag p fits isProfile asked;
+        invariant = invariant-added (ok .invariant) tag p fits isProfile asked;
         order = same-order (only .header) ∙ ok .order;
         space = same-space (only .header) ∙ ok .space;
         same =
             List·Permᴰ·trans (perm-of-eq (items-live (added t tag p .table)))
-            (List·Permᴰ·trans (added-live (ok .sound) tag p fits isProfile asked itemOf item-placed)
+            (List·Permᴰ·trans (added-live (ok .invariant) tag p fits isProfile asked itemOf item-placed)
             (List·Permᴰ·cons (new-item tag p isProfile) (List·Permᴰ·trans (perm-of-eq (sym (items-live t))) (ok .same))));
       }
 
@@ -141,7 +141,7 @@ module _ {t : Table} {m : Model} (ok : Matches t m) where
     where
       go :
           (a : Bool) (is : List Item) (o : Option Place) → find t tag ≡ o → map itemOf (rowFound o) ≡ is
-          → _≡_ {A = ℕ} (elim a [ false ↦ badTag | true ↦ elim is [ [] ↦ tagNotLive | i ∷ js ↦ 0 ] ]) 0
+          → _≡_ {A = ℕ} (elim a [ false ↦ badTag | true ↦ elim is [ [] ↦ notLive | i ∷ js ↦ 0 ] ]) 0
           → (place : Place) × (find t tag ≡ some place)
       go false is o e f h = absurd (omega arith)
       go true [] o e f h = absurd (omega arith)
@@ -153,18 +153,18 @@ module _ {t : Table} {m : Model} (ok : Matches t m) where
   matches-removed tag h =
       let there = model-removable tag h in
       let place : Place = there .0 in
-      let only = removed-only (ok .sound) tag place (there .1) in
+      let only = removed-only (ok .invariant) tag place (there .1) in
       let u : Table = removed t tag .table in
       let stay : List·Permᴰ (m .items) (itemOf (place .row) ∷ map itemOf (allLive u)) =
       List·Permᴰ·trans (Permᴰ·symm (ok .same))
-      (List·Permᴰ·trans (perm-of-eq (items-live t)) (removed-live (ok .sound) tag place (there .1) itemOf item-placed)) in
+      (List·Permᴰ·trans (perm-of-eq (items-live t)) (removed-live (ok .invariant) tag place (there .1) itemOf item-placed)) in
       record {
-        sound = sound-removed (ok .sound) tag place (there .1);
+        invariant = invariant-removed (ok .invariant) tag place (there .1);
         order = same-order (only .header) ∙ ok .order;
         space = same-space (only .header) ∙ ok .space;
         same =
             List·Permᴰ·trans (perm-of-eq (items-live u))
-            (Permᴰ·symm (struck tag (itemOf (place .row)) (m .items) (map itemOf (allLive u)) (removed-tag (ok .sound) tag place (there .1)) stay (tags-once ok)));
+            (Permᴰ·symm (struck tag (itemOf (place .row)) (m .items) (map itemOf (allLive u)) (removed-tag (ok .invariant) tag place (there .1)) stay (tags-once ok)));
       }
 
 -- every line of a herd list that is an item, since the form makes it fit

@@ -8,16 +8,16 @@ use Rattle.metric_rules.specs.Distance.{mostDistance, saturated, gap, measureDi
 use Rattle.tree_rules.specs.Sorting.{keyLe, insertBy, sortBy}
 use Rattle.tree_rules.specs.Layout.{leftSize, costWithin, cost, rankedFrom, tagKey, placed, fromPivot, nearKey, lastDistance, split, node, layoutWithin, layout, isLayout}
 use Rattle.search_rules.specs.Range.{entry, entryDistance, entryKey, ordered, entersLeft, entersRight, nothing, both, toQuery, entryOf, isHit, visited, rangeWithin, rangeTree}
-use Rattle.search_rules.specs.Nearest.{keep, worst, opens, taken, turn, halvesInTurn, nearestWithin, nearestTree}
-use Rattle.bucket_rules.specs.Geometry.{validOrder, room, bucketsOf, headerRow, sizesRow, firstSlot, tableRows, workRows}
-use Rattle.bucket_rules.specs.Table.{rowAt, orderOf, tableSpace, builtOf, liveOf, inUse, liveTotal, slotsOf, liveSlots, pairRow, headerOf, putSizes, putBucket, emptied, cleared}
-use Rattle.bucket_rules.specs.Checks.{sizePasses, sizesPass, marksPass, tableRefusal, readRefusal, changeRefusal}
-use Rattle.bucket_rules.specs.Fresh.{freshRefusal, freshTable, tableAfterFresh}
-use Rattle.bucket_rules.specs.Rebuild.{liveItems, rebuilt}
-use Rattle.bucket_rules.specs.Add.{addRefusal, emptyFrom, lowestEmpty, gathered, addBucket, addTarget, added, addReply, tableAfterAdd, workAfterAdd}
-use Rattle.bucket_rules.specs.Remove.{removeRefusal, marked, united, thinned, settled, removed, removeReply, tableAfterRemove, workAfterRemove}
-use Rattle.bucket_rules.specs.LookUp.{placeFrom, placeIn, find, isLiveTag, lookUpRefusal, noProfile, notFound, lookUpReply}
-use Rattle.bucket_rules.specs.Search.{bucketsDown, rangeMet, rangeAnswer, nearestTally, nearestAnswer, fitRefusal, rangeRefusal, nearestRefusal, searchReply, zeroEntry, resultAfter, rangeReply, resultAfterRange, nearestReply, resultAfterNearest}
+use Rattle.search_rules.specs.Nearest.{keep, worst, opens, taken, enterHalf, enterHalves, nearestWithin, nearestTree}
+use Rattle.table_rules.specs.Geometry.{validOrder, room, bucketsOf, headerRow, sizesRow, firstSlot, tableRows, workRows}
+use Rattle.table_rules.specs.Table.{rowAt, orderOf, tableSpace, builtOf, liveOf, inUse, liveTotal, slotsOf, liveSlots, pairRow, headerOf, putSizes, putBucket, emptied, cleared}
+use Rattle.table_rules.specs.Checks.{sizePasses, sizesPass, marksPass, tableRefusal, readRefusal, changeRefusal}
+use Rattle.table_rules.specs.Fresh.{freshRefusal, freshTable, tableAfterFresh}
+use Rattle.table_rules.specs.Rebuild.{liveItems, rebuilt}
+use Rattle.table_rules.specs.Add.{addRefusal, emptyFrom, lowestEmpty, gathered, addBucket, addTarget, added, addReply, tableAfterAdd, workAfterAdd}
+use Rattle.table_rules.specs.Remove.{removeRefusal, marked, united, rebuiltLower, shrunk, removed, removeReply, tableAfterRemove, workAfterRemove}
+use Rattle.table_rules.specs.LookUp.{placeFrom, placeIn, find, isLiveTag, lookUpRefusal, noProfile, notFound, lookUpReply}
+use Rattle.table_rules.specs.Search.{bucketsDown, rangeMet, rangeAnswer, nearestTally, nearestAnswer, fitRefusal, rangeRefusal, nearestRefusal, searchReply, zeroEntry, resultAfter, rangeReply, resultAfterRange, nearestReply, resultAfterNearest}
 use Rattle.image_rules.specs.Bytes.{bytesOf, numberOf, headerFields, tagFields, recordFields, bytesOfFields, headerBytes, tagBytes, recordBytes, sizeBytes, pairBytes, sizesEnd, tagWords, imageLength}
 use Rattle.image_rules.specs.Write.{headerBytesOf, sizesOf, tagsOf, recordsOf, allSlots, imageOf, writeRefusal, writeReply, imageAfterWrite}
 use Rattle.image_rules.specs.Read.{numberAt, fieldsAt, headerNumbers, orderIn, spaceIn, zerosIn, builtIn, liveIn, slotsBefore, slotsIn, rowIn, bucketIn}
@@ -35,12 +35,12 @@ unfolding
     measureLimit validMeasure validMeasures mostDistance saturated gap measureDistance differing codeDistance largest worstDistance distanceBy distance
     metricAt spaceOf lastMetric validSpace keyLe insertBy sortBy leftSize costWithin cost rankedFrom tagKey placed fromPivot nearKey lastDistance
     split node layoutWithin layout isLayout entry entryDistance entryKey ordered isLive entersLeft entersRight nothing
-    both toQuery entryOf isHit visited rangeWithin rangeTree keep worst opens taken turn halvesInTurn nearestWithin
+    both toQuery entryOf isHit visited rangeWithin rangeTree keep worst opens taken enterHalf enterHalves nearestWithin
     nearestTree validOrder room bucketsOf headerRow sizesRow firstSlot tableRows workRows rowAt
     orderOf tableSpace builtOf liveOf inUse liveTotal slotsOf liveSlots pairRow headerOf putSizes putBucket emptied cleared
     sizePasses sizesPass marksPass tableRefusal readRefusal changeRefusal freshRefusal freshTable tableAfterFresh
     liveItems rebuilt addRefusal emptyFrom lowestEmpty gathered addBucket addTarget added addReply tableAfterAdd
-    workAfterAdd removeRefusal marked united thinned settled removed removeReply tableAfterRemove workAfterRemove
+    workAfterAdd removeRefusal marked united rebuiltLower shrunk removed removeReply tableAfterRemove workAfterRemove
     placeFrom placeIn find isLiveTag lookUpRefusal noProfile notFound lookUpReply bucketsDown rangeMet rangeAnswer
     nearestTally nearestAnswer fitRefusal rangeRefusal nearestRefusal searchReply zeroEntry resultAfter rangeReply
     resultAfterRange nearestReply resultAfterNearest bytesOf numberOf headerFields tagFields recordFields bytesOfFields headerBytes tagBytes

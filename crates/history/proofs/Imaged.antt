@@ -4,7 +4,7 @@ use Prim.Native.Nat.{ℕ}
 use mathlib.Core.Path.{_≡_, refl}
 use mathlib.Core.List.{List, [], _∷_, _++_}
 use lib.ListN.{take, drop, set, replicate}
-use Rattle.bucket_rules.specs.Table.{Table}
+use Rattle.table_rules.specs.Table.{Table}
 use Rattle.image_rules.specs.Write.{imageOf, imageAfterWrite}
 use Rattle.image_rules.specs.Load.{loadRefusal, tableAfterLoad}
 use Rattle.history.specs.Calls.Call.{fresh, add}

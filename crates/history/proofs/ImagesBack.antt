@@ -9,8 +9,8 @@ use native.Mathlib.Decide.{decLe}
 use lib.ListN.{length, getD, take}
 use lib.Seq.{length-take-le, getD-take, ext-getD}
 use Rattle.metric_rules.specs.Row.{Row}
-use Rattle.bucket_rules.specs.Geometry.{room, headerRow, sizesRow, firstSlot, tableRows}
-use Rattle.bucket_rules.specs.Table.{Table, rowAt, orderOf, builtOf, slotsOf, pairRow, headerOf}
+use Rattle.table_rules.specs.Geometry.{room, headerRow, sizesRow, firstSlot, tableRows}
+use Rattle.table_rules.specs.Table.{Table, rowAt, orderOf, builtOf, slotsOf, pairRow, headerOf}
 use Rattle.image_rules.specs.Write.{imageOf}
 use Rattle.image_rules.specs.Load.{loadRefusal, tableAfterLoad}
 use Rattle.image_rules.proofs.ReadBack.{ReadsBack, reads-back}
@@ -21,16 +21,16 @@ use Rattle.history.specs.Calls.{Lent, outcome, replyTo, areasAfter, with
 use Rattle.history.specs.Calls.Reply.{number, written}
 use Rattle.history.specs.Images.{imageSize, writing, bytesOfImage, LoadsBack}
 use Rattle.history.specs.Demands.{AcceptedGivesBack}
-use Rattle.history.proofs.Sound.{Sound}
-use Rattle.bucket_rules.proofs.Geometry.{row-by-row}
-use Rattle.bucket_rules.proofs.Live.{slots-length}
-use Rattle.history.proofs.SoundStanding.{sound-roomy}
-use Rattle.history.proofs.ImagesFit.{sound-fits, sound-accepted}
-use Rattle.history.proofs.ImagesLoaded.{slot-row, load-sound}
+use Rattle.history.proofs.Invariant.{Invariant}
+use Rattle.table_rules.proofs.Geometry.{row-by-row}
+use Rattle.table_rules.proofs.Live.{slots-length}
+use Rattle.history.proofs.InvariantForms.{invariant-roomy}
+use Rattle.history.proofs.ImagesFit.{invariant-fits, invariant-accepted}
+use Rattle.history.proofs.ImagesLoaded.{slot-row, load-invariant}
 use Rattle.history.proofs.ImagesWritten.{writing-reply, writing-bytes}
 
 -- two sound tables that one image is read back as have the same rows
-module _ {t u : Table} {image : List ℕ} (sound : Sound t) (sound′ : Sound u) (reads : ReadsBack t image) (reads′ : ReadsBack u image) where
+module _ {t u : Table} {image : List ℕ} (invariant : Invariant t) (invariant′ : Invariant u) (reads : ReadsBack t image) (reads′ : ReadsBack u image) where
   order : orderOf u ≡ orderOf t
   order = sym (reads′ .order) ∙ reads .order
 
@@ -44,11 +44,11 @@ module _ {t u : Table} {image : List ℕ} (sound : Sound t) (sound′ : Sound u)
   slots k h = sym (reads′ .slots k (here k h)) ∙ reads .slots k h
 
   header-same : rowAt u headerRow ≡ rowAt t headerRow
-  header-same = sound′ .header ∙ ap₂ headerOf order (sym (reads′ .space) ∙ reads .space) ∙ sym (sound .header)
+  header-same = invariant′ .header ∙ ap₂ headerOf order (sym (reads′ .space) ∙ reads .space) ∙ sym (invariant .header)
 
   sizes-same : (k : ℕ) → k ≤ orderOf t → rowAt u (sizesRow k) ≡ rowAt t (sizesRow k)
   sizes-same k h =
-      sound′ .sizeRows k (here k h) ∙ ap₂ pairRow (built k h) (sym (reads′ .live k (here k h)) ∙ reads .live k h) ∙ sym (sound .sizeRows k h)
+      invariant′ .sizeRows k (here k h) ∙ ap₂ pairRow (built k h) (sym (reads′ .live k (here k h)) ∙ reads .live k h) ∙ sym (invariant .sizeRows k h)
 
   slot-same : (k i : ℕ) → k ≤ orderOf t → i < room k → rowAt u (firstSlot (orderOf t) k + i) ≡ rowAt t (firstSlot (orderOf t) k + i)
   slot-same k i h l =
@@ -56,7 +56,7 @@ module _ {t u : Table} {image : List ℕ} (sound : Sound t) (sound′ : Sound u)
       ap (λ (n : ℕ). rowAt u (firstSlot n k + i)) (sym order) in
       place
       ∙ elim (decLe (builtOf t k) i) [
-        | yes d ↦ sound′ .zeros k i (here k h) (omega (arith, built k h)) l ∙ sym (sound .zeros k i h d l)
+        | yes d ↦ invariant′ .zeros k i (here k h) (omega (arith, built k h)) l ∙ sym (invariant .zeros k i h d l)
         | no d ↦
             slot-row u k i (omega (arith, built k h, lt-of-not-le d))
             ∙ ap (λ (rows : List Row). getD rows i []) (slots k h)
@@ -67,43 +67,43 @@ module _ {t u : Table} {image : List ℕ} (sound : Sound t) (sound′ : Sound u)
   unfolding rowAt
   same-rows =
       let n = tableRows (orderOf t) in
-      let long : length (take n t) ≡ n = length-take-le n t (sound .long) in
-      let long′ : length (take n u) ≡ n = length-take-le n u (subst (λ (o : ℕ). tableRows o ≤ length u) order (sound′ .long)) in
+      let long : length (take n t) ≡ n = length-take-le n t (invariant .long) in
+      let long′ : length (take n u) ≡ n = length-take-le n u (subst (λ (o : ℕ). tableRows o ≤ length u) order (invariant′ .long)) in
       let row = row-by-row (λ r. rowAt u r ≡ rowAt t r) (orderOf t) header-same sizes-same slot-same in
       ext-getD [] (take n u) (take n t) (long′ ∙ sym long)
       (λ i l. let h : i < n = omega arith in getD-take n u i [] h ∙ row i h ∙ sym (getD-take n t i [] h))
 
 -- the image of a sound table is accepted into any area that is long enough, and loads as the table's rows
-module _ {t : Table} (sound : Sound t) (area : Table) (roomy : tableRows (orderOf t) ≤ length area) where
+module _ {t : Table} (invariant : Invariant t) (area : Table) (roomy : tableRows (orderOf t) ≤ length area) where
   pub image-accepted : loadRefusal (length area) (imageOf t) ≡ 0
-  image-accepted = accepts (length area) (imageOf t) (sound-accepted sound (length area) roomy)
+  image-accepted = accepts (length area) (imageOf t) (invariant-accepted invariant (length area) roomy)
 
   pub image-rows : take (tableRows (orderOf t)) (tableAfterLoad (imageOf t) area) ≡ take (tableRows (orderOf t)) t
   image-rows =
-      same-rows sound (load-sound (imageOf t) area (image-below t) image-accepted) (reads-back t (sound-fits sound))
+      same-rows invariant (load-invariant (imageOf t) area (image-below t) image-accepted) (reads-back t (invariant-fits invariant))
       (load-reads (imageOf t) area image-accepted)
 
-pub image-size : {t : Table} → Sound t → length (imageOf t) ≡ imageSize t
+pub image-size : {t : Table} → Invariant t → length (imageOf t) ≡ imageSize t
 unfolding imageSize
-image-size {t} sound = length-image-built t (slots-length (sound-roomy sound))
+image-size {t} invariant = length-image-built t (slots-length (invariant-roomy invariant))
 
 -- written and loaded as calls
-module _ {t : Table} (sound : Sound t) (lent area : Lent) (rows : tableRows (orderOf t) ≤ length (lent .table)) (long : imageSize t ≤ length (lent .image)) (roomy : tableRows (orderOf t) ≤ length (area .table)) where
+module _ {t : Table} (invariant : Invariant t) (lent area : Lent) (rows : tableRows (orderOf t) ≤ length (lent .table)) (long : imageSize t ≤ length (lent .image)) (roomy : tableRows (orderOf t) ≤ length (area .table)) where
   fits : length (imageOf t) ≤ length (lent .image)
-  fits = omega (arith, image-size sound)
+  fits = omega (arith, image-size invariant)
 
   bytes-written : bytesOfImage (imageSize t) (writing t lent) ≡ imageOf t
   unfolding bytesOfImage
-  bytes-written = ap (λ (n : ℕ). take n (writing t lent .areas .image)) (sym (image-size sound)) ∙ writing-bytes sound lent rows fits
+  bytes-written = ap (λ (n : ℕ). take n (writing t lent .areas .image)) (sym (image-size invariant)) ∙ writing-bytes invariant lent rows fits
 
   pub loads-back : LoadsBack t lent area
   unfolding outcome replyTo areasAfter withTable
   loads-back =
       record {
-        replied = writing-reply sound lent rows fits ∙ ap (λ (n : ℕ). written (record { refusal = 0; length = n })) (image-size sound);
-        accepted = ap (λ (bytes : List ℕ). number (loadRefusal (length (area .table)) bytes)) bytes-written ∙ ap number (image-accepted sound (area .table) roomy);
+        replied = writing-reply invariant lent rows fits ∙ ap (λ (n : ℕ). written (record { refusal = 0; length = n })) (image-size invariant);
+        accepted = ap (λ (bytes : List ℕ). number (loadRefusal (length (area .table)) bytes)) bytes-written ∙ ap number (image-accepted invariant (area .table) roomy);
         rows =
-            ap (λ (bytes : List ℕ). take (tableRows (orderOf t)) (tableAfterLoad bytes (area .table))) bytes-written ∙ image-rows sound (area .table) roomy;
+            ap (λ (bytes : List ℕ). take (tableRows (orderOf t)) (tableAfterLoad bytes (area .table))) bytes-written ∙ image-rows invariant (area .table) roomy;
       }
 
 -- an accepted image is given back by writing the loaded table as a call
@@ -112,11 +112,11 @@ unfolding replyTo outcome areasAfter withTable bytesOfImage
 accepted-gives-back image area lent bytes ok rows long =
     let h : loadRefusal (length (area .table)) image ≡ 0 = cc in
     let t = tableAfterLoad image (area .table) in
-    let sound : Sound t = load-sound image (area .table) bytes h in
+    let invariant : Invariant t = load-invariant image (area .table) bytes h in
     let same : imageOf t ≡ image = accepted-image image (area .table) bytes h in
     let fits : tableRows (orderOf t) ≤ length (lent .table) = rw (← load-reads image (area .table) h .order) rows in
     let room : length (imageOf t) ≤ length (lent .image) = rw same long in
     record {
-      replied = writing-reply sound lent fits room ∙ ap (λ (bytes : List ℕ). written (record { refusal = 0; length = length bytes })) same;
-      bytes = subst (λ (bytes : List ℕ). take (length bytes) (writing t lent .areas .image) ≡ bytes) same (writing-bytes sound lent fits room);
+      replied = writing-reply invariant lent fits room ∙ ap (λ (bytes : List ℕ). written (record { refusal = 0; length = length bytes })) same;
+      bytes = subst (λ (bytes : List ℕ). take (length bytes) (writing t lent .areas .image) ≡ bytes) same (writing-bytes invariant lent fits room);
     }

@@ -5,8 +5,8 @@ use mathlib.Core.Path.{sym, ap, subst}
 use mathlib.Core.List.{List, map}
 use lib.ListN.{length}
 use Rattle.lists.proofs.Lists.{perm-of-eq}
-use Rattle.bucket_rules.specs.Geometry.{tableRows}
-use Rattle.bucket_rules.specs.Table.{Table, orderOf}
+use Rattle.table_rules.specs.Geometry.{tableRows}
+use Rattle.table_rules.specs.Table.{Table, orderOf}
 use Rattle.image_rules.specs.Load.{loadedTable}
 use Rattle.image_rules.proofs.Accepting.{accepted}
 use Rattle.image_rules.proofs.ReadTests.{reads-live}
@@ -16,10 +16,10 @@ use Rattle.history.specs.Model.{Model, itemOf}
 use Rattle.history.specs.History.{IsCall, History, finalState, finalModel}
 use Rattle.history.specs.Represents.{itemsIn}
 use Rattle.history.specs.Demands.{WrittenLoads}
-use Rattle.history.proofs.ImagesLoaded.{loaded-sound}
+use Rattle.history.proofs.ImagesLoaded.{loaded-invariant}
 use Rattle.history.proofs.ImagesBack.{loads-back}
-use Rattle.history.proofs.ScannedItems.{Matches}
-use Rattle.history.proofs.ScannedChange.{Change}
+use Rattle.history.proofs.RefinesItems.{Matches}
+use Rattle.history.proofs.RefinesChange.{Change}
 
 -- a loaded table matches the model that is fed the image
 pub load-matches : (image : List ℕ) (t : Table) (m : Model) → IsCall (load image) → Change (load image) t m
@@ -28,7 +28,7 @@ load-matches image t m bytes h =
     let ok = accepted (length t) image h in
     let here = loaded image t ok in
     record {
-      sound = loaded-sound image t bytes ok;
+      invariant = loaded-invariant image t bytes ok;
       order = here .order;
       space = here .space;
       same = perm-of-eq (ap (map itemOf) (sym (reads-live (loaded-reads image t (loadedTable image t) here))));
@@ -40,4 +40,4 @@ written-loads-where matches h lent area rows bytes roomy =
     let ok = matches h in
     let here : (n : ℕ) → tableRows (finalModel h .order) ≤ n → tableRows (orderOf (finalState h .table)) ≤ n =
     λ n l. subst (λ (order : ℕ). tableRows order ≤ n) (sym (ok .order)) l in
-    loads-back (ok .sound) lent area (here (length (lent .table)) rows) bytes (here (length (area .table)) roomy)
+    loads-back (ok .invariant) lent area (here (length (lent .table)) rows) bytes (here (length (area .table)) roomy)

@@ -17,14 +17,14 @@ use Rattle.metric_rules.specs.Row.{Row, IsRow, isLive, tagOf, profileOf, markOf
 use Rattle.metric_rules.specs.Validity.{validTag, validMeasures}
 use Rattle.metric_rules.specs.Distance.{Space, distance, validSpace}
 use Rattle.tree_rules.specs.Layout.{isLayout}
-use Rattle.bucket_rules.specs.Geometry.{validOrder, room, bucketsOf, headerRow, sizesRow, firstSlot, tableRows}
-use Rattle.bucket_rules.specs.Table.{Table, rowAt, orderOf, tableSpace, builtOf, liveOf, slotsOf, liveSlots, pairRow, headerOf}
-use Rattle.bucket_rules.specs.Checks.{sizesPass, marksPass}
-use Rattle.bucket_rules.specs.Rebuild.{liveItems}
-use Rattle.bucket_rules.proofs.Buckets.{every-bucket}
-use Rattle.bucket_rules.proofs.Owned.{all-own}
-use Rattle.bucket_rules.proofs.RowsFit.{zero-row-fits, pair-row-fits, header-fits}
-use Rattle.bucket_rules.proofs.Puts.{Holds, held-built, held-live, held-slots, held-zeros}
+use Rattle.table_rules.specs.Geometry.{validOrder, room, bucketsOf, headerRow, sizesRow, firstSlot, tableRows}
+use Rattle.table_rules.specs.Table.{Table, rowAt, orderOf, tableSpace, builtOf, liveOf, slotsOf, liveSlots, pairRow, headerOf}
+use Rattle.table_rules.specs.Checks.{sizesPass, marksPass}
+use Rattle.table_rules.specs.Rebuild.{liveItems}
+use Rattle.table_rules.proofs.Buckets.{every-bucket}
+use Rattle.table_rules.proofs.Owned.{all-own}
+use Rattle.table_rules.proofs.RowsFit.{zero-row-fits, pair-row-fits, header-fits}
+use Rattle.table_rules.proofs.Puts.{Holds, held-built, held-live, held-slots, held-zeros}
 use Rattle.image_rules.specs.Read.{orderIn, spaceIn, liveIn, bucketIn}
 use Rattle.image_rules.specs.Load.{fieldsPass, bucketPasses, loadRefusal, loadedTable, tableAfterLoad}
 use Rattle.image_rules.proofs.Blocks.{all-at}
@@ -34,7 +34,7 @@ use Rattle.image_rules.proofs.Accepting.{Accepted, accepted}
 use Rattle.image_rules.proofs.ReadBack.{ReadsBack}
 use Rattle.image_rules.proofs.ReadTests.{reads-sizes, reads-buckets}
 use Rattle.image_rules.proofs.Loaded.{length-bucket-in, Loaded, loaded, loaded-reads, table-after-load}
-use Rattle.history.proofs.Sound.{Sound}
+use Rattle.history.proofs.Invariant.{Invariant}
 
 -- what load tests of a bucket, one by one
 record BucketPasses (space : Space) (live : ℕ) (slots : List Row) : Type 0 where
@@ -120,8 +120,8 @@ module _ (image : List ℕ) (area : Table) (bytes : All (λ b. b < 2 ^ 8) image)
       (omega (arith, length-bucket-in image k, built-in-fits image bytes k))
       (omega (arith, live-in-fits image bytes k)))
 
-  pub loaded-sound : Sound u
-  loaded-sound =
+  pub loaded-invariant : Invariant u
+  loaded-invariant =
       record {
         order = order-valid;
         space = ap validSpace (here .space) ∙ ok .space;
@@ -139,7 +139,7 @@ module _ (image : List ℕ) (area : Table) (bytes : All (λ b. b < 2 ^ 8) image)
       }
 
 -- and so is the table after an accepted load, as a call
-pub load-sound : (image : List ℕ) (area : Table) → All (λ b. b < 2 ^ 8) image → loadRefusal (length area) image ≡ 0
-    → Sound (tableAfterLoad image area)
-load-sound image area bytes h =
-    rw (table-after-load image area h) (loaded-sound image area bytes (accepted (length area) image h))
+pub load-invariant : (image : List ℕ) (area : Table) → All (λ b. b < 2 ^ 8) image → loadRefusal (length area) image ≡ 0
+    → Invariant (tableAfterLoad image area)
+load-invariant image area bytes h =
+    rw (table-after-load image area h) (loaded-invariant image area bytes (accepted (length area) image h))

@@ -9,11 +9,11 @@ use lib.Dec.{leb}
 use lib.ListN.{length, take, drop}
 use lib.Seq.{take-append-seam}
 use borrow.Author.Tests.{le-leb}
-use Rattle.bucket_rules.specs.Refusals.{resultShort}
-use Rattle.bucket_rules.specs.Geometry.{tableRows}
-use Rattle.bucket_rules.specs.Table.{Table, orderOf}
-use Rattle.bucket_rules.specs.Checks.{readRefusal}
-use Rattle.bucket_rules.proofs.Views.{same-order, same-space, kept-built, kept-live, kept-slots, own-header, own-kept}
+use Rattle.table_rules.specs.Refusals.{noRoom}
+use Rattle.table_rules.specs.Geometry.{tableRows}
+use Rattle.table_rules.specs.Table.{Table, orderOf}
+use Rattle.table_rules.specs.Checks.{readRefusal}
+use Rattle.table_rules.proofs.Views.{same-order, same-space, kept-built, kept-live, kept-slots, own-header, own-kept}
 use Rattle.image_rules.specs.Write.{imageOf, writeRefusal, writeReply, imageAfterWrite}
 use Rattle.image_rules.proofs.ReadBack.{reads-back}
 use Rattle.image_rules.proofs.Lengths.{image-below}
@@ -22,61 +22,61 @@ use Rattle.history.specs.Calls.{Lent, outcome, replyTo, areasAfter, with
 use Rattle.history.specs.Calls.Reply.{written}
 use Rattle.history.specs.Trace.{overlaid, stepOutcome}
 use Rattle.history.specs.Images.{writing}
-use Rattle.history.proofs.Sound.{Sound}
-use Rattle.history.proofs.SoundStanding.{sound-roomy}
-use Rattle.history.proofs.ImagesFit.{sound-fits, sound-accepted}
-use Rattle.history.proofs.ScannedRefusals.{sound-refusal}
-use Rattle.history.proofs.ScannedOwn.{sound-own}
-use Rattle.history.proofs.ScannedStep.{overlaid-length, overlaid-own}
+use Rattle.history.proofs.Invariant.{Invariant}
+use Rattle.history.proofs.InvariantForms.{invariant-roomy}
+use Rattle.history.proofs.ImagesFit.{invariant-fits, invariant-accepted}
+use Rattle.history.proofs.RefinesRefusals.{invariant-refusal}
+use Rattle.history.proofs.RefinesOwn.{invariant-own}
+use Rattle.history.proofs.RefinesStep.{overlaid-length, overlaid-own}
 
 -- the call on a sound table itself
-module _ {t : Table} (sound : Sound t) (area : List ℕ) (long : length (imageOf t) ≤ length area) where
+module _ {t : Table} (invariant : Invariant t) (area : List ℕ) (long : length (imageOf t) ≤ length area) where
   write-accepted : writeRefusal t area ≡ 0
   unfolding writeRefusal readRefusal
   write-accepted =
-      ap (λ (n : ℕ). elim n as (λ _. ℕ) [ suc m ↦ suc m | zero ↦ elim (leb (length (imageOf t)) (length area)) [ true ↦ 0 | false ↦ resultShort ] ])
-      (sound-refusal (λ u. true) (λ u. true) t sound)
+      ap (λ (n : ℕ). elim n as (λ _. ℕ) [ suc m ↦ suc m | zero ↦ elim (leb (length (imageOf t)) (length area)) [ true ↦ 0 | false ↦ noRoom ] ])
+      (invariant-refusal (λ u. true) (λ u. true) t invariant)
       ∙ rw (le-leb (length (imageOf t)) (length area) long)
 
-  pub sound-reply : writeReply t area ≡ record { refusal = 0; length = length (imageOf t) }
+  pub invariant-reply : writeReply t area ≡ record { refusal = 0; length = length (imageOf t) }
   unfolding writeReply
-  sound-reply = rw (write-accepted, writeReply)
+  invariant-reply = rw (write-accepted, writeReply)
 
-  pub sound-bytes : take (length (imageOf t)) (imageAfterWrite t area) ≡ imageOf t
+  pub invariant-bytes : take (length (imageOf t)) (imageAfterWrite t area) ≡ imageOf t
   unfolding imageAfterWrite
-  sound-bytes = rw (write-accepted, imageAfterWrite) (take-append-seam (imageOf t) (drop (length (imageOf t)) area))
+  invariant-bytes = rw (write-accepted, imageAfterWrite) (take-append-seam (imageOf t) (drop (length (imageOf t)) area))
 
 -- the image is of a table's own rows alone
-pub image-own : {t : Table} → Sound t → (u : Table) → take (tableRows (orderOf t)) u ≡ take (tableRows (orderOf t)) t → imageOf u ≡ imageOf t
-image-own {t} sound u own =
-    let reads = reads-back t (sound-fits sound) in
+pub image-own : {t : Table} → Invariant t → (u : Table) → take (tableRows (orderOf t)) u ≡ take (tableRows (orderOf t)) t → imageOf u ≡ imageOf t
+image-own {t} invariant u own =
+    let reads = reads-back t (invariant-fits invariant) in
     let order : orderOf u ≡ orderOf t = same-order (own-header t u own) in
     let at : (k : ℕ) → k ≤ orderOf u → k ≤ orderOf t = λ k h. omega (arith, order) in
-    let ok = sound-accepted sound (tableRows (orderOf t)) (omega arith) in
+    let ok = invariant-accepted invariant (tableRows (orderOf t)) (omega arith) in
     gives-back u (imageOf t) (record { bytes = image-below t; long = ok .long; zeros = ok .zeros })
     (record {
       order = reads .order ∙ sym order;
       space = reads .space ∙ sym (same-space (own-header t u own));
       built = λ k h. reads .built k (at k h) ∙ sym (kept-built (own-kept t u own k (at k h)));
       live = λ k h. reads .live k (at k h) ∙ sym (kept-live (own-kept t u own k (at k h)));
-      slots = λ k h. reads .slots k (at k h) ∙ sym (kept-slots (own-kept t u own k (at k h)) (sound-roomy sound .within k (at k h)));
+      slots = λ k h. reads .slots k (at k h) ∙ sym (kept-slots (own-kept t u own k (at k h)) (invariant-roomy invariant .within k (at k h)));
     })
 
 -- the call as it is lent any areas
-module _ {t : Table} (sound : Sound t) (lent : Lent) (rows : tableRows (orderOf t) ≤ length (lent .table)) (long : length (imageOf t) ≤ length (lent .image)) where
+module _ {t : Table} (invariant : Invariant t) (lent : Lent) (rows : tableRows (orderOf t) ≤ length (lent .table)) (long : length (imageOf t) ≤ length (lent .image)) where
   seen : Table
   seen = overlaid t (lent .table)
 
   seen-own : take (tableRows (orderOf t)) seen ≡ take (tableRows (orderOf t)) t
   unfolding seen
-  seen-own = overlaid-own (tableRows (orderOf t)) t (lent .table) (sound .long) rows
+  seen-own = overlaid-own (tableRows (orderOf t)) t (lent .table) (invariant .long) rows
 
-  seen-sound : Sound seen
+  seen-invariant : Invariant seen
   unfolding seen
-  seen-sound = sound-own sound seen seen-own (omega (arith, overlaid-length t (lent .table)))
+  seen-invariant = invariant-own invariant seen seen-own (omega (arith, overlaid-length t (lent .table)))
 
   seen-image : imageOf seen ≡ imageOf t
-  seen-image = image-own sound seen seen-own
+  seen-image = image-own invariant seen seen-own
 
   seen-long : length (imageOf seen) ≤ length (lent .image)
   seen-long = rw seen-image long
@@ -84,10 +84,10 @@ module _ {t : Table} (sound : Sound t) (lent : Lent) (rows : tableRows (orderOf 
   pub writing-reply : writing t lent .reply ≡ written (record { refusal = 0; length = length (imageOf t) })
   unfolding seen writing stepOutcome outcome replyTo withTable
   writing-reply =
-      ap written (sound-reply seen-sound (lent .image) seen-long ∙ ap (λ (bytes : List ℕ). record { refusal = 0; length = length bytes }) seen-image)
+      ap written (invariant-reply seen-invariant (lent .image) seen-long ∙ ap (λ (bytes : List ℕ). record { refusal = 0; length = length bytes }) seen-image)
 
   pub writing-bytes : take (length (imageOf t)) (writing t lent .areas .image) ≡ imageOf t
   unfolding seen writing stepOutcome outcome areasAfter withTable withImage
   writing-bytes =
       subst (λ (bytes : List ℕ). take (length bytes) (imageAfterWrite seen (lent .image)) ≡ bytes) seen-image
-      (sound-bytes seen-sound (lent .image) seen-long)
+      (invariant-bytes seen-invariant (lent .image) seen-long)

@@ -20,17 +20,17 @@ use Rattle.metric_rules.specs.Validity.{validTag, validMeasures}
 use Rattle.metric_rules.specs.Distance.{distance}
 use Rattle.metric_rules.proofs.Codec.{mark-with-mark, tag-with-mark, profile-with-mark, with-mark-fits}
 use Rattle.tree_rules.proofs.Marks.{mark-aside, is-layout-marks}
-use Rattle.bucket_rules.specs.Geometry.{room}
-use Rattle.bucket_rules.specs.Table.{Table, tableSpace, builtOf, liveOf, slotsOf, pairRow}
-use Rattle.bucket_rules.specs.LookUp.{Place}
-use Rattle.bucket_rules.specs.Remove.{marked}
-use Rattle.bucket_rules.proofs.Puts.{Holds, filledRoom}
-use Rattle.bucket_rules.proofs.Changes.{marked-only, marked-sizes, marked-room}
-use Rattle.bucket_rules.proofs.Live.{allLive, slots-length}
-use Rattle.bucket_rules.proofs.Finding.{Found, mark-loses, marked-permutes, found-within}
+use Rattle.table_rules.specs.Geometry.{room}
+use Rattle.table_rules.specs.Table.{Table, tableSpace, builtOf, liveOf, slotsOf, pairRow}
+use Rattle.table_rules.specs.LookUp.{Place}
+use Rattle.table_rules.specs.Remove.{marked}
+use Rattle.table_rules.proofs.Puts.{Holds, filledRoom}
+use Rattle.table_rules.proofs.Changes.{marked-only, marked-sizes, marked-room}
+use Rattle.table_rules.proofs.Live.{allLive, slots-length}
+use Rattle.table_rules.proofs.Finding.{Found, mark-loses, marked-permutes, found-within}
 use Rattle.image_rules.specs.Load.{fieldsPass}
-use Rattle.history.proofs.Standing.{Good, Stocked, Standing, standing-roomy, standing-changed}
-use Rattle.history.proofs.SoundStanding.{standing-good, standing-held}
+use Rattle.history.proofs.ByBucket.{Good, GoodBucket, ByBucket, by-bucket-roomy, by-bucket-changed}
+use Rattle.history.proofs.InvariantForms.{by-bucket-good, by-bucket-held}
 
 all-set : {A : Type 0} (P : A → Type 0) (xs : List A) (i : ℕ) (a : A) → P a → All P xs → All P (set xs i a)
 all-set P [] i a h k = tt
@@ -46,7 +46,7 @@ dead-fields row is h =
     (ap₂ (λ (a b : Bool). a && b) (ap validTag (tag-with-mark row 1)) (ap validMeasures (profile-with-mark row 1)) ∙ both)
     (le-leb (markOf (withMark 1 row)) 1 (omega (arith, mark-with-mark row 1 (is .width))))
 
-module _ {t : Table} (s : Standing t) (tag : ℕ) (place : Place) (found : Found t tag place) where
+module _ {t : Table} (s : ByBucket t) (tag : ℕ) (place : Place) (found : Found t tag place) where
   abbrev k : ℕ
   k = place .bucket
 
@@ -57,7 +57,7 @@ module _ {t : Table} (s : Standing t) (tag : ℕ) (place : Place) (found : Found
   dead = withMark 1 (place .row)
 
   good : Good (tableSpace t) (slotsOf t (place .bucket)) (liveOf t (place .bucket))
-  good = standing-good s (place .bucket) (found .inOrder)
+  good = by-bucket-good s (place .bucket) (found .inOrder)
 
   pub row-is : IsRow (place .row)
   row-is = subst IsRow (found .row) (all-at IsRow slots (place .slot) (found .within) (good .rows))
@@ -95,14 +95,14 @@ module _ {t : Table} (s : Standing t) (tag : ℕ) (place : Place) (found : Found
       }
 
   pub row-within : place .slot < room k
-  row-within = omega (arith, found-within t tag place (standing-roomy s) found (row-is .width), standing-roomy s .within k (found .inOrder))
+  row-within = omega (arith, found-within t tag place (by-bucket-roomy s) found (row-is .width), by-bucket-roomy s .within k (found .inOrder))
 
   marked-held : Holds (marked t place) k (set slots (place .slot) dead) (liveOf t k - 1)
   unfolding filledRoom
   marked-held =
-      let held : Holds t k slots (liveOf t k) = standing-held s k (found .inOrder) in
+      let held : Holds t k slots (liveOf t k) = by-bucket-held s k (found .inOrder) in
       let number : length (set slots (place .slot) dead) ≡ length slots = length-set slots (place .slot) dead in
-      let built : length slots ≡ builtOf t k = slots-length (standing-roomy s) k (found .inOrder) in
+      let built : length slots ≡ builtOf t k = slots-length (by-bucket-roomy s) k (found .inOrder) in
       record {
         fits = omega (arith, number, held .fits);
         sizes =
@@ -114,20 +114,20 @@ module _ {t : Table} (s : Standing t) (tag : ℕ) (place : Place) (found : Found
             ∙ ap (λ (n : ℕ). set slots (place .slot) dead ++ replicate (room k - n) zeroRow) (sym number);
       }
 
-  pub marked-standing : Standing (marked t place)
-  marked-standing =
-      standing-changed s (marked-only t place (found .inOrder) (s .long) row-within)
+  pub marked-by-bucket : ByBucket (marked t place)
+  marked-by-bucket =
+      by-bucket-changed s (marked-only t place (found .inOrder) (s .long) row-within)
       (λ j h. elim (ℕ-discrete j k) [
         | yes e ↦
             inr
-            (subst (Stocked (tableSpace t) (marked t place)) (sym e)
+            (subst (GoodBucket (tableSpace t) (marked t place)) (sym e)
             (record { slots = set slots (place .slot) dead; live = liveOf t k - 1; held = marked-held; good = marked-good }))
         | no ne ↦ inl ne
       ])
 
   -- all live items but the one found
   pub marked-live : List·Permᴰ (allLive t) (place .row ∷ allLive (marked t place))
-  marked-live = marked-permutes t tag place (standing-roomy s) found (row-is .width)
+  marked-live = marked-permutes t tag place (by-bucket-roomy s) found (row-is .width)
 
   pub marked-once : distinct (map tagOf (allLive t)) ≡ true → distinct (map tagOf (allLive (marked t place))) ≡ true
   marked-once h = distinct-right (tagOf (place .row) ∷ []) (map tagOf (allLive (marked t place))) (distinct-perm (perm-map tagOf marked-live) h)

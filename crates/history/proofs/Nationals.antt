@@ -6,8 +6,8 @@ use mathlib.Core.List.{List, [], _∷_, map}
 use lib.ListN.{set}
 use Rattle.metric_rules.specs.Row.{rowOf}
 use Rattle.metric_rules.specs.Validity.{nationals}
-use Rattle.bucket_rules.specs.Geometry.{firstSlot}
-use Rattle.bucket_rules.specs.Table.{Table}
+use Rattle.table_rules.specs.Geometry.{firstSlot}
+use Rattle.table_rules.specs.Table.{Table}
 use Rattle.image_rules.specs.Write.{imageOf}
 use Rattle.history.specs.Calls.Call.{fresh, load, add, remove, lookUp, range, nearest}
 use Rattle.history.proofs.Running.{by, tag, valued, scratch, replies, after}

@@ -24,18 +24,18 @@ use Rattle.tree_rules.proofs.Layouts.{layout-length, layout-permutes}
 use Rattle.tree_rules.proofs.InPlace.{layout-is-layout}
 use Rattle.tree_rules.proofs.Built.{Fresh, layout-fresh}
 use Rattle.search_rules.proofs.Selecting.{select-all}
-use Rattle.bucket_rules.specs.Table.{Table, orderOf, tableSpace, builtOf, liveOf, slotsOf, liveSlots, emptied}
-use Rattle.bucket_rules.specs.Checks.{sizePasses}
-use Rattle.bucket_rules.specs.Rebuild.{liveItems, rebuilt}
-use Rattle.bucket_rules.proofs.Views.{Only, same-order, kept-built, kept-live}
-use Rattle.bucket_rules.proofs.Puts.{Holds, held-built, held-live, apart-or}
-use Rattle.bucket_rules.proofs.Live.{allLive, is-live, emptied-live, rebuilt-holds, rebuilt-only, rebuilt-empties, rebuilt-permutes}
-use Rattle.bucket_rules.proofs.Sizes.{size-none, size-used}
-use Rattle.bucket_rules.proofs.Adding.{Target}
+use Rattle.table_rules.specs.Table.{Table, orderOf, tableSpace, builtOf, liveOf, slotsOf, liveSlots, emptied}
+use Rattle.table_rules.specs.Checks.{sizePasses}
+use Rattle.table_rules.specs.Rebuild.{liveItems, rebuilt}
+use Rattle.table_rules.proofs.Views.{Only, same-order, kept-built, kept-live}
+use Rattle.table_rules.proofs.Puts.{Holds, held-built, held-live, apart-or}
+use Rattle.table_rules.proofs.Live.{allLive, is-live, emptied-live, rebuilt-holds, rebuilt-only, rebuilt-empties, rebuilt-permutes}
+use Rattle.table_rules.proofs.Sizes.{size-none, size-used}
+use Rattle.table_rules.proofs.Adding.{Target}
 use Rattle.image_rules.specs.Load.{fieldsPass}
-use Rattle.history.proofs.ScannedLists.{select-all as all-selected}
-use Rattle.history.proofs.Standing.{Good, Stocked, Standing, good-none, standing-roomy, standing-changed}
-use Rattle.history.proofs.SoundStanding.{standing-good}
+use Rattle.history.proofs.RefinesLists.{select-all as all-selected}
+use Rattle.history.proofs.ByBucket.{Good, GoodBucket, ByBucket, good-none, by-bucket-roomy, by-bucket-changed}
+use Rattle.history.proofs.InvariantForms.{by-bucket-good}
 
 -- tag and measures of a row are valid
 unfoldable pub validRow : Row → Bool
@@ -83,32 +83,32 @@ live-all t P each [] h = tt
 live-all t P each (k ∷ ks) h = all-append P (liveSlots t k) (liveItems t ks) (all-selected isLive P (slotsOf t k) (each k (h .0))) (live-all t P each ks (h .1))
 
 -- the buckets listed gathered, with some new rows, and built in bucket k
-module _ {t : Table} (s : Standing t) (ks : List ℕ) (inOrder : All (λ k. k ≤ orderOf t) ks) (separate : Pairs (λ i j. i ≡ j → ⊥) ks)
+module _ {t : Table} (s : ByBucket t) (ks : List ℕ) (inOrder : All (λ k. k ≤ orderOf t) ks) (separate : Pairs (λ i j. i ≡ j → ⊥) ks)
     (new : List Row) (newRows : All IsRow new) (newValid : All (λ r. validRow r ≡ true) new) (once : distinct (map tagOf (new ++ allLive t)) ≡ true)
     (k : ℕ) (target : Target t ks k (length (new ++ liveItems t ks))) where
   gathered-rows : All IsRow (new ++ liveItems t ks)
-  gathered-rows = all-append IsRow new (liveItems t ks) newRows (live-all t IsRow (λ j h. standing-good s j h .rows) ks inOrder)
+  gathered-rows = all-append IsRow new (liveItems t ks) newRows (live-all t IsRow (λ j h. by-bucket-good s j h .rows) ks inOrder)
 
   gathered-valid : All (λ r. validRow r ≡ true) (new ++ liveItems t ks)
   gathered-valid =
       all-append (λ r. validRow r ≡ true) new (liveItems t ks) newValid
       (live-all t (λ r. validRow r ≡ true)
-      (λ j h. all-weaken valid-fields (slotsOf t j) (every-all fieldsPass (slotsOf t j) (standing-good s j h .fields))) ks inOrder)
+      (λ j h. all-weaken valid-fields (slotsOf t j) (every-all fieldsPass (slotsOf t j) (by-bucket-good s j h .fields))) ks inOrder)
 
   gathered-once : distinct (map tagOf (new ++ liveItems t ks)) ≡ true
   gathered-once =
       let rest : List Row = allLive (emptied ks t) in
       let all : List·Permᴰ (new ++ allLive t) ((new ++ liveItems t ks) ++ rest) =
-      List·Permᴰ·trans (Permᴰ·append-left new (emptied-live ks t (standing-roomy s) inOrder separate))
+      List·Permᴰ·trans (Permᴰ·append-left new (emptied-live ks t (by-bucket-roomy s) inOrder separate))
       (perm-of-eq (sym (append-assoc new (liveItems t ks) rest))) in
       distinct-left (map tagOf (new ++ liveItems t ks)) (map tagOf rest)
       (subst (λ (ns : List ℕ). distinct ns ≡ true) (map-append tagOf (new ++ liveItems t ks) rest) (distinct-perm (perm-map tagOf all) once))
 
   tree-held : Holds (rebuilt t ks k (new ++ liveItems t ks) .table) k (layout (distance (tableSpace t)) (new ++ liveItems t ks)) (length (new ++ liveItems t ks))
-  tree-held = rebuilt-holds t (standing-roomy s) ks inOrder k (target .reached) (new ++ liveItems t ks) (target .fits)
+  tree-held = rebuilt-holds t (by-bucket-roomy s) ks inOrder k (target .reached) (new ++ liveItems t ks) (target .fits)
 
   tree-only : Only (λ j. All (λ i. j ≡ i → ⊥) (k ∷ ks)) t (rebuilt t ks k (new ++ liveItems t ks) .table)
-  tree-only = rebuilt-only t (standing-roomy s) ks inOrder k (target .reached) (new ++ liveItems t ks) (target .fits)
+  tree-only = rebuilt-only t (by-bucket-roomy s) ks inOrder k (target .reached) (new ++ liveItems t ks) (target .fits)
 
   -- bucket j afterwards: kept, or the tree, or empty
   data After (j : ℕ) : Type 0 where
@@ -122,20 +122,20 @@ module _ {t : Table} (s : Standing t) (ks : List ℕ) (inOrder : All (λ k. k �
         | yes e ↦ built e
         | no ne ↦
             elim (apart-or (λ i. (i ≡ k → ⊥) → Holds (rebuilt t ks k (new ++ liveItems t ks) .table) i [] 0) j ks
-            (rebuilt-empties t (standing-roomy s) ks inOrder k (target .reached) (new ++ liveItems t ks) (target .fits))) [
+            (rebuilt-empties t (by-bucket-roomy s) ks inOrder k (target .reached) (new ++ liveItems t ks) (target .fits))) [
               | inl a ↦ kept (ne, a)
               | inr held ↦ empty (held ne)
             ]
       ]
 
-  pub rebuilt-standing : Standing (rebuilt t ks k (new ++ liveItems t ks) .table)
-  rebuilt-standing =
-      standing-changed s tree-only
+  pub rebuilt-by-bucket : ByBucket (rebuilt t ks k (new ++ liveItems t ks) .table)
+  rebuilt-by-bucket =
+      by-bucket-changed s tree-only
       (λ j h. elim (after-each j) [
         | kept a ↦ inl a
         | built e ↦
             inr
-            (subst (Stocked (tableSpace t) (rebuilt t ks k (new ++ liveItems t ks) .table)) (sym e)
+            (subst (GoodBucket (tableSpace t) (rebuilt t ks k (new ++ liveItems t ks) .table)) (sym e)
             (record {
               slots = layout (distance (tableSpace t)) (new ++ liveItems t ks);
               live = length (new ++ liveItems t ks);
@@ -171,7 +171,7 @@ module _ {t : Table} (s : Standing t) (ks : List ℕ) (inOrder : All (λ k. k �
       {B : Type 0} (f : Row → B) → ((m : ℕ) (row : Row) → f (placed m row) ≡ f row)
       → List·Permᴰ (map f (allLive (rebuilt t ks k (new ++ liveItems t ks) .table))) (map f (new ++ allLive t))
   rebuilt-live f same =
-      rebuilt-permutes t (standing-roomy s) ks inOrder k (target .reached) (new ++ liveItems t ks) (target .fits) separate (target .vacant) gathered-rows f same new
+      rebuilt-permutes t (by-bucket-roomy s) ks inOrder k (target .reached) (new ++ liveItems t ks) (target .fits) separate (target .vacant) gathered-rows f same new
       refl
 
   pub rebuilt-once : distinct (map tagOf (allLive (rebuilt t ks k (new ++ liveItems t ks) .table))) ≡ true

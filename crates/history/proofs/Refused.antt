@@ -7,9 +7,9 @@ use lib.IntN.{pos, negsuc}
 use lib.ListN.{set, take, replicate}
 use Rattle.metric_rules.specs.declared.Profile.{Profile}
 use Rattle.metric_rules.specs.Row.{zeroRow, rowOf, withMark}
-use Rattle.bucket_rules.specs.Geometry.{firstSlot}
-use Rattle.bucket_rules.specs.Table.{Table, rowAt, pairRow, putSizes}
-use Rattle.bucket_rules.specs.LookUp.{notFound}
+use Rattle.table_rules.specs.Geometry.{firstSlot}
+use Rattle.table_rules.specs.Table.{Table, rowAt, pairRow, putSizes}
+use Rattle.table_rules.specs.LookUp.{notFound}
 use Rattle.history.specs.Calls.{Call, Lent, Reply, Outcome}
 use Rattle.history.specs.Calls.Call.{fresh, load, add, remove, lookUp, range, nearest, write, readList}
 use Rattle.history.specs.Calls.Reply.{number, added, removed, lookedUp, searched, written, listRead}

@@ -3,7 +3,7 @@
 use Prim.Native.Nat.{ℕ}
 use mathlib.Core.Path.{_≡_, refl}
 use mathlib.Core.List.{List, [], _∷_, _++_}
-use Rattle.bucket_rules.specs.Table.{Table}
+use Rattle.table_rules.specs.Table.{Table}
 use Rattle.history.specs.Calls.Call.{fresh}
 use Rattle.history.proofs.Running.{by, tag, scratch, replies, after, contents, adding, removing, table}
 

@@ -15,26 +15,26 @@ use Rattle.lists.specs.Lists.{countFrom, select, All}
 use Rattle.lists.proofs.Lists.{all-weaken}
 use Rattle.metric_rules.specs.declared.Profile.{Profile}
 use Rattle.metric_rules.specs.Row.{Row, isLive, withMark}
-use Rattle.bucket_rules.specs.declared.Added.{Added}
-use Rattle.bucket_rules.specs.declared.Removed.{Removed}
-use Rattle.bucket_rules.specs.Geometry.{room, tableRows}
-use Rattle.bucket_rules.specs.Table.{Table, orderOf, builtOf, liveOf, inUse, slotsOf, liveSlots, emptied}
-use Rattle.bucket_rules.specs.Rebuild.{Rebuilt, liveItems}
-use Rattle.bucket_rules.specs.Checks.{changeRefusal}
-use Rattle.bucket_rules.specs.LookUp.{Place, find}
-use Rattle.bucket_rules.specs.Add.{addRefusal, lowestEmpty, gathered, addTarget, added, addReply, tableAfterAdd}
-use Rattle.bucket_rules.specs.Remove.{removeRefusal, marked, united, thinned, settled, removed, removeReply, tableAfterRemove}
-use Rattle.bucket_rules.proofs.Views.{Only, only-own, only-fewer, same-order, kept-built, kept-live, kept-live-slots}
-use Rattle.bucket_rules.proofs.Puts.{held-built, apart-or, emptied-only, emptied-holds}
-use Rattle.bucket_rules.proofs.Passing.{bucket-within}
-use Rattle.bucket_rules.proofs.Changes.{marked-only, marked-built, marked-live, marked-slots}
-use Rattle.bucket_rules.proofs.Live.{slots-length}
-use Rattle.bucket_rules.proofs.Finding.{Found, found}
-use Rattle.bucket_rules.proofs.Sizes.{Used, size-in-use, sizes-at, room-zero, room-positive}
-use Rattle.bucket_rules.proofs.Adding.{Target, gathered-buckets, not-in-use}
-use Rattle.bucket_rules.proofs.Fill.{passed-roomy, Changeable, changeable, add-accepted, add-fits}
+use Rattle.table_rules.specs.declared.Added.{Added}
+use Rattle.table_rules.specs.declared.Removed.{Removed}
+use Rattle.table_rules.specs.Geometry.{room, tableRows}
+use Rattle.table_rules.specs.Table.{Table, orderOf, builtOf, liveOf, inUse, slotsOf, liveSlots, emptied}
+use Rattle.table_rules.specs.Rebuild.{Rebuilt, liveItems}
+use Rattle.table_rules.specs.Checks.{changeRefusal}
+use Rattle.table_rules.specs.LookUp.{Place, find}
+use Rattle.table_rules.specs.Add.{addRefusal, lowestEmpty, gathered, addTarget, added, addReply, tableAfterAdd}
+use Rattle.table_rules.specs.Remove.{removeRefusal, marked, united, rebuiltLower, shrunk, removed, removeReply, tableAfterRemove}
+use Rattle.table_rules.proofs.Views.{Only, only-own, only-fewer, same-order, kept-built, kept-live, kept-live-slots}
+use Rattle.table_rules.proofs.Puts.{held-built, apart-or, emptied-only, emptied-holds}
+use Rattle.table_rules.proofs.Passing.{bucket-within}
+use Rattle.table_rules.proofs.Changes.{marked-only, marked-built, marked-live, marked-slots}
+use Rattle.table_rules.proofs.Live.{slots-length}
+use Rattle.table_rules.proofs.Finding.{Found, found}
+use Rattle.table_rules.proofs.Sizes.{Used, size-in-use, sizes-at, room-zero, room-positive}
+use Rattle.table_rules.proofs.Adding.{Target, gathered-buckets, not-in-use}
+use Rattle.table_rules.proofs.Fill.{passed-roomy, Changeable, changeable, add-accepted, add-fits}
 use Rattle.history.specs.Reports.{builtIn, buildCost, ReportsBuilds}
-use Rattle.history.proofs.ScannedLists.{select-set}
+use Rattle.history.proofs.RefinesLists.{select-set}
 use Rattle.history.proofs.ReportingBuilds.{dead-not-built, kept-not-built, none-built, no-build, kept-reports, rebuild-reports}
 
 -- of the live items of some buckets each bucket has a part
@@ -141,9 +141,9 @@ module _ {work : List Row} {t : Table} (c : Changeable work t) (tag : ℕ) (plac
       ])
 
   -- too thin: its items and those of other buckets are more than the bucket built had
-  module _ (some-left : 0 < liveOf v k) (thin : 4 * liveOf v k ≤ room k) where
+  module _ (some-left : 0 < liveOf v k) (sparse : 4 * liveOf v k ≤ room k) where
     positive : 0 < k
-    positive = elim (ℕ-discrete k 0) [ yes e ↦ absurd (omega (arith, some-left, thin, ap room e ∙ room-zero)) | no ne ↦ omega (arith, ne) ]
+    positive = elim (ℕ-discrete k 0) [ yes e ↦ absurd (omega (arith, some-left, sparse, ap room e ∙ room-zero)) | no ne ↦ omega (arith, ne) ]
 
     united-reports :
         (rest : List ℕ) → All (λ j. j ≤ orderOf t) rest → (g : ℕ) → g ≤ orderOf t → liveOf t g < length (liveItems v (k ∷ rest))
@@ -180,9 +180,9 @@ module _ {work : List Row} {t : Table} (c : Changeable work t) (tag : ℕ) (plac
           within j inOrder .0,
         )
 
-    thinned-reports : thinned v k .distances ≡ buildCost t (thinned v k .table)
-    unfolding thinned
-    thinned-reports = go (inUse v (k - 1)) refl (ltb (room (k - 2)) (liveOf v (k - 1))) refl (inUse v (k - 2)) refl
+    rebuilt-lower-reports : rebuiltLower v k .distances ≡ buildCost t (rebuiltLower v k .table)
+    unfolding rebuiltLower
+    rebuilt-lower-reports = go (inUse v (k - 1)) refl (ltb (room (k - 2)) (liveOf v (k - 1))) refl (inUse v (k - 2)) refl
       where
         result : Bool → Bool → Bool → Rebuilt
         result a b d =
@@ -206,22 +206,22 @@ module _ {work : List Row} {t : Table} (c : Changeable work t) (tag : ℕ) (plac
             united-reports ((k - 2) ∷ []) (omega (arith, at .inOrder), tt) (k - 1) (one .0) (vacant-more ((k - 2) ∷ []) (k - 1) (omega (arith, positive)) e)
         go false e b f false q = united-reports [] tt (k - 2) (omega (arith, at .inOrder)) (vacant-more [] (k - 2) (omega (arith, positive)) q)
 
-  settled-reports : settled v k .distances ≡ buildCost t (settled v k .table)
-  unfolding settled
-  settled-reports = go (eqb (liveOf v k) 0) refl (ltb (room k) (4 * liveOf v k)) refl
+  shrunk-reports : shrunk v k .distances ≡ buildCost t (shrunk v k .table)
+  unfolding shrunk
+  shrunk-reports = go (eqb (liveOf v k) 0) refl (ltb (room k) (4 * liveOf v k)) refl
     where
       result : Bool → Bool → Rebuilt
       result a b =
           elim a [
             | true ↦ record { table = emptied (k ∷ []) v; distances = 0 }
-            | false ↦ elim b [ true ↦ record { table = v; distances = 0 } | false ↦ thinned v k ]
+            | false ↦ elim b [ true ↦ record { table = v; distances = 0 } | false ↦ rebuiltLower v k ]
           ]
 
       go :
           (a : Bool) → eqb (liveOf v k) 0 ≡ a → (b : Bool) → ltb (room k) (4 * liveOf v k) ≡ b → result a b .distances ≡ buildCost t (result a b .table)
       go true e b f = emptied-reports
       go false e true f = left-reports
-      go false e false f = thinned-reports (omega (arith, eqb-false (liveOf v k) 0 e)) (ltb-false (room k) (4 * liveOf v k) f)
+      go false e false f = rebuilt-lower-reports (omega (arith, eqb-false (liveOf v k) 0 e)) (ltb-false (room k) (4 * liveOf v k) f)
 
 -- an accepted removal
 first-zero : (n rest : ℕ) → _≡_ {A = ℕ} (elim n [ suc m ↦ suc m | zero ↦ rest ]) 0 → n ≡ 0
@@ -233,10 +233,10 @@ unfolding removed removeRefusal
 removed-reports t work tag accepted = go (find t tag) refl
   where
     result : Option Place → Rebuilt
-    result o = elim o [ some place ↦ settled (marked t place) (place .bucket) | none ↦ record { table = t; distances = 0 } ]
+    result o = elim o [ some place ↦ shrunk (marked t place) (place .bucket) | none ↦ record { table = t; distances = 0 } ]
 
     go : (o : Option Place) → find t tag ≡ o → result o .distances ≡ buildCost t (result o .table)
-    go (some place) e = settled-reports (changeable work t (first-zero (changeRefusal work t) _ accepted)) tag place e
+    go (some place) e = shrunk-reports (changeable work t (first-zero (changeRefusal work t) _ accepted)) tag place e
     go none e = kept-reports t
 
 pub reports : (t : Table) (work : List Row) → ReportsBuilds t work

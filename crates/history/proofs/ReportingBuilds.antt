@@ -14,14 +14,14 @@ use Rattle.lists.proofs.Lists.{all-weaken}
 use Rattle.lists.proofs.Tests.{and-pass}
 use Rattle.metric_rules.specs.Row.{Row}
 use Rattle.tree_rules.specs.Layout.{cost}
-use Rattle.bucket_rules.specs.Geometry.{bucketsOf, tableRows}
-use Rattle.bucket_rules.specs.Table.{Table, orderOf, builtOf, liveOf}
-use Rattle.bucket_rules.specs.Rebuild.{rebuilt}
-use Rattle.bucket_rules.proofs.Views.{Only, same-order, kept-built, kept-live}
-use Rattle.bucket_rules.proofs.Puts.{apart-or}
+use Rattle.table_rules.specs.Geometry.{bucketsOf, tableRows}
+use Rattle.table_rules.specs.Table.{Table, orderOf, builtOf, liveOf}
+use Rattle.table_rules.specs.Rebuild.{rebuilt}
+use Rattle.table_rules.proofs.Views.{Only, same-order, kept-built, kept-live}
+use Rattle.table_rules.proofs.Puts.{apart-or}
 use Rattle.history.specs.Reports.{sizesKept, builtIn, buildCost}
-use Rattle.history.proofs.Counting.{below, below-zero, below-changed, Moved}
-use Rattle.history.proofs.CountingMoved.{built-moved, live-moved}
+use Rattle.history.proofs.Amortized.{below, below-zero, below-changed, Moved}
+use Rattle.history.proofs.AmortizedMoved.{built-moved, live-moved}
 
 -- of two tests the second fails
 second-fails : (a : Bool) {b : Bool} → b ≡ false → (a && b) ≡ false

@@ -8,7 +8,7 @@ use Rattle.metric_rules.specs.Row.{tagOf, thresholdOf, markOf}
 use Rattle.metric_rules.specs.Validity.{nationals}
 use Rattle.metric_rules.specs.Distance.{Space}
 use Rattle.search_rules.specs.Range.{Entry}
-use Rattle.bucket_rules.specs.Table.{Table, slotsOf, builtOf, liveOf}
+use Rattle.table_rules.specs.Table.{Table, slotsOf, builtOf, liveOf}
 use Rattle.text_rules.specs.Text.{lineFeed, digits}
 use Rattle.list_rules.specs.Lines.{semicolon, comma, listHeader}
 use Rattle.history.specs.Calls.{Call, Lent, Reply}

@@ -9,8 +9,8 @@ use Rattle.metric_rules.specs.declared.Profile.{Profile}
 use Rattle.metric_rules.specs.Row.{Row, word, rowOf, tagOf, thresholdOf, withThreshold, withMark}
 use Rattle.metric_rules.specs.Distance.{distance, measureDistance, largest, worstDistance}
 use Rattle.tree_rules.specs.Layout.{layout}
-use Rattle.bucket_rules.specs.Geometry.{firstSlot}
-use Rattle.bucket_rules.specs.Table.{Table, rowAt}
+use Rattle.table_rules.specs.Geometry.{firstSlot}
+use Rattle.table_rules.specs.Table.{Table, rowAt}
 use Rattle.history.specs.Calls.Call.{fresh, add, lookUp, range, nearest}
 use Rattle.history.proofs.Running.{by, tag, valued, scratch, replies, after, removing, table}
 

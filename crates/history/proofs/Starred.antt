@@ -2,15 +2,15 @@
 use Prim.Native.Nat.{ℕ}
 use mathlib.Core.Path.{_≡_, refl}
 use mathlib.Core.List.{List, [], _∷_, _++_, map}
-use Rattle.bucket_rules.specs.Table.{Table, builtOf, liveOf}
+use Rattle.table_rules.specs.Table.{Table, builtOf, liveOf}
 use Rattle.tree_rules.specs.Layout.{cost}
 use Rattle.history.specs.Calls.Call.{fresh, add, remove, range, nearest}
 use Rattle.history.proofs.Running.{by, tag, valued, scratch, replies, after, contents, adding, removing, fourItems, table}
 
 -- a table of order 3 with live sizes 1, 1, 2, 3
-thin : Table
+sparse : Table
 unfolding after scratch adding removing
-thin =
+sparse =
     after scratch
     (fresh 3 (by 0)
     ∷ adding 5 (1 ∷ 2 ∷ 3 ∷ 4 ∷ 5 ∷ 6 ∷ 7 ∷ 8 ∷ [])
@@ -22,7 +22,7 @@ thin =
     ++ adding 5 (15 ∷ []))
 
 lines : List (List (List ℕ))
-unfolding replies after contents scratch fourItems table tag valued adding removing thin cost builtOf liveOf
+unfolding replies after contents scratch fourItems table tag valued adding removing sparse cost builtOf liveOf
 lines =
     replies scratch fourItems
     ∷ contents table 2
@@ -32,9 +32,9 @@ lines =
     ∷ contents (after table (removing (4 ∷ 3 ∷ 2 ∷ []))) 0
     ∷ replies table (remove (tag 4) ∷ add (tag 5) (valued 11) ∷ removing (3 ∷ 2 ∷ []))
     ∷ contents (after table (remove (tag 4) ∷ add (tag 5) (valued 11) ∷ removing (3 ∷ 2 ∷ []))) 1
-    ∷ map (λ k. builtOf thin k ∷ liveOf thin k ∷ []) (0 ∷ 1 ∷ 2 ∷ 3 ∷ [])
-    ∷ replies thin (adding 5 (16 ∷ []))
-    ∷ (let u = after thin (adding 5 (16 ∷ [])) in map (λ k. builtOf u k ∷ liveOf u k ∷ []) (0 ∷ 1 ∷ 2 ∷ 3 ∷ []))
+    ∷ map (λ k. builtOf sparse k ∷ liveOf sparse k ∷ []) (0 ∷ 1 ∷ 2 ∷ 3 ∷ [])
+    ∷ replies sparse (adding 5 (16 ∷ []))
+    ∷ (let u = after sparse (adding 5 (16 ∷ [])) in map (λ k. builtOf u k ∷ liveOf u k ∷ []) (0 ∷ 1 ∷ 2 ∷ 3 ∷ []))
     ∷ ((cost 4 ∷ cost 8 ∷ []) ∷ [])
     ∷ []
 

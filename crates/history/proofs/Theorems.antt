@@ -1,10 +1,10 @@
 -- The demands of `specs/Demands`, proved for every list of calls, every lent area and every image. Nothing is assumed.
-use Rattle.bucket_rules.proofs.Visits.{range-visits}
-use Rattle.bucket_rules.proofs.Keeping.{nearest-size}
+use Rattle.table_rules.proofs.Visits.{range-visits}
+use Rattle.table_rules.proofs.Keeping.{nearest-size}
 use Rattle.history.specs.Demands.{CountsVisits, KeepsEnough, EveryList, EveryReport, WrittenLoads}
 use Rattle.history.proofs.Changing.{changes}
-use Rattle.history.proofs.ScannedHistory.{history-traces, history-matches, history-represents}
-use Rattle.history.proofs.CountingHistory.{history-bound}
+use Rattle.history.proofs.RefinesHistory.{history-traces, history-matches, history-represents}
+use Rattle.history.proofs.AmortizedHistory.{history-bound}
 use Rattle.history.proofs.Reporting.{reports}
 use Rattle.history.proofs.ImagesHistory.{written-loads-where}
 pub use Rattle.history.proofs.ImagesBack.{accepted-gives-back}

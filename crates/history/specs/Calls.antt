@@ -7,16 +7,16 @@ use Rattle.metric_rules.specs.declared.Profile.{Profile}
 use Rattle.metric_rules.specs.Row.{Row}
 use Rattle.metric_rules.specs.Distance.{Space}
 use Rattle.search_rules.specs.Range.{Entry}
-use Rattle.bucket_rules.specs.declared.Added.{Added}
-use Rattle.bucket_rules.specs.declared.Removed.{Removed}
-use Rattle.bucket_rules.specs.declared.LookedUp.{LookedUp}
-use Rattle.bucket_rules.specs.declared.Searched.{Searched}
-use Rattle.bucket_rules.specs.Table.{Table}
-use Rattle.bucket_rules.specs.Fresh.{freshRefusal, tableAfterFresh}
-use Rattle.bucket_rules.specs.Add.{addReply, tableAfterAdd, workAfterAdd}
-use Rattle.bucket_rules.specs.Remove.{removeReply, tableAfterRemove, workAfterRemove}
-use Rattle.bucket_rules.specs.LookUp.{lookUpReply}
-use Rattle.bucket_rules.specs.Search.{rangeReply, resultAfterRange, nearestReply, resultAfterNearest}
+use Rattle.table_rules.specs.declared.Added.{Added}
+use Rattle.table_rules.specs.declared.Removed.{Removed}
+use Rattle.table_rules.specs.declared.LookedUp.{LookedUp}
+use Rattle.table_rules.specs.declared.Searched.{Searched}
+use Rattle.table_rules.specs.Table.{Table}
+use Rattle.table_rules.specs.Fresh.{freshRefusal, tableAfterFresh}
+use Rattle.table_rules.specs.Add.{addReply, tableAfterAdd, workAfterAdd}
+use Rattle.table_rules.specs.Remove.{removeReply, tableAfterRemove, workAfterRemove}
+use Rattle.table_rules.specs.LookUp.{lookUpReply}
+use Rattle.table_rules.specs.Search.{rangeReply, resultAfterRange, nearestReply, resultAfterNearest}
 use Rattle.image_rules.specs.declared.Written.{Written}
 use Rattle.image_rules.specs.Write.{writeReply, imageAfterWrite}
 use Rattle.image_rules.specs.Load.{loadRefusal, tableAfterLoad}

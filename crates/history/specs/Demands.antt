@@ -12,9 +12,9 @@ use Rattle.lists.specs.Lists.{total, All}
 use Rattle.metric_rules.specs.declared.Profile.{Profile}
 use Rattle.metric_rules.specs.Distance.{distance}
 use Rattle.search_rules.specs.Reached.{reached}
-use Rattle.bucket_rules.specs.Geometry.{tableRows}
-use Rattle.bucket_rules.specs.Table.{Table, tableSpace, slotsOf, liveSlots}
-use Rattle.bucket_rules.specs.Search.{bucketsDown, rangeAnswer, nearestAnswer}
+use Rattle.table_rules.specs.Geometry.{tableRows}
+use Rattle.table_rules.specs.Table.{Table, tableSpace, slotsOf, liveSlots}
+use Rattle.table_rules.specs.Search.{bucketsDown, rangeAnswer, nearestAnswer}
 use Rattle.image_rules.specs.Read.{orderIn}
 use Rattle.history.specs.Calls.{Lent, replyTo}
 use Rattle.history.specs.Calls.Call.{load}

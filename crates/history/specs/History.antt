@@ -4,7 +4,7 @@ use mathlib.Core.Path.{_≡_}
 use mathlib.Core.List.{List, [], _∷_}
 use Rattle.lists.specs.Lists.{All}
 use Rattle.metric_rules.specs.Row.{IsProfile}
-use Rattle.bucket_rules.specs.Table.{Table}
+use Rattle.table_rules.specs.Table.{Table}
 use Rattle.history.specs.Calls.{Call}
 use Rattle.history.specs.Calls.Call.{fresh, load, add, remove, lookUp, range, nearest, write, readList}
 use Rattle.history.specs.Trace.{Step, State, noSums, shownAt, stateAfterAll}

@@ -4,8 +4,8 @@ use mathlib.Core.Path.{_≡_}
 use mathlib.Core.List.{List, map}
 use lib.ListN.{take, length}
 use Rattle.lists.specs.Lists.{total}
-use Rattle.bucket_rules.specs.Geometry.{bucketsOf, tableRows}
-use Rattle.bucket_rules.specs.Table.{Table, orderOf, builtOf}
+use Rattle.table_rules.specs.Geometry.{bucketsOf, tableRows}
+use Rattle.table_rules.specs.Table.{Table, orderOf, builtOf}
 use Rattle.image_rules.specs.Bytes.{imageLength}
 use Rattle.history.specs.Calls.{Lent, Outcome, outcome}
 use Rattle.history.specs.Calls.Call.{load, write}

@@ -12,10 +12,10 @@ use Rattle.metric_rules.specs.Validity.{validTag, validMeasures}
 use Rattle.metric_rules.specs.Distance.{Space, distance}
 use Rattle.search_rules.specs.Range.{Entry, entry, entryDistance, ordered}
 use Rattle.search_rules.specs.Nearest.{keep}
-use Rattle.bucket_rules.specs.Refusals.{badTag, badMeasure, noneAsked, resultShort, tagLive, tagNotLive, tableFull, areaShort}
-use Rattle.bucket_rules.specs.Geometry.{room, tableRows, workRows}
-use Rattle.bucket_rules.specs.LookUp.{noProfile}
-use Rattle.bucket_rules.specs.Fresh.{freshRefusal}
+use Rattle.table_rules.specs.Refusals.{badTag, badMeasure, noCount, noRoom, alreadyLive, notLive, full, shortArea}
+use Rattle.table_rules.specs.Geometry.{room, tableRows, workRows}
+use Rattle.table_rules.specs.LookUp.{noProfile}
+use Rattle.table_rules.specs.Fresh.{freshRefusal}
 use Rattle.image_rules.specs.Read.{orderIn, spaceIn}
 use Rattle.image_rules.specs.Load.{loadRefusal, liveRows}
 use Rattle.list_rules.specs.Lines.{ListLine, hasHeader, itemLines}
@@ -80,12 +80,12 @@ unfoldable pub canChange : Model → Lengths → Bool
 canChange m n = canRead m n && leb (workRows (m .order)) (n .work)
 
 unfoldable pub enough : Bool → ℕ → ℕ
-enough false rest = areaShort
+enough false rest = shortArea
 enough true rest = rest
 
 -- remove and look up: 1, then 21
 unfoldable pub tagRefusal : Model → ℕ → ℕ
-tagRefusal m tag = elim (validTag tag) [ false ↦ badTag | true ↦ elim (withTag tag (m .items)) [ [] ↦ tagNotLive | i ∷ is ↦ 0 ] ]
+tagRefusal m tag = elim (validTag tag) [ false ↦ badTag | true ↦ elim (withTag tag (m .items)) [ [] ↦ notLive | i ∷ is ↦ 0 ] ]
 
 -- add: 1, 2, 20, 22
 unfoldable pub itemRefusal : Model → ℕ → Profile → ℕ
@@ -97,22 +97,22 @@ itemRefusal m tag p =
             | false ↦ badMeasure
             | true ↦
                 elim (withTag tag (m .items)) [
-                  | i ∷ is ↦ tagLive
-                  | [] ↦ elim (leb (room (m .order)) (length (m .items))) [ true ↦ tableFull | false ↦ 0 ]
+                  | i ∷ is ↦ alreadyLive
+                  | [] ↦ elim (leb (room (m .order)) (length (m .items))) [ true ↦ full | false ↦ 0 ]
                 ]
           ]
     ]
 
 -- 6: fewer entries in the area than in the reply
 unfoldable pub fits : ℕ → List Entry → ℕ
-fits area entries = elim (leb (length entries) area) [ true ↦ 0 | false ↦ resultShort ]
+fits area entries = elim (leb (length entries) area) [ true ↦ 0 | false ↦ noRoom ]
 
 -- range: 2, 6; nearest: 2, 5, 6
 unfoldable pub scanRefusal : Profile → ℕ → ℕ
 scanRefusal q rest = elim (validMeasures q) [ false ↦ badMeasure | true ↦ rest ]
 
 unfoldable pub countRefusal : ℕ → ℕ → ℕ
-countRefusal zero rest = noneAsked
+countRefusal zero rest = noCount
 countRefusal (suc k) rest = rest
 
 -- the model's answer to a call: the model after it, and what it shows

@@ -8,10 +8,10 @@ use Rattle.lists.specs.Lists.{total}
 use Rattle.metric_rules.specs.declared.Profile.{Profile}
 use Rattle.metric_rules.specs.Row.{Row}
 use Rattle.tree_rules.specs.Layout.{cost}
-use Rattle.bucket_rules.specs.Geometry.{bucketsOf}
-use Rattle.bucket_rules.specs.Table.{Table, orderOf, builtOf, liveOf}
-use Rattle.bucket_rules.specs.Add.{addReply, tableAfterAdd}
-use Rattle.bucket_rules.specs.Remove.{removeReply, tableAfterRemove}
+use Rattle.table_rules.specs.Geometry.{bucketsOf}
+use Rattle.table_rules.specs.Table.{Table, orderOf, builtOf, liveOf}
+use Rattle.table_rules.specs.Add.{addReply, tableAfterAdd}
+use Rattle.table_rules.specs.Remove.{removeReply, tableAfterRemove}
 
 -- bucket k has the sizes in table u that it has in t
 unfoldable pub sizesKept : Table → Table → ℕ → Bool

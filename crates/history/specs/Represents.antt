@@ -10,11 +10,11 @@ use Rattle.metric_rules.specs.declared.Profile.{Profile}
 use Rattle.metric_rules.specs.Row.{IsProfile, tagOf}
 use Rattle.metric_rules.specs.Distance.{validSpace, distance}
 use Rattle.tree_rules.specs.Layout.{isLayout}
-use Rattle.bucket_rules.specs.Geometry.{validOrder, room, bucketsOf, tableRows}
-use Rattle.bucket_rules.specs.Table.{Table, orderOf, tableSpace, builtOf, liveOf, slotsOf, inUse, liveSlots}
-use Rattle.bucket_rules.specs.Checks.{sizesPass, marksPass}
-use Rattle.bucket_rules.specs.Rebuild.{liveItems}
-use Rattle.bucket_rules.specs.Search.{rangeAnswer, nearestAnswer}
+use Rattle.table_rules.specs.Geometry.{validOrder, room, bucketsOf, tableRows}
+use Rattle.table_rules.specs.Table.{Table, orderOf, tableSpace, builtOf, liveOf, slotsOf, inUse, liveSlots}
+use Rattle.table_rules.specs.Checks.{sizesPass, marksPass}
+use Rattle.table_rules.specs.Rebuild.{liveItems}
+use Rattle.table_rules.specs.Search.{rangeAnswer, nearestAnswer}
 use Rattle.history.specs.Trace.{Sums, trace}
 use Rattle.history.specs.Model.{Model, Item, itemOf, modelRange, modelNearest, modelTrace}
 use Rattle.history.specs.History.{History, before, blankModel, steps, finalState, finalModel}

@@ -5,8 +5,8 @@ use mathlib.Core.List.{List, [], _∷_, _++_}
 use lib.ListN.{length, take, drop}
 use Rattle.metric_rules.specs.declared.Profile.{Profile}
 use Rattle.search_rules.specs.Range.{Entry}
-use Rattle.bucket_rules.specs.Table.{Table}
-use Rattle.bucket_rules.specs.LookUp.{noProfile}
+use Rattle.table_rules.specs.Table.{Table}
+use Rattle.table_rules.specs.LookUp.{noProfile}
 use Rattle.image_rules.specs.Read.{slotsIn}
 use Rattle.image_rules.specs.Load.{liveRows}
 use Rattle.history.specs.Calls.{Call, Lent, Reply, Outcome, outcome, withTable}

@@ -20,13 +20,13 @@ use Rattle.tree_rules.proofs.Parts.{getD-mapped}
 use Rattle.tree_rules.proofs.Sorting.{NotAfter, key-le-cases, key-le-last, sort-perm, sort-sorted}
 use Rattle.tree_rules.proofs.Layouts.{layoutOf, layout-ranked, layout-reordered}
 use Rattle.search_rules.specs.Range.{Entry, entry, entryDistance, entryKey, ordered}
-use Rattle.bucket_rules.proofs.ByNumber.{all-count, map-count}
+use Rattle.table_rules.proofs.ByNumber.{all-count, map-count}
 use Rattle.image_rules.proofs.Blocks.{length-count, getD-count}
 use Rattle.image_entries.specs.FirstFault.{firstUnlike, firstFault}
-use Rattle.image_entries.specs.Entries.{places, entryTag, entryPlace, tagEntry, Fresh, IsEntry, TagsTell, slotEntries, rankedIn, laidOut, partFault}
+use Rattle.image_entries.specs.Entries.{places, entryTag, entryPlace, tagEntry, Fresh, IsEntry, TagsDetermine, slotEntries, rankedIn, laidOut, partFault}
 use Rattle.image_entries.proofs.FirstFault.{is-layout-no-fault}
 use Rattle.image_entries.proofs.Apart.{pairs-at}
-use Rattle.image_entries.proofs.Ranking.{ordered-perm, told-places, laid-out}
+use Rattle.image_entries.proofs.Ranking.{ordered-perm, determined-places, laid-out}
 
 module _ (tag place : ℕ) (fits : place < places) where
   pub tag-entry-tag : entryTag (tagEntry tag place) ≡ tag
@@ -110,7 +110,7 @@ module _ (slot : ℕ → Row) (n : ℕ) (few : n ≤ places) where
       let es : List Entry = ordered (slotEntries slot n) in
       let laid : laidOut slot dist es ≡ layout dist slots =
       laid-out slot dist es
-      ∙ layout-reordered dist (perm-map (rankedIn slot) (ordered-perm (slotEntries slot n))) (told-places slot es)
+      ∙ layout-reordered dist (perm-map (rankedIn slot) (ordered-perm (slotEntries slot n))) (determined-places slot es)
       ∙ ap (layoutOf dist) ranked-are
       ∙ sym (layout-ranked dist slots) in
       ap₂ (λ (xs ys : List Row). 0 + firstUnlike sameNumbers xs ys) laid
@@ -118,8 +118,8 @@ module _ (slot : ℕ → Row) (n : ℕ) (few : n ≤ places) where
       ∙ omega arith
 
   -- with distinct tags a slot is known by its tag
-  tags-tell : distinct (map tagOf slots) ≡ true → TagsTell slot n
-  tags-tell h i j p q e = go (ltb i j) refl (ltb j i) refl
+  tags-determine : distinct (map tagOf slots) ≡ true → TagsDetermine slot n
+  tags-determine h i j p q e = go (ltb i j) refl (ltb j i) refl
     where
       tag-at : (k : ℕ) → k < n → getD (map tagOf slots) k 0 ≡ tagOf (slot k)
       tag-at k r =
@@ -160,8 +160,8 @@ module _ (slot : ℕ → Row) (n : ℕ) (few : n ≤ places) (dist : Profile →
   pub bucket-fails : b ≡ false → false ≡ (distinct (map tagOf (map slot (countFrom 0 n))) && isLayout dist (map slot (countFrom 0 n)))
   bucket-fails h = ap (λ (x : Bool). x && isLayout dist (map slot (countFrom 0 n))) (sym h ∙ tags-tested)
 
-  pub bucket-tells : b ≡ true → TagsTell slot n
-  bucket-tells h = tags-tell slot n few (sym tags-tested ∙ h)
+  pub bucket-determined : b ≡ true → TagsDetermine slot n
+  bucket-determined h = tags-determine slot n few (sym tags-tested ∙ h)
 
   pub bucket-tested :
       b ≡ true → (r : ℕ) → r ≡ partFault slot dist 0 (ordered (slotEntries slot n))

@@ -16,7 +16,7 @@ use Rattle.metric_rules.specs.declared.Profile.{Profile}
 use Rattle.metric_rules.specs.Row.{Row, profileOf}
 use Rattle.tree_rules.specs.Sorting.{keyLe, insertBy, sortBy}
 use Rattle.tree_rules.specs.Layout.{leftSize, Ranked, tagKey, placed, fromPivot, nearKey, lastDistance, split, layoutWithin}
-use Rattle.tree_rules.proofs.Sorting.{NotAfter, Told, key-le-cases, key-le-less, key-le-same, key-le-last, sort-perm, sort-map}
+use Rattle.tree_rules.proofs.Sorting.{NotAfter, Determined, key-le-cases, key-le-less, key-le-same, key-le-last, sort-perm, sort-map}
 use Rattle.tree_rules.proofs.Layouts.{layoutOf, layout-reordered, layout-pivot}
 use Rattle.search_rules.specs.Range.{Entry, entry, entryDistance, entryKey, ordered}
 use Rattle.image_entries.specs.Entries.{places, entryTag, entryPlace, lastOf, IsEntry, rankedIn, measuredIn, laidOut, laidFrom}
@@ -82,12 +82,12 @@ ordered-places = sort-like entryKey placeKey place-order
 
 module _ (slot : ℕ → Row) where
   -- ranks tell the slots apart
-  told-place : (e f : Entry) → Told tagKey (rankedIn slot e) (rankedIn slot f)
+  determined-place : (e f : Entry) → Determined tagKey (rankedIn slot e) (rankedIn slot f)
   unfolding tagKey rankedIn
-  told-place e f q = ap (λ (p : ℕ). record { row = slot p; rank = p }) (ap (λ (k : List ℕ). getD k 1 0) q)
+  determined-place e f q = ap (λ (p : ℕ). record { row = slot p; rank = p }) (ap (λ (k : List ℕ). getD k 1 0) q)
 
-  pub told-places : (es : List Entry) → Pairs (Told tagKey) (map (rankedIn slot) es)
-  told-places es = pairs-map (rankedIn slot) (Told tagKey) es (pairs-of-all {P = λ e. Unit {0}} (λ e f _ _. told-place e f) es (all-always (λ e. tt) es))
+  pub determined-places : (es : List Entry) → Pairs (Determined tagKey) (map (rankedIn slot) es)
+  determined-places es = pairs-map (rankedIn slot) (Determined tagKey) es (pairs-of-all {P = λ e. Unit {0}} (λ e f _ _. determined-place e f) es (all-always (λ e. tt) es))
 
   -- the least first word is that of the least tag and rank
   least-tag : (n : ℕ) (v e : Entry) → IsEntry slot n v → IsEntry slot n e → getD v 0 0 ≤ getD e 0 0 → NotAfter tagKey (rankedIn slot v) (rankedIn slot e)
@@ -170,10 +170,10 @@ module _ (slot : ℕ → Row) where
         let f : Entry → Ranked = rankedIn slot in
         let far : List Entry = map (measured v) rest in
         laid-out es
-        ∙ sym (layout-reordered dist (perm-map f p) (told-places (v ∷ rest)))
+        ∙ sym (layout-reordered dist (perm-map f p) (determined-places (v ∷ rest)))
         ∙ layout-pivot dist (f v) (map f rest)
         (all-map f (NotAfter tagKey (f v)) rest (all-both (λ e h q. least-tag n v e (s .0) q h) rest least (s .1)))
-        (told-places rest)
+        (determined-places rest)
         ∙ ap (split dist (layoutOf dist) (f v)) (near-ranked v n rest (s .1))
         ∙ split-measured v (ordered far)
         (subst (All (λ e. entryDistance e ≡ fromPivot dist (f v) (f e))) (sym (ordered-places far))

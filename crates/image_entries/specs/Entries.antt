@@ -45,8 +45,8 @@ module _ (slot : ℕ → Row) where
   TagsFit n = (i : ℕ) → i < n → tagOf (slot i) < 2 ^ 50
 
   -- and tell those slots apart
-  abbrev pub TagsTell : ℕ → Type 0
-  TagsTell n = (i j : ℕ) → i < n → j < n → tagOf (slot i) ≡ tagOf (slot j) → i ≡ j
+  abbrev pub TagsDetermine : ℕ → Type 0
+  TagsDetermine n = (i j : ℕ) → i < n → j < n → tagOf (slot i) ≡ tagOf (slot j) → i ≡ j
 
   -- the entries of the first n slots
   unfoldable pub slotEntries : ℕ → List Entry

@@ -4,8 +4,8 @@ ghost use mathlib.Core.List.{map};
 ghost use Prim.Native.Nat.{_+_, _≤_};
 ghost use lib.ListN.{length};
 ghost use Rattle.lists.specs.Lists.{total, countFrom, every};
-ghost use Rattle.bucket_rules.specs.Geometry.{bucketsOf};
-ghost use Rattle.bucket_rules.specs.Checks.{sizePasses, sizesPass};
+ghost use Rattle.table_rules.specs.Geometry.{bucketsOf};
+ghost use Rattle.table_rules.specs.Checks.{sizePasses, sizesPass};
 ghost use Rattle.image_rules.specs.Bytes.{sizesEnd};
 ghost use Rattle.image_rules.specs.Read.{orderIn, builtIn, liveIn, slotsIn, rowIn, bucketIn};
 ghost use Rattle.image_rules.specs.Load.{fieldsPass};
@@ -18,11 +18,11 @@ use image_read::row_in;
 use metric::valid_measures;
 use metric::valid_tag;
 use metric_rules::Row;
-use order::Order;
 use rows::mark_of;
 use rows::profile_of;
 use rows::tag_of;
 use table_checks::size_passes;
+use table_order::Order;
 
 // Every bucket's sizes.
 fn each_size_passes(image: &[u8], t: u32) -> bool

@@ -6,19 +6,19 @@ ghost use Prim.Native.Nat.{_+_, _-_, _≤_};
 ghost use lib.ListN.{length, getD, replicate};
 ghost use Rattle.lists.specs.Lists.{countFrom};
 ghost use Rattle.metric_rules.specs.Row.{zeroRow};
-ghost use Rattle.bucket_rules.specs.Geometry.{room, bucketsOf};
-ghost use Rattle.bucket_rules.specs.Table.{putBucket};
-ghost use Rattle.bucket_rules.specs.Checks.{sizesPass};
+ghost use Rattle.table_rules.specs.Geometry.{room, bucketsOf};
+ghost use Rattle.table_rules.specs.Table.{putBucket};
+ghost use Rattle.table_rules.specs.Checks.{sizesPass};
 ghost use Rattle.image_rules.specs.Read.{orderIn, builtIn, liveIn, slotsBefore, slotsIn, rowIn, bucketIn};
 ghost use Rattle.image_read.specs.Places.{Places};
-ghost use Rattle.buckets.specs.Lent.{Lent};
-use buckets::put_sizes;
+ghost use Rattle.table_buckets.specs.OfOrder.{OfOrder};
 use image_read::built_in;
 use image_read::live_in;
 use image_read::row_in;
 use metric_rules::ROW_WIDTH;
 use metric_rules::Row;
-use order::Order;
+use table_buckets::put_sizes;
+use table_order::Order;
 
 // Row i of a room with count slots from the image's first on.
 fn slot_or_zero(
@@ -66,7 +66,7 @@ fn put_bucket(
     records: usize,
     first: usize,
 )
-    requires { ⌜ Lent (now table) (order .t) × (order .t ≡ orderIn (now image)) × (k ≤ order .t) × Places (now image) tags records × (first ≡ slotsBefore (now image) k) × (builtIn (now image) k ≤ room k) ⌝ }
+    requires { ⌜ OfOrder (now table) (order .t) × (order .t ≡ orderIn (now image)) × (k ≤ order .t) × Places (now image) tags records × (first ≡ slotsBefore (now image) k) × (builtIn (now image) k ≤ room k) ⌝ }
     ensures { λ _. ⌜ now (table .exit) ≡ putBucket k (bucketIn (now (image .entry)) k) (liveIn (now (image .entry)) k) (now (table .entry)) ⌝ }
 {
     let at = order.first_slot(k);
@@ -85,7 +85,7 @@ fn put_bucket(
 
 // Every bucket.
 pub fn put_buckets(table: &mut [Row], order: Order, image: &[u8], tags: usize, records: usize)
-    requires { ⌜ Lent (now table) (order .t) × (order .t ≡ orderIn (now image)) × Places (now image) tags records × (sizesPass (order .t) (builtIn (now image)) (liveIn (now image)) ≡ true) ⌝ }
+    requires { ⌜ OfOrder (now table) (order .t) × (order .t ≡ orderIn (now image)) × Places (now image) tags records × (sizesPass (order .t) (builtIn (now image)) (liveIn (now image)) ≡ true) ⌝ }
     ensures { λ _. ⌜ now (table .exit) ≡ foldl (λ u k. putBucket k (bucketIn (now (image .entry)) k) (liveIn (now (image .entry)) k) u) (now (table .entry)) (bucketsOf (order .t)) ⌝ }
 {
     let t = order.t;

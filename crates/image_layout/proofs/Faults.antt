@@ -115,21 +115,21 @@ module _ (slot : ℕ → Row) (dist : Profile → Profile → ℕ) where
 -- of slots with distinct tags, the row laid at a place is its slot's exactly if it is that slot, and at its own threshold
 module _ (slot : ℕ → Row) (n : ℕ) (whole : (i : ℕ) → i < n → length (slot i) ≡ rowWidth)
     (apart : (i j : ℕ) → i < n → j < n → tagOf (slot i) ≡ tagOf (slot j) → i ≡ j) (m p at : ℕ) (from : p < n) (to : at < n) where
-  seat-own : placed m (slot p) ≡ withMark 0 (slot at) → (p ≡ at) × (m ≡ thresholdOf (slot at))
-  seat-own e = (
+  place-own : placed m (slot p) ≡ withMark 0 (slot at) → (p ≡ at) × (m ≡ thresholdOf (slot at))
+  place-own e = (
     apart p at from to (sym (tag-placed m (slot p)) ∙ ap tagOf e ∙ tag-with-mark (slot at) 0),
     sym (threshold-placed m (slot p) (whole p from)) ∙ ap thresholdOf e ∙ threshold-with-mark (slot at) 0,
   )
 
-  own-seat : p ≡ at → m ≡ thresholdOf (slot at) → placed m (slot p) ≡ withMark 0 (slot at)
-  own-seat e q = ap₂ (λ (t i : ℕ). placed t (slot i)) q e ∙ placed-own (slot at)
+  own-place : p ≡ at → m ≡ thresholdOf (slot at) → placed m (slot p) ≡ withMark 0 (slot at)
+  own-place e q = ap₂ (λ (t i : ℕ). placed t (slot i)) q e ∙ placed-own (slot at)
 
-  pub seat-right : p ≡ at → m ≡ thresholdOf (slot at) → sameNumbers (placed m (slot p)) (withMark 0 (slot at)) ≡ true
-  seat-right e q = row-same (placed m (slot p)) (withMark 0 (slot at)) (own-seat e q)
+  pub place-right : p ≡ at → m ≡ thresholdOf (slot at) → sameNumbers (placed m (slot p)) (withMark 0 (slot at)) ≡ true
+  place-right e q = row-same (placed m (slot p)) (withMark 0 (slot at)) (own-place e q)
 
-  pub seat-wrong : ((p ≡ at) × (m ≡ thresholdOf (slot at)) → ⊥) → sameNumbers (placed m (slot p)) (withMark 0 (slot at)) ≡ false
-  seat-wrong f = go (sameNumbers (placed m (slot p)) (withMark 0 (slot at))) refl
+  pub place-wrong : ((p ≡ at) × (m ≡ thresholdOf (slot at)) → ⊥) → sameNumbers (placed m (slot p)) (withMark 0 (slot at)) ≡ false
+  place-wrong f = go (sameNumbers (placed m (slot p)) (withMark 0 (slot at))) refl
     where
       go : (b : Bool) → sameNumbers (placed m (slot p)) (withMark 0 (slot at)) ≡ b → b ≡ false
-      go true e = absurd (f (seat-own (same-row (placed m (slot p)) (withMark 0 (slot at)) e)))
+      go true e = absurd (f (place-own (same-row (placed m (slot p)) (withMark 0 (slot at)) e)))
       go false e = refl

@@ -17,8 +17,8 @@ use Rattle.metric_rules.specs.Row.{Row, rowWidth, thresholdOf, withMark}
 use Rattle.tree_rules.specs.Layout.{leftSize, placed}
 use Rattle.tree_rules.proofs.Parts.{leftPart, left-part, left-part-length, leftBack, left-back-length, rightPart, right-part, right-part-length, rightBack, right-back-length}
 use Rattle.search_rules.specs.Range.{Entry}
-use Rattle.image_entries.specs.Entries.{entryPlace, lastOf, IsEntry, TagsTell, laidOut, laidFrom, partFault}
-use Rattle.image_layout.proofs.Faults.{fault-here, fault-left, fault-right, seat-right, seat-wrong}
+use Rattle.image_entries.specs.Entries.{entryPlace, lastOf, IsEntry, TagsDetermine, laidOut, laidFrom, partFault}
+use Rattle.image_layout.proofs.Faults.{fault-here, fault-left, fault-right, place-right, place-wrong}
 
 -- a part that is not empty, before and after it was arranged
 pub record Prepared (slot : ℕ → Row) (dist : Profile → Profile → ℕ) (n : ℕ) (es after : List Entry) (place : ℕ) : Type 0 where
@@ -61,10 +61,10 @@ module _ {slot : ℕ → Row} {dist : Profile → Profile → ℕ} {n : ℕ} {es
   sizes = omega (arith, left-length, right-length, p .some)
 
   -- the test of the first slot
-  seated : Bool
-  seated = eqb (entryPlace (getD after 0 [])) place && eqb (lastOf (take (length after / 2) (drop 1 after))) (thresholdOf (slot place))
+  first-placed : Bool
+  first-placed = eqb (entryPlace (getD after 0 [])) place && eqb (lastOf (take (length after / 2) (drop 1 after))) (thresholdOf (slot place))
 
-  module _ (whole : (i : ℕ) → i < n → length (slot i) ≡ rowWidth) (apart : TagsTell slot n) where
+  module _ (whole : (i : ℕ) → i < n → length (slot i) ≡ rowWidth) (apart : TagsDetermine slot n) where
     first-place : entryPlace (getD after 0 []) < n
     first-place = all-at (IsEntry slot n) after 0 (omega (arith, p .some, p .kept)) (p .sound) .within
 
@@ -72,32 +72,32 @@ module _ {slot : ℕ → Row} {dist : Profile → Profile → ℕ} {n : ℕ} {es
     unfolding left
     last-is = ap (λ (k : ℕ). lastOf (take (k / 2) (drop 1 after))) (p .kept)
 
-    row-right : seated ≡ true → sameNumbers first (withMark 0 (slot place)) ≡ true
-    unfolding seated first
+    row-right : first-placed ≡ true → sameNumbers first (withMark 0 (slot place)) ≡ true
+    unfolding first-placed first
     row-right h =
         let f : ℕ = entryPlace (getD after 0 []) in
         let m : ℕ = lastOf (take (length after / 2) (drop 1 after)) in
-        seat-right slot n whole apart (lastOf left) f place first-place (omega (arith, p .some, p .fits))
+        place-right slot n whole apart (lastOf left) f place first-place (omega (arith, p .some, p .fits))
         (eqb-true f place (and-first (eqb f place) (eqb m (thresholdOf (slot place))) h))
         (sym last-is ∙ eqb-true m (thresholdOf (slot place)) (and-second (eqb f place) (eqb m (thresholdOf (slot place))) h))
 
-    row-wrong : seated ≡ false → sameNumbers first (withMark 0 (slot place)) ≡ false
-    unfolding seated first
+    row-wrong : first-placed ≡ false → sameNumbers first (withMark 0 (slot place)) ≡ false
+    unfolding first-placed first
     row-wrong h =
         let f : ℕ = entryPlace (getD after 0 []) in
         let m : ℕ = lastOf (take (length after / 2) (drop 1 after)) in
-        seat-wrong slot n whole apart (lastOf left) f place first-place (omega (arith, p .some, p .fits))
+        place-wrong slot n whole apart (lastOf left) f place first-place (omega (arith, p .some, p .fits))
         (λ q. false≢true (sym h ∙ and-pass (eqb f place) (eqb m (thresholdOf (slot place))) (eq-eqb f place (q .0)) (eq-eqb m (thresholdOf (slot place)) (last-is ∙ q .1))))
 
     module _ (b : Bool) (tests : b ≡ (eqb (entryPlace (getD after 0 [])) place && eqb (lastOf (take (length after / 2) (drop 1 after))) (thresholdOf (slot place)))) where
       pub fault-first : b ≡ false → place ≡ partFault slot dist place es
-      unfolding seated
+      unfolding first-placed
       fault-first h = sym (fault-here slot dist place es left right first node-is sizes (row-wrong (sym tests ∙ h)))
 
       pub fault-in-left :
           b ≡ true → (r : ℕ) → r ≡ partFault slot dist (place + 1) (leftPart (length es / 2) after more) → r < place + (1 + length es / 2)
           → r ≡ partFault slot dist place es
-      unfolding seated left
+      unfolding first-placed left
       fault-in-left h r e q =
           let is : r ≡ partFault slot dist (place + 1) left = e ∙ ap (partFault slot dist (place + 1)) (left-part (length es / 2) after more) in
           is ∙ sym (fault-left slot dist place es left right first node-is sizes (row-right (sym tests ∙ h)) (omega (arith, is, left-length)))
@@ -107,7 +107,7 @@ module _ {slot : ℕ → Row} {dist : Profile → Profile → ℕ} {n : ℕ} {es
           → (back : List Entry) (same : length back ≡ length (leftPart (length es / 2) after more)) (s : ℕ)
           → s ≡ partFault slot dist (place + (1 + length es / 2)) (rightPart (length es / 2) after more back same)
           → s ≡ partFault slot dist place es
-      unfolding seated left right
+      unfolding first-placed left right
       fault-in-right h r e q back same s f =
           let is : r ≡ partFault slot dist (place + 1) left = e ∙ ap (partFault slot dist (place + 1)) (left-part (length es / 2) after more) in
           let from : place + (1 + length es / 2) ≡ place + 1 + length left = omega (arith, left-length) in

@@ -10,7 +10,7 @@ ghost use Rattle.metric_rules.specs.Row.{tagOf, thresholdOf};
 ghost use Rattle.metric_rules.specs.Distance.{distance, spaceOf};
 ghost use Rattle.tree_rules.specs.Layout.{isLayout};
 ghost use Rattle.search_rules.specs.Range.{ordered};
-ghost use Rattle.image_entries.specs.Entries.{places, entryPlace, lastOf, IsEntry, TagsFit, TagsTell, measuredIn, laidOut, laidFrom, partFault};
+ghost use Rattle.image_entries.specs.Entries.{places, entryPlace, lastOf, IsEntry, TagsFit, TagsDetermine, measuredIn, laidOut, laidFrom, partFault};
 ghost use Rattle.image_entries.specs.InImage.{InImage, slotIn, slotsAt};
 use entry_sort::sort_entries;
 use image_entries::PLACES;
@@ -94,7 +94,7 @@ fn arrange(image: &[u8], at: Slots, header: &Row, entries: &mut [Entry])
 }
 
 // Whether the row that an arranged part puts first is that of slot `place`, at the threshold that the slot has.
-fn first_seated(image: &[u8], at: Slots, entries: &[Entry], place: usize) -> bool
+fn first_in_place(image: &[u8], at: Slots, entries: &[Entry], place: usize) -> bool
     requires { ⌜ InImage (now image) at × (place < at .count) × (1 ≤ length (now entries)) ⌝ }
     ensures { λ r. ⌜ r ≡ (eqb (entryPlace (getD (now (entries .entry)) 0 [])) place && eqb (lastOf (take (length (now (entries .entry)) / 2) (drop 1 (now (entries .entry))))) (thresholdOf (slotIn (now (image .entry)) at place))) ⌝ }
 {
@@ -108,7 +108,7 @@ fn first_seated(image: &[u8], at: Slots, entries: &[Entry], place: usize) -> boo
 // The first slot from `place` on that differs from the layout of a part's entries, or the place behind the part where none does. What the part
 // holds then is left free: it keeps its length, and its entries are needed no more.
 fn first_fault(image: &[u8], at: Slots, header: &Row, entries: &mut [Entry], place: usize) -> usize
-    requires { ⌜ InImage (now image) at × (place + length (now entries) ≤ at .count) × All (IsEntry (slotIn (now image) at) (at .count)) (now entries) × TagsTell (slotIn (now image) at) (at .count) ⌝ }
+    requires { ⌜ InImage (now image) at × (place + length (now entries) ≤ at .count) × All (IsEntry (slotIn (now image) at) (at .count)) (now entries) × TagsDetermine (slotIn (now image) at) (at .count) ⌝ }
     ensures { λ r. ⌜ r ≡ partFault (slotIn (now (image .entry)) at) (distance (spaceOf (now (header .entry)))) place (now (entries .entry)) ⌝ }
 {
     let n = entries.len();
@@ -116,7 +116,7 @@ fn first_fault(image: &[u8], at: Slots, header: &Row, entries: &mut [Entry], pla
         return place;
     }
     arrange(image, at, header, entries);
-    if !first_seated(image, at, entries, place) {
+    if !first_in_place(image, at, entries, place) {
         return place;
     }
     let end = 1 + n / 2;
@@ -128,7 +128,7 @@ fn first_fault(image: &[u8], at: Slots, header: &Row, entries: &mut [Entry], pla
 }
 
 // Whether no tag occurs twice in a bucket and its slots are their layout, marks aside. What `entries` holds then is left free; it keeps its length.
-pub fn bucket_stands(image: &[u8], at: Slots, header: &Row, entries: &mut [Entry]) -> bool
+pub fn tree_valid(image: &[u8], at: Slots, header: &Row, entries: &mut [Entry]) -> bool
     requires { ⌜ InImage (now image) at × (at .count ≤ places) × (length (now entries) ≡ at .count) × TagsFit (slotIn (now image) at) (at .count) ⌝ }
     ensures { λ r. ⌜ r ≡ (distinct (map tagOf (slotsAt (now (image .entry)) at)) && isLayout (distance (spaceOf (now (header .entry)))) (slotsAt (now (image .entry)) at)) ⌝ }
 {

@@ -6,16 +6,16 @@ use borrow.Author.Tests.{le-leb}
 use lib.ListN.{length}
 use Rattle.metric_rules.specs.Row.{rowWidth, zeroRow, word}
 use Rattle.metric_rules.specs.Distance.{Space, metricAt, spaceOf}
-use Rattle.bucket_rules.specs.Geometry.{bucketsOf, tableRows}
-use Rattle.bucket_rules.specs.Table.{Table, headerOf, putBucket}
-use Rattle.bucket_rules.specs.Fresh.{freshRefusal, freshTable, tableAfterFresh}
-use Rattle.bucket_rules.proofs.Buckets.{order-most}
-use Rattle.bucket_rules.proofs.Changes.{fresh-order, fresh-long}
+use Rattle.table_rules.specs.Geometry.{bucketsOf, tableRows}
+use Rattle.table_rules.specs.Table.{Table, headerOf, putBucket}
+use Rattle.table_rules.specs.Fresh.{freshRefusal, freshTable, tableAfterFresh}
+use Rattle.table_rules.proofs.Buckets.{order-most}
+use Rattle.table_rules.proofs.Changes.{fresh-order, fresh-long}
 use Rattle.image_rules.specs.Read.{orderIn, spaceIn, liveIn, bucketIn}
 use Rattle.image_rules.specs.Load.{loadRefusal, loadedTable, tableAfterLoad}
 use Rattle.image_rules.proofs.Accepting.{Accepted}
 use Rattle.image_rules.proofs.Loaded.{table-after-load}
-use Rattle.buckets.specs.Lent.{Lent}
+use Rattle.table_buckets.specs.OfOrder.{OfOrder}
 
 -- a header row shows what it was made of
 pub header-space : (order : ℕ) (space : Space) → spaceOf (headerOf order space) ≡ space
@@ -31,10 +31,10 @@ module _ (image : List ℕ) (t : Table) (ok : Accepted (length t) image) where
   unfolding tableAfterFresh
   fresh-accepted = rw (fresh-goes, tableAfterFresh) refl
 
-  pub fresh-lent : Lent (freshTable (orderIn image) (spaceIn image) t) (orderIn image)
+  pub fresh-lent : OfOrder (freshTable (orderIn image) (spaceIn image) t) (orderIn image)
   fresh-lent =
       record {
-        told = fresh-order (orderIn image) (spaceIn image) t;
+        known = fresh-order (orderIn image) (spaceIn image) t;
         most = order-most (orderIn image) (ok .order);
         long = rw (fresh-long (orderIn image) (spaceIn image) t (ok .roomy)) (ok .roomy);
       }

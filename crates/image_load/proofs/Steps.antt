@@ -10,10 +10,10 @@ use lib.ListN.{length}
 use lib.Pow.{pow-mono}
 use Rattle.lists.specs.Lists.{total}
 use Rattle.metric_rules.specs.Distance.{validSpace}
-use Rattle.bucket_rules.specs.Refusals.{badOrder, badMetric, imageLengthWrong, imageUnsound, areaShort, tableBroken}
-use Rattle.bucket_rules.specs.Geometry.{validOrder, room, tableRows}
-use Rattle.bucket_rules.specs.Checks.{sizesPass}
-use Rattle.bucket_rules.proofs.Buckets.{order-most}
+use Rattle.table_rules.specs.Refusals.{badOrder, badMetric, badLength, badImage, shortArea, badTable}
+use Rattle.table_rules.specs.Geometry.{validOrder, room, tableRows}
+use Rattle.table_rules.specs.Checks.{sizesPass}
+use Rattle.table_rules.proofs.Buckets.{order-most}
 use Rattle.image_rules.specs.Bytes.{tagFields, headerBytes, tagBytes, sizesEnd, imageLength}
 use Rattle.image_rules.specs.Read.{orderIn, spaceIn, zerosIn, builtIn, liveIn, slotsBefore, slotsIn}
 use Rattle.image_rules.specs.Load.{slotsPass, bodyRefusal, loadRefusal}
@@ -41,13 +41,13 @@ stop-first zero n some = absurd (some refl)
 stop-first (suc m) n some = refl
 
 unfoldable pub slotsBy : Bool → ℕ
-slotsBy slots = elim slots [ false ↦ imageUnsound | true ↦ 0 ]
+slotsBy slots = elim slots [ false ↦ badImage | true ↦ 0 ]
 
 -- load's checks are the header's, then those of the sizes and lengths, then the slots'
 by-steps : (short order space zeros pairs sizes whole roomy slots : Bool)
     → _≡_ {A = ℕ}
     (elim short [
-      | true ↦ imageLengthWrong
+      | true ↦ badLength
       | false ↦
           elim order [
             | false ↦ badOrder
@@ -56,17 +56,17 @@ by-steps : (short order space zeros pairs sizes whole roomy slots : Bool)
                   | false ↦ badMetric
                   | true ↦
                       elim zeros [
-                        | false ↦ imageUnsound
+                        | false ↦ badImage
                         | true ↦
                             elim pairs [
-                              | false ↦ imageLengthWrong
+                              | false ↦ badLength
                               | true ↦
                                   elim sizes [
-                                    | false ↦ tableBroken
+                                    | false ↦ badTable
                                     | true ↦
                                         elim whole [
-                                          | false ↦ imageLengthWrong
-                                          | true ↦ elim roomy [ false ↦ areaShort | true ↦ elim slots [ false ↦ imageUnsound | true ↦ 0 ] ]
+                                          | false ↦ badLength
+                                          | true ↦ elim roomy [ false ↦ shortArea | true ↦ elim slots [ false ↦ badImage | true ↦ 0 ] ]
                                         ]
                                   ]
                             ]

@@ -5,20 +5,20 @@ use mathlib.Core.List.{List}
 use lib.ListN.{length}
 use lib.Dec.{leb, ltb, eqb}
 use Rattle.metric_rules.specs.Distance.{validSpace}
-use Rattle.bucket_rules.specs.Refusals.{badOrder, badMetric, imageLengthWrong, imageUnsound, areaShort, tableBroken}
-use Rattle.bucket_rules.specs.Geometry.{validOrder, tableRows}
-use Rattle.bucket_rules.specs.Checks.{sizesPass}
+use Rattle.table_rules.specs.Refusals.{badOrder, badMetric, badLength, badImage, shortArea, badTable}
+use Rattle.table_rules.specs.Geometry.{validOrder, tableRows}
+use Rattle.table_rules.specs.Checks.{sizesPass}
 use Rattle.image_rules.specs.Bytes.{headerBytes, sizesEnd, imageLength}
 use Rattle.image_rules.specs.Read.{orderIn, spaceIn, zerosIn, builtIn, liveIn, slotsIn}
 
 unfoldable pub headerBy : Bool → Bool → Bool → Bool → ℕ
 headerBy short order space zeros =
     elim short [
-      | true ↦ imageLengthWrong
+      | true ↦ badLength
       | false ↦
           elim order [
             | false ↦ badOrder
-            | true ↦ elim space [ false ↦ badMetric | true ↦ elim zeros [ false ↦ imageUnsound | true ↦ 0 ] ]
+            | true ↦ elim space [ false ↦ badMetric | true ↦ elim zeros [ false ↦ badImage | true ↦ 0 ] ]
           ]
     ]
 
@@ -28,11 +28,11 @@ headerRefusal image = headerBy (ltb (length image) headerBytes) (validOrder (ord
 unfoldable pub sizesBy : Bool → Bool → Bool → Bool → ℕ
 sizesBy pairs sizes whole roomy =
     elim pairs [
-      | false ↦ imageLengthWrong
+      | false ↦ badLength
       | true ↦
           elim sizes [
-            | false ↦ tableBroken
-            | true ↦ elim whole [ false ↦ imageLengthWrong | true ↦ elim roomy [ false ↦ areaShort | true ↦ 0 ] ]
+            | false ↦ badTable
+            | true ↦ elim whole [ false ↦ badLength | true ↦ elim roomy [ false ↦ shortArea | true ↦ 0 ] ]
           ]
     ]
 

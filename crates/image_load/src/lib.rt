@@ -3,21 +3,13 @@ ghost use mathlib.Core.Path.{_≡_};
 ghost use mathlib.Core.Bool.{true};
 ghost use Prim.Native.Nat.{_≤_};
 ghost use lib.ListN.{length};
-ghost use Rattle.bucket_rules.specs.Geometry.{validOrder};
-ghost use Rattle.bucket_rules.specs.Checks.{sizesPass};
+ghost use Rattle.table_rules.specs.Geometry.{validOrder};
+ghost use Rattle.table_rules.specs.Checks.{sizesPass};
 ghost use Rattle.image_rules.specs.Bytes.{headerBytes};
 ghost use Rattle.image_rules.specs.Read.{orderIn, builtIn, liveIn};
 ghost use Rattle.image_rules.specs.Load.{slotsPass, loadRefusal, tableAfterLoad};
 ghost use Rattle.image_read.specs.Places.{Places};
 ghost use Rattle.image_load.specs.Steps.{headerRefusal, sizesRefusal};
-use bucket_rules::AREA_SHORT;
-use bucket_rules::BAD_METRIC;
-use bucket_rules::BAD_ORDER;
-use bucket_rules::IMAGE_LENGTH_WRONG;
-use bucket_rules::IMAGE_UNSOUND;
-use bucket_rules::TABLE_BROKEN;
-use fresh::fresh;
-use fresh::header_row;
 use image_fields::buckets_read;
 use image_fields::sizes_pass;
 use image_fill::put_buckets;
@@ -30,11 +22,19 @@ use image_reader::has_bytes;
 use image_rules::HEADER_BYTES;
 use image_rules::SLOT_BYTES;
 use image_rules::TAG_BYTES;
-use image_test::slots_stand;
+use image_test::trees_valid;
 use metric_rules::Row;
-use order::Order;
-use order::Ordered;
-use table::valid_metric;
+use table_fresh::fresh;
+use table_fresh::header_row;
+use table_order::Order;
+use table_order::Ordered;
+use table_rules::BAD_IMAGE;
+use table_rules::BAD_LENGTH;
+use table_rules::BAD_METRIC;
+use table_rules::BAD_ORDER;
+use table_rules::BAD_TABLE;
+use table_rules::SHORT_AREA;
+use table_views::valid_metric;
 
 fn is_order(t: u32) -> bool
     ensures { λ r. ⌜ r ≡ validOrder t ⌝ }
@@ -50,7 +50,7 @@ fn header_refusal(image: &[u8]) -> u32
     ensures { λ r. ⌜ r ≡ headerRefusal (now (image .entry)) ⌝ }
 {
     if !has_bytes(image, 0, HEADER_BYTES) {
-        return IMAGE_LENGTH_WRONG;
+        return BAD_LENGTH;
     }
     if !is_order(order_in(image)) {
         return BAD_ORDER;
@@ -59,7 +59,7 @@ fn header_refusal(image: &[u8]) -> u32
         return BAD_METRIC;
     }
     if zeros_in(image) != 0 {
-        return IMAGE_UNSOUND;
+        return BAD_IMAGE;
     }
     0
 }
@@ -72,16 +72,16 @@ fn sizes_refusal(image: &[u8], rows: usize) -> u32
     let order = Order { t: order_in(image) };
     let end = sizes_end(order.t);
     if !has_bytes(image, 0, end) {
-        return IMAGE_LENGTH_WRONG;
+        return BAD_LENGTH;
     }
     if !sizes_pass(image, order.t) {
-        return TABLE_BROKEN;
+        return BAD_TABLE;
     }
     if image.len() != end + SLOT_BYTES * slots_in(image) {
-        return IMAGE_LENGTH_WRONG;
+        return BAD_LENGTH;
     }
     if rows < order.table_rows() {
-        return AREA_SHORT;
+        return SHORT_AREA;
     }
     0
 }
@@ -95,7 +95,7 @@ fn slots_pass(image: &[u8], tags: usize, records: usize) -> bool
         return false;
     }
     let header = header_row(order_in(image), metric_in(image));
-    slots_stand(image, tags, records, &header)
+    trees_valid(image, tags, records, &header)
 }
 
 // Every check in its order, for a table of so many rows. Nothing is written.
@@ -113,7 +113,7 @@ fn load_refusal(image: &[u8], rows: usize) -> u32
     let tags = sizes_end(order_in(image));
     let records = tags + TAG_BYTES * slots_in(image);
     if !slots_pass(image, tags, records) {
-        return IMAGE_UNSOUND;
+        return BAD_IMAGE;
     }
     0
 }

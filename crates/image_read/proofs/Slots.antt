@@ -9,9 +9,9 @@ use native.Mathlib.Nat.{le-of-suc-le-suc, not-suc-le-zero, lt-of-not-le}
 use native.Mathlib.Numerals.{add-one}
 use lib.ListN.{length, getD, length-map}
 use Rattle.lists.specs.Lists.{total, countFrom}
-use Rattle.bucket_rules.specs.Geometry.{room}
-use Rattle.bucket_rules.specs.Checks.{sizesPass}
-use Rattle.bucket_rules.proofs.Sizes.{size-room, sizes-at}
+use Rattle.table_rules.specs.Geometry.{room}
+use Rattle.table_rules.specs.Checks.{sizesPass}
+use Rattle.table_rules.proofs.Sizes.{size-room, sizes-at}
 use Rattle.image_rules.specs.Bytes.{tagFields, recordFields, tagBytes, recordBytes, sizeBytes, pairBytes, sizesEnd, imageLength}
 use Rattle.image_rules.specs.Read.{orderIn, builtIn, liveIn, slotsBefore, slotsIn}
 use Rattle.image_rules.proofs.Blocks.{length-count}

@@ -9,8 +9,8 @@ use lib.Dec.{leb, ltb, eqb}
 use borrow.Author.Tests.{leb-true, eqb-true, le-ltb, le-leb, eq-eqb}
 use Rattle.lists.specs.Lists.{total, All}
 use Rattle.metric_rules.specs.Distance.{validSpace}
-use Rattle.bucket_rules.specs.Geometry.{validOrder, tableRows}
-use Rattle.bucket_rules.specs.Checks.{sizesPass}
+use Rattle.table_rules.specs.Geometry.{validOrder, tableRows}
+use Rattle.table_rules.specs.Checks.{sizesPass}
 use Rattle.image_rules.specs.Bytes.{headerFields, headerBytes, sizesEnd, imageLength}
 use Rattle.image_rules.specs.Read.{orderIn, spaceIn, zerosIn, builtIn, liveIn, slotsIn}
 use Rattle.image_rules.specs.Load.{slotsPass, bodyRefusal, loadRefusal}
@@ -48,9 +48,9 @@ unfolding firstFailing
 passing [] h = refl
 passing (c ∷ cs) h = rw (h .0) (passing cs (h .1))
 
-turned : (test : Bool) (a b : ℕ) → _≡_ {A = ℕ} (elim test [ true ↦ a | false ↦ b ]) (elim (not test) [ false ↦ a | true ↦ b ])
-turned true a b = refl
-turned false a b = refl
+negated : (test : Bool) (a b : ℕ) → _≡_ {A = ℕ} (elim test [ true ↦ a | false ↦ b ]) (elim (not test) [ false ↦ a | true ↦ b ])
+negated true a b = refl
+negated false a b = refl
 
 module _ (rows : ℕ) (image : List ℕ) where
   checks : List Check
@@ -68,7 +68,7 @@ module _ (rows : ℕ) (image : List ℕ) where
 
   load-checks : loadRefusal rows image ≡ firstFailing checks
   unfolding loadRefusal bodyRefusal checks firstFailing
-  load-checks = turned (ltb (length image) headerBytes) 7 (firstFailing (drop 1 checks))
+  load-checks = negated (ltb (length image) headerBytes) 7 (firstFailing (drop 1 checks))
 
   pub accepted : loadRefusal rows image ≡ 0 → Accepted rows image
   unfolding checks

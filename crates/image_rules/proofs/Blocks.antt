@@ -10,8 +10,8 @@ use lib.Seq.{getD-at, drop-drop, take-add}
 use Rattle.lists.specs.Lists.{total, countFrom, All}
 use Rattle.lists.proofs.Lists.{all-append}
 use Rattle.metric_rules.specs.Row.{word}
-use Rattle.bucket_rules.proofs.ByNumber as by-number
-pub use Rattle.bucket_rules.proofs.ByNumber.{map-count}
+use Rattle.table_rules.proofs.ByNumber as by-number
+pub use Rattle.table_rules.proofs.ByNumber.{map-count}
 use Rattle.lists.proofs.Totals.{total-more}
 
 -- what holds of every element of some lists holds of every element of them put end to end, and of the one at a place

@@ -5,8 +5,8 @@ use mathlib.Core.Bool.{Bool, _&&_}
 use mathlib.Core.List.{map}
 use native.Mathlib.Omega.{arith}
 use Rattle.lists.specs.Lists.{every, countFrom, All}
-use Rattle.bucket_rules.specs.Geometry.{bucketsOf}
-use Rattle.bucket_rules.proofs.ByNumber.{all-count, count-all, map-count}
+use Rattle.table_rules.specs.Geometry.{bucketsOf}
+use Rattle.table_rules.proofs.ByNumber.{all-count, count-all, map-count}
 
 -- what holds of every bucket of an order, as a list and bucket by bucket
 module _ (P : ℕ → Type 0) (order : ℕ) where

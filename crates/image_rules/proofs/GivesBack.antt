@@ -9,9 +9,9 @@ use lib.ListN.{length, take, drop, length-drop, take-append-drop}
 use lib.Seq.{take-all, take-at, drop-at, take-add, drop-drop}
 use Rattle.lists.specs.Lists.{total, countFrom, All}
 use Rattle.metric_rules.specs.Row.{Row}
-use Rattle.bucket_rules.specs.Geometry.{bucketsOf}
-use Rattle.bucket_rules.specs.Table.{Table, orderOf, tableSpace, builtOf, liveOf, slotsOf}
-use Rattle.bucket_rules.proofs.ByNumber.{map-count}
+use Rattle.table_rules.specs.Geometry.{bucketsOf}
+use Rattle.table_rules.specs.Table.{Table, orderOf, tableSpace, builtOf, liveOf, slotsOf}
+use Rattle.table_rules.proofs.ByNumber.{map-count}
 use Rattle.image_rules.specs.Bytes.{bytesOf, bytesOfFields, headerFields, tagFields, recordFields, headerBytes, tagBytes, recordBytes, sizeBytes, pairBytes, sizesEnd, tagWords, imageLength}
 use Rattle.image_rules.specs.Write.{headerBytesOf, sizesOf, tagsOf, recordsOf, allSlots, imageOf}
 use Rattle.image_rules.specs.Read.{numberAt, fieldsAt, headerNumbers, orderIn, spaceIn, zerosIn, builtIn, liveIn, slotsBefore, slotsIn, rowIn, bucketIn}

@@ -13,9 +13,9 @@ use Rattle.lists.specs.Lists.{total, countFrom, every, All}
 use Rattle.lists.proofs.Lists.{all-always, all-append, all-map}
 use Rattle.lists.proofs.Tests.{and-first, and-second}
 use Rattle.metric_rules.specs.Row.{Row, IsRow, rowWidth, word}
-use Rattle.bucket_rules.specs.Geometry.{bucketsOf}
-use Rattle.bucket_rules.specs.Table.{Table, orderOf, tableSpace, builtOf, liveOf, slotsOf}
-use Rattle.bucket_rules.proofs.ByNumber.{length-flatten}
+use Rattle.table_rules.specs.Geometry.{bucketsOf}
+use Rattle.table_rules.specs.Table.{Table, orderOf, tableSpace, builtOf, liveOf, slotsOf}
+use Rattle.table_rules.proofs.ByNumber.{length-flatten}
 use Rattle.image_rules.specs.Bytes.{bytesOf, bytesOfFields, headerFields, tagFields, recordFields, headerBytes, tagBytes, recordBytes, sizeBytes, pairBytes, sizesEnd, tagWords, imageLength}
 use Rattle.image_rules.specs.Write.{headerBytesOf, sizesOf, tagsOf, recordsOf, allSlots, imageOf}
 use Rattle.image_rules.specs.Read.{fieldsAt, orderIn, slotsIn, slotsBefore, builtIn, liveIn, rowIn, bucketIn}

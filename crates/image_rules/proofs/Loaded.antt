@@ -6,13 +6,13 @@ use mathlib.Core.List.{List}
 use native.Mathlib.Omega.{arith}
 use lib.ListN.{length, drop, length-map}
 use Rattle.lists.specs.Lists.{countFrom, All}
-use Rattle.bucket_rules.specs.Geometry.{room, bucketsOf, headerRow, tableRows}
-use Rattle.bucket_rules.specs.Table.{Table, rowAt, orderOf, tableSpace, headerOf}
-use Rattle.bucket_rules.specs.Fresh.{freshTable}
-use Rattle.bucket_rules.proofs.Sizes.{size-room, sizes-at}
-use Rattle.bucket_rules.proofs.Views.{same-order, same-space}
-use Rattle.bucket_rules.proofs.Puts.{Holds, held-built, held-live, held-slots, putEach, put-each-only, put-each-holds}
-use Rattle.bucket_rules.proofs.Changes.{fresh-header, fresh-order, fresh-space, fresh-past, fresh-long}
+use Rattle.table_rules.specs.Geometry.{room, bucketsOf, headerRow, tableRows}
+use Rattle.table_rules.specs.Table.{Table, rowAt, orderOf, tableSpace, headerOf}
+use Rattle.table_rules.specs.Fresh.{freshTable}
+use Rattle.table_rules.proofs.Sizes.{size-room, sizes-at}
+use Rattle.table_rules.proofs.Views.{same-order, same-space}
+use Rattle.table_rules.proofs.Puts.{Holds, held-built, held-live, held-slots, putEach, put-each-only, put-each-holds}
+use Rattle.table_rules.proofs.Changes.{fresh-header, fresh-order, fresh-space, fresh-past, fresh-long}
 use Rattle.image_rules.specs.Read.{orderIn, spaceIn, builtIn, liveIn, slotsBefore, rowIn, bucketIn}
 use Rattle.image_rules.specs.Write.{imageOf}
 use Rattle.image_rules.specs.Load.{loadRefusal, loadedTable, tableAfterLoad}

@@ -9,8 +9,8 @@ use lib.ListN.{length, getD, take, drop, length-append, length-take, length-drop
 use Rattle.lists.specs.Lists.{total, countFrom, All}
 use Rattle.lists.proofs.Lists.{all-always, all-take, all-drop}
 use Rattle.metric_rules.specs.Row.{Row, IsRow, rowWidth}
-use Rattle.bucket_rules.specs.Geometry.{bucketsOf}
-use Rattle.bucket_rules.specs.Table.{Table, orderOf, tableSpace, builtOf, liveOf, slotsOf}
+use Rattle.table_rules.specs.Geometry.{bucketsOf}
+use Rattle.table_rules.specs.Table.{Table, orderOf, tableSpace, builtOf, liveOf, slotsOf}
 use Rattle.image_rules.specs.Bytes.{bytesOf, headerFields, tagFields, recordFields, bytesOfFields, headerBytes, tagBytes, recordBytes, sizeBytes, pairBytes, sizesEnd, tagWords}
 use Rattle.image_rules.specs.Write.{headerBytesOf, sizesOf, tagsOf, recordsOf, allSlots, imageOf}
 use Rattle.image_rules.specs.Read.{fieldsAt, headerNumbers, orderIn, spaceIn, zerosIn, builtIn, liveIn, slotsBefore, slotsIn, rowIn, bucketIn}

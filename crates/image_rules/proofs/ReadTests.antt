@@ -7,10 +7,10 @@ use mathlib.Core.List.{List, map, flatten}
 use lib.Dec.{leb}
 use Rattle.lists.specs.Lists.{every, total, select, distinct}
 use Rattle.metric_rules.specs.Row.{isLive, tagOf}
-use Rattle.bucket_rules.specs.Geometry.{room, bucketsOf}
-use Rattle.bucket_rules.specs.Table.{Table, orderOf, tableSpace, builtOf, liveOf, slotsOf, liveSlots}
-use Rattle.bucket_rules.specs.Checks.{sizePasses, sizesPass}
-use Rattle.bucket_rules.specs.Rebuild.{liveItems}
+use Rattle.table_rules.specs.Geometry.{room, bucketsOf}
+use Rattle.table_rules.specs.Table.{Table, orderOf, tableSpace, builtOf, liveOf, slotsOf, liveSlots}
+use Rattle.table_rules.specs.Checks.{sizePasses, sizesPass}
+use Rattle.table_rules.specs.Rebuild.{liveItems}
 use Rattle.image_rules.specs.Read.{orderIn, builtIn, liveIn, slotsBefore, slotsIn, bucketIn}
 use Rattle.image_rules.specs.Load.{bucketPasses, liveRows, slotsPass}
 use Rattle.image_rules.proofs.EachBucket.{test-buckets, map-buckets}

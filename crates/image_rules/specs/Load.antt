@@ -9,11 +9,11 @@ use Rattle.metric_rules.specs.Row.{Row, tagOf, profileOf, markOf, isLive}
 use Rattle.metric_rules.specs.Validity.{validTag, validMeasures}
 use Rattle.metric_rules.specs.Distance.{Space, validSpace, distance}
 use Rattle.tree_rules.specs.Layout.{isLayout}
-use Rattle.bucket_rules.specs.Refusals.{badOrder, badMetric, imageLengthWrong, imageUnsound, areaShort, tableBroken}
-use Rattle.bucket_rules.specs.Geometry.{validOrder, bucketsOf, tableRows}
-use Rattle.bucket_rules.specs.Table.{Table, putBucket}
-use Rattle.bucket_rules.specs.Checks.{sizesPass}
-use Rattle.bucket_rules.specs.Fresh.{freshTable}
+use Rattle.table_rules.specs.Refusals.{badOrder, badMetric, badLength, badImage, shortArea, badTable}
+use Rattle.table_rules.specs.Geometry.{validOrder, bucketsOf, tableRows}
+use Rattle.table_rules.specs.Table.{Table, putBucket}
+use Rattle.table_rules.specs.Checks.{sizesPass}
+use Rattle.table_rules.specs.Fresh.{freshTable}
 use Rattle.image_rules.specs.Bytes.{headerBytes, sizesEnd, imageLength}
 use Rattle.image_rules.specs.Read.{orderIn, spaceIn, zerosIn, builtIn, liveIn, slotsIn, bucketIn}
 
@@ -40,17 +40,17 @@ slotsPass image =
 unfoldable pub bodyRefusal : ℕ → List ℕ → ℕ
 bodyRefusal rows image =
     elim (leb (sizesEnd (orderIn image)) (length image)) [
-      | false ↦ imageLengthWrong
+      | false ↦ badLength
       | true ↦
           elim (sizesPass (orderIn image) (builtIn image) (liveIn image)) [
-            | false ↦ tableBroken
+            | false ↦ badTable
             | true ↦
                 elim (eqb (length image) (imageLength (orderIn image) (slotsIn image))) [
-                  | false ↦ imageLengthWrong
+                  | false ↦ badLength
                   | true ↦
                       elim (leb (tableRows (orderIn image)) rows) [
-                        | false ↦ areaShort
-                        | true ↦ elim (slotsPass image) [ false ↦ imageUnsound | true ↦ 0 ]
+                        | false ↦ shortArea
+                        | true ↦ elim (slotsPass image) [ false ↦ badImage | true ↦ 0 ]
                       ]
                 ]
           ]
@@ -60,7 +60,7 @@ bodyRefusal rows image =
 unfoldable pub loadRefusal : ℕ → List ℕ → ℕ
 loadRefusal rows image =
     elim (ltb (length image) headerBytes) [
-      | true ↦ imageLengthWrong
+      | true ↦ badLength
       | false ↦
           elim (validOrder (orderIn image)) [
             | false ↦ badOrder
@@ -68,7 +68,7 @@ loadRefusal rows image =
                 elim (validSpace (spaceIn image)) [
                   | false ↦ badMetric
                   | true ↦
-                      elim (eqb (zerosIn image) 0) [ false ↦ imageUnsound | true ↦ bodyRefusal rows image ]
+                      elim (eqb (zerosIn image) 0) [ false ↦ badImage | true ↦ bodyRefusal rows image ]
                 ]
           ]
     ]

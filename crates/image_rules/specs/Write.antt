@@ -6,10 +6,10 @@ use lib.ListN.{length, take, drop}
 use lib.Dec.{leb}
 use Rattle.metric_rules.specs.Row.{Row}
 use Rattle.metric_rules.specs.Distance.{Space}
-use Rattle.bucket_rules.specs.Refusals.{resultShort}
-use Rattle.bucket_rules.specs.Geometry.{bucketsOf}
-use Rattle.bucket_rules.specs.Table.{Table, orderOf, tableSpace, builtOf, liveOf, slotsOf}
-use Rattle.bucket_rules.specs.Checks.{readRefusal}
+use Rattle.table_rules.specs.Refusals.{noRoom}
+use Rattle.table_rules.specs.Geometry.{bucketsOf}
+use Rattle.table_rules.specs.Table.{Table, orderOf, tableSpace, builtOf, liveOf, slotsOf}
+use Rattle.table_rules.specs.Checks.{readRefusal}
 use Rattle.image_rules.specs.declared.Written.{Written}
 use Rattle.image_rules.specs.Bytes.{bytesOf, bytesOfFields, headerFields, sizeBytes, tagFields, recordFields, tagWords}
 
@@ -38,7 +38,7 @@ imageOf t = headerBytesOf (orderOf t) (tableSpace t) ++ sizesOf (orderOf t) (bui
 -- after 23 and 24: 6, fewer bytes in the area than in the image
 unfoldable pub writeRefusal : Table → List ℕ → ℕ
 writeRefusal t area =
-    elim (readRefusal t) [ suc n ↦ suc n | zero ↦ elim (leb (length (imageOf t)) (length area)) [ true ↦ 0 | false ↦ resultShort ] ]
+    elim (readRefusal t) [ suc n ↦ suc n | zero ↦ elim (leb (length (imageOf t)) (length area)) [ true ↦ 0 | false ↦ noRoom ] ]
 
 unfoldable pub writeReply : Table → List ℕ → Written
 writeReply t area =

@@ -13,7 +13,7 @@ use Rattle.metric_rules.specs.Distance.{Space, distance}
 use Rattle.tree_rules.specs.Layout.{isLayout}
 use Rattle.search_rules.specs.Range.{Entry}
 use Rattle.search_rules.proofs.Selecting.{select-append}
-use Rattle.bucket_rules.specs.Geometry.{bucketsOf}
+use Rattle.table_rules.specs.Geometry.{bucketsOf}
 use Rattle.image_rules.specs.Bytes.{headerFields, headerBytes, sizeBytes, pairBytes, sizesEnd, imageLength}
 use Rattle.image_rules.specs.Read.{orderIn, builtIn, slotsBefore, slotsIn, rowIn, bucketIn}
 use Rattle.image_rules.specs.Load.{liveRows}
@@ -24,7 +24,7 @@ use Rattle.image_read.specs.Places.{Places}
 use Rattle.image_entries.specs.declared.Slots.{Slots}
 use Rattle.image_entries.specs.Entries.{places, TagsFit}
 use Rattle.image_entries.specs.InImage.{InImage, slotIn, slotsAt}
-use Rattle.image_test.specs.Standing.{standing}
+use Rattle.image_test.specs.Trees.{treeValid}
 
 -- counted from a on, or from 0 with a added
 pub count-shift : {A : Type 0} (f : ℕ → A) (a b n : ℕ) → map (λ i. f (a + i)) (countFrom b n) ≡ map f (countFrom (a + b) n)
@@ -138,9 +138,9 @@ module _ (image : List ℕ) (tags records first count k : ℕ) where
       → b
       ≡ (distinct (map tagOf (slotsAt image (record { tags = tags; records = records; first = first; count = count })))
       && isLayout (distance space) (slotsAt image (record { tags = tags; records = records; first = first; count = count })))
-      → standing space (bucketIn image (getD (bucketsOf (orderIn image)) k 0)) ≡ b
-  unfolding standing bucketsOf bucketAt
+      → treeValid space (bucketIn image (getD (bucketsOf (orderIn image)) k 0)) ≡ b
+  unfolding treeValid bucketsOf bucketAt
   bucket-tests space h f n b e =
-      ap (λ (j : ℕ). standing space (bucketIn image j)) (getD-count 0 (suc (orderIn image)) k 0 (omega arith) ∙ omega arith)
-      ∙ ap (standing space) (sym (bucket-slots image bucketAt k f n))
+      ap (λ (j : ℕ). treeValid space (bucketIn image j)) (getD-count 0 (suc (orderIn image)) k 0 (omega arith) ∙ omega arith)
+      ∙ ap (treeValid space) (sym (bucket-slots image bucketAt k f n))
       ∙ sym e

@@ -17,10 +17,10 @@ use Rattle.metric_rules.specs.Validity.{validTag, validMeasures}
 use Rattle.metric_rules.specs.Distance.{Space, distance}
 use Rattle.metric_rules.proofs.Ranges.{tag-below}
 use Rattle.tree_rules.specs.Layout.{isLayout}
-use Rattle.bucket_rules.specs.Geometry.{mostOrder, room, bucketsOf}
-use Rattle.bucket_rules.specs.Checks.{sizesPass}
-use Rattle.bucket_rules.proofs.ByNumber.{count-all, map-count, length-flatten}
-use Rattle.bucket_rules.proofs.Sizes.{size-room, sizes-at, sizes-total}
+use Rattle.table_rules.specs.Geometry.{mostOrder, room, bucketsOf}
+use Rattle.table_rules.specs.Checks.{sizesPass}
+use Rattle.table_rules.proofs.ByNumber.{count-all, map-count, length-flatten}
+use Rattle.table_rules.proofs.Sizes.{size-room, sizes-at, sizes-total}
 use Rattle.image_rules.specs.Read.{orderIn, builtIn, liveIn, slotsBefore, slotsIn, rowIn, bucketIn, spaceIn}
 use Rattle.image_rules.specs.Load.{fieldsPass, bucketPasses, liveRows, slotsPass}
 use Rattle.image_rules.proofs.Blocks.{all-flatten}
@@ -28,7 +28,7 @@ use Rattle.search_rules.specs.Range.{Entry}
 use Rattle.image_read.specs.Places.{Places}
 use Rattle.image_entries.specs.Entries.{places, TagsFit}
 use Rattle.image_entries.specs.InImage.{InImage, slotIn, slotsAt}
-use Rattle.image_test.specs.Standing.{bucketRead, standing, slotsStand}
+use Rattle.image_test.specs.Trees.{bucketRead, treeValid, treesValid}
 use Rattle.image_test.proofs.Buckets.{rows-before, live-all}
 
 room-few : (k order : ℕ) → k ≤ order → order ≤ mostOrder → room k ≤ places
@@ -104,16 +104,16 @@ module _ (image : List ℕ) (known : orderIn image ≤ mostOrder) (sizes : sizes
   )
 
 -- the two tests, and all slots
-pub stand-fails : (space : Space) (image : List ℕ) (b : Bool) → b ≡ every (λ k. standing space (bucketIn image k)) (bucketsOf (orderIn image)) → b ≡ false → false ≡ slotsStand space image
-unfolding slotsStand
+pub stand-fails : (space : Space) (image : List ℕ) (b : Bool) → b ≡ every (λ k. treeValid space (bucketIn image k)) (bucketsOf (orderIn image)) → b ≡ false → false ≡ treesValid space image
+unfolding treesValid
 stand-fails space image b e h = ap (λ (x : Bool). x && distinct (map tagOf (liveRows image))) (sym h ∙ e)
 
 pub stand-tested :
-    (space : Space) (image : List ℕ) (tags records count : ℕ) (b : Bool) → b ≡ every (λ k. standing space (bucketIn image k)) (bucketsOf (orderIn image)) → b ≡ true
+    (space : Space) (image : List ℕ) (tags records count : ℕ) (b : Bool) → b ≡ every (λ k. treeValid space (bucketIn image k)) (bucketsOf (orderIn image)) → b ≡ true
     → count ≡ slotsIn image → (r : Bool)
     → r ≡ distinct (map tagOf (select isLive (slotsAt image (record { tags = tags; records = records; first = 0; count = count }))))
-    → r ≡ slotsStand space image
-unfolding slotsStand
+    → r ≡ treesValid space image
+unfolding treesValid
 stand-tested space image tags records count b e h n r f =
     f
     ∙ ap (λ (rows : List Row). distinct (map tagOf rows)) (sym (live-all image (record { tags = tags; records = records; first = 0; count = count }) refl n))
@@ -135,19 +135,19 @@ and-assoc : (a b c : Bool) → ((a && b) && c) ≡ (a && (b && c))
 and-assoc true b c = refl
 and-assoc false b c = refl
 
-in-parts : (image : List ℕ) (k : ℕ) → bucketPasses (spaceIn image) (liveIn image k) (bucketIn image k) ≡ (bucketRead image k && standing (spaceIn image) (bucketIn image k))
-unfolding bucketPasses bucketRead standing
+in-parts : (image : List ℕ) (k : ℕ) → bucketPasses (spaceIn image) (liveIn image k) (bucketIn image k) ≡ (bucketRead image k && treeValid (spaceIn image) (bucketIn image k))
+unfolding bucketPasses bucketRead treeValid
 in-parts image k =
     and-assoc (every fieldsPass (bucketIn image k) && eqb (length (select isLive (bucketIn image k))) (liveIn image k))
     (distinct (map tagOf (bucketIn image k)))
     (isLayout (distance (spaceIn image)) (bucketIn image k))
 
 -- the test of all slots, in its two steps
-pub slots-pass-parts : (image : List ℕ) → slotsPass image ≡ (every (bucketRead image) (bucketsOf (orderIn image)) && slotsStand (spaceIn image) image)
-unfolding slotsPass slotsStand
+pub slots-pass-parts : (image : List ℕ) → slotsPass image ≡ (every (bucketRead image) (bucketsOf (orderIn image)) && treesValid (spaceIn image) image)
+unfolding slotsPass treesValid
 slots-pass-parts image =
     let ks : List ℕ = bucketsOf (orderIn image) in
-    let stands : ℕ → Bool = λ (k : ℕ). standing (spaceIn image) (bucketIn image k) in
+    let stands : ℕ → Bool = λ (k : ℕ). treeValid (spaceIn image) (bucketIn image k) in
     ap (λ (b : Bool). b && distinct (map tagOf (liveRows image)))
     (every-both (bucketRead image) stands (λ k. bucketPasses (spaceIn image) (liveIn image k) (bucketIn image k)) (in-parts image) ks)
     ∙ and-assoc (every (bucketRead image) ks) (every stands ks) (distinct (map tagOf (liveRows image)))

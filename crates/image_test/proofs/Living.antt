@@ -19,7 +19,7 @@ use Rattle.image_entries.specs.declared.Slots.{Slots}
 use Rattle.image_entries.specs.Entries.{places, entryTag, tagEntry, Fresh}
 use Rattle.image_entries.specs.InImage.{slotIn, slotsAt}
 use Rattle.image_entries.proofs.Filling.{tag-entry-tag}
-use Rattle.image_test.specs.Standing.{liveEntry}
+use Rattle.image_test.specs.Trees.{liveEntry}
 
 module _ (image : List ℕ) (at : Slots) where
   pub slots-length : length (slotsAt image at) ≡ at .count

@@ -7,19 +7,19 @@ ghost use lib.ListN.{length, take};
 ghost use Rattle.lists.specs.Lists.{every, select, distinct};
 ghost use Rattle.metric_rules.specs.Row.{tagOf, isLive};
 ghost use Rattle.metric_rules.specs.Distance.{spaceOf};
-ghost use Rattle.bucket_rules.specs.Geometry.{mostOrder, bucketsOf};
-ghost use Rattle.bucket_rules.specs.Checks.{sizesPass};
+ghost use Rattle.table_rules.specs.Geometry.{mostOrder, bucketsOf};
+ghost use Rattle.table_rules.specs.Checks.{sizesPass};
 ghost use Rattle.image_rules.specs.Read.{orderIn, builtIn, liveIn, bucketIn, rowIn, slotsIn};
 ghost use Rattle.image_read.specs.Places.{Places};
 ghost use Rattle.image_entries.specs.Entries.{places, TagsFit};
 ghost use Rattle.image_entries.specs.InImage.{InImage, slotIn, slotsAt};
-ghost use Rattle.image_test.specs.Standing.{bucketRead, standing, slotsStand, liveEntry};
+ghost use Rattle.image_test.specs.Trees.{bucketRead, treeValid, treesValid, liveEntry};
 use image_entries::PLACES;
 use image_entries::Slots;
 use image_entries::slot_in;
 use image_entries::tag_entry;
 use image_entries::tags_apart;
-use image_layout::bucket_stands;
+use image_layout::tree_valid;
 use image_read::built_in;
 use image_read::order_in;
 use image_read::slots_in;
@@ -58,7 +58,7 @@ fn live_apart(image: &[u8], at: Slots, entries: &mut [Entry]) -> bool
 }
 
 // Whether every bucket stands, one after the other. What `entries` holds then is left free; it keeps its length.
-fn buckets_stand(
+fn each_tree_valid(
     image: &[u8],
     tags: usize,
     records: usize,
@@ -66,7 +66,7 @@ fn buckets_stand(
     entries: &mut [Entry],
 ) -> bool
     requires { ⌜ Places (now image) tags records × (orderIn (now image) ≤ mostOrder) × (length (now entries) ≡ places) × ((k : ℕ) → k ≤ orderIn (now image) → builtIn (now image) k ≤ places) × ((i : ℕ) → i < slotsIn (now image) → tagOf (rowIn (now image) i) < 2 ^ 50) ⌝ }
-    ensures { λ r. ⌜ r ≡ every (λ k. standing (spaceOf (now (header .entry))) (bucketIn (now (image .entry)) k)) (bucketsOf (orderIn (now (image .entry)))) ⌝ }
+    ensures { λ r. ⌜ r ≡ every (λ k. treeValid (spaceOf (now (header .entry))) (bucketIn (now (image .entry)) k)) (bucketsOf (orderIn (now (image .entry)))) ⌝ }
 {
     let buckets = order_in(image) + 1;
     let mut first = 0;
@@ -79,7 +79,7 @@ fn buckets_stand(
             first,
             count,
         };
-        if !bucket_stands(image, at, header, &mut entries[..count]) {
+        if !tree_valid(image, at, header, &mut entries[..count]) {
             return false;
         }
         first += count;
@@ -89,12 +89,12 @@ fn buckets_stand(
 }
 
 // Whether the slots of an image that is right but for its tags and layouts stand. The array is all the room that this takes.
-pub fn slots_stand(image: &[u8], tags: usize, records: usize, header: &Row) -> bool
+pub fn trees_valid(image: &[u8], tags: usize, records: usize, header: &Row) -> bool
     requires { ⌜ Places (now image) tags records × (orderIn (now image) ≤ mostOrder) × (sizesPass (orderIn (now image)) (builtIn (now image)) (liveIn (now image)) ≡ true) × (every (bucketRead (now image)) (bucketsOf (orderIn (now image))) ≡ true) ⌝ }
-    ensures { λ r. ⌜ r ≡ slotsStand (spaceOf (now (header .entry))) (now (image .entry)) ⌝ }
+    ensures { λ r. ⌜ r ≡ treesValid (spaceOf (now (header .entry))) (now (image .entry)) ⌝ }
 {
     let mut entries = [[0u64; 2]; PLACES as usize];
-    if !buckets_stand(image, tags, records, header, &mut entries[..]) {
+    if !each_tree_valid(image, tags, records, header, &mut entries[..]) {
         return false;
     }
     let all = Slots {

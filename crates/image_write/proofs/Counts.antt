@@ -7,11 +7,11 @@ use lib.ListN.{length, length-append}
 use lib.Pow.{pow-mono}
 use lib.Seq.{sets}
 use Rattle.lists.specs.Lists.{total, countFrom}
-use Rattle.bucket_rules.specs.Geometry.{room, bucketsOf}
-use Rattle.bucket_rules.specs.Table.{Table, orderOf, tableSpace, builtOf, liveOf, slotsOf}
-use Rattle.bucket_rules.specs.Passed.{Passed}
-use Rattle.bucket_rules.proofs.ByNumber.{map-count, length-flatten}
-use Rattle.bucket_rules.proofs.Passing.{bucket-within}
+use Rattle.table_rules.specs.Geometry.{room, bucketsOf}
+use Rattle.table_rules.specs.Table.{Table, orderOf, tableSpace, builtOf, liveOf, slotsOf}
+use Rattle.table_rules.specs.Passed.{Passed}
+use Rattle.table_rules.proofs.ByNumber.{map-count, length-flatten}
+use Rattle.table_rules.proofs.Passing.{bucket-within}
 use Rattle.image_rules.specs.Bytes.{headerFields, headerBytes, sizesEnd}
 use Rattle.image_rules.specs.Write.{headerBytesOf, sizesOf, tagsOf, recordsOf, allSlots, imageOf}
 use Rattle.image_rules.proofs.Bytes.{length-fields}

@@ -7,9 +7,9 @@ use native.Mathlib.Omega.{arith}
 use lib.ListN.{length, drop}
 use lib.Seq.{sets, sets-eq}
 use borrow.Author.Tests.{le-leb, lt-leb}
-use Rattle.bucket_rules.specs.Refusals.{resultShort}
-use Rattle.bucket_rules.specs.Table.{Table}
-use Rattle.bucket_rules.specs.Checks.{readRefusal}
+use Rattle.table_rules.specs.Refusals.{noRoom}
+use Rattle.table_rules.specs.Table.{Table}
+use Rattle.table_rules.specs.Checks.{readRefusal}
 use Rattle.image_rules.specs.Write.{imageOf, writeRefusal, writeReply, imageAfterWrite}
 
 module _ (t : Table) (area : List ℕ) where
@@ -23,7 +23,7 @@ module _ (t : Table) (area : List ℕ) where
   stopped (suc n) e some = stop-at n (rw (sym e, writeRefusal) refl)
 
   pub too-short : readRefusal t ≡ 0 → length area < length (imageOf t)
-      → (record { refusal = resultShort; length = 0 } ≡ writeReply t area) × (area ≡ imageAfterWrite t area)
+      → (record { refusal = noRoom; length = 0 } ≡ writeReply t area) × (area ≡ imageAfterWrite t area)
   unfolding writeRefusal
   too-short e h = stop-at 5 (rw (e, writeRefusal, lt-leb (length (imageOf t)) (length area) h) refl)
 

@@ -11,10 +11,10 @@ use lib.ListN.{length, drop, length-append, length-take, length-drop}
 use lib.Seq.{sets}
 use Rattle.lists.specs.Lists.{countFrom}
 use Rattle.metric_rules.specs.Row.{Row}
-use Rattle.bucket_rules.specs.Geometry.{bucketsOf, sizesRow, firstSlot}
-use Rattle.bucket_rules.specs.Table.{Table, orderOf, builtOf, slotsOf}
-use Rattle.bucket_rules.specs.Passed.{Passed}
-use Rattle.bucket_rules.proofs.Passing.{sizes-inside, built-inside}
+use Rattle.table_rules.specs.Geometry.{bucketsOf, sizesRow, firstSlot}
+use Rattle.table_rules.specs.Table.{Table, orderOf, builtOf, slotsOf}
+use Rattle.table_rules.specs.Passed.{Passed}
+use Rattle.table_rules.proofs.Passing.{sizes-inside, built-inside}
 use Rattle.image_rules.specs.Write.{tagsOf, recordsOf, allSlots}
 use Rattle.image_rules.proofs.Counting.{flatten-append, flatten-more}
 use Rattle.tree_rules.proofs.Stores.{sets-more, sets-apart}

@@ -6,11 +6,10 @@ ghost use lib.ListN.{length};
 ghost use lib.Seq.{sets};
 ghost use Rattle.metric_rules.specs.Row.{word};
 ghost use Rattle.metric_rules.specs.Distance.{spaceOf};
-ghost use Rattle.bucket_rules.specs.Table.{orderOf, builtOf, liveOf};
-ghost use Rattle.bucket_rules.specs.Passed.{Passed};
+ghost use Rattle.table_rules.specs.Table.{orderOf, builtOf, liveOf};
+ghost use Rattle.table_rules.specs.Passed.{Passed};
 ghost use Rattle.image_rules.specs.Bytes.{bytesOf, headerBytes, sizeBytes, pairBytes, sizesEnd};
 ghost use Rattle.image_rules.specs.Write.{headerBytesOf, sizesOf, tagsOf, recordsOf, allSlots, imageOf, writeReply, imageAfterWrite};
-use bucket_rules::RESULT_SHORT;
 use image_put::put_records;
 use image_put::put_tags;
 use image_put::put16;
@@ -24,14 +23,15 @@ use image_rules::TAG_BYTES;
 use image_rules::Written;
 use metric_rules::METRIC_AT;
 use metric_rules::Row;
-use order::Order;
-use table::HEADER_ROW;
-use table::ORDER_AT;
-use table::built_of;
-use table::live_of;
-use table::order_in;
-use table::slots_of;
 use table_checks::read_refusal;
+use table_order::Order;
+use table_rules::NO_ROOM;
+use table_views::HEADER_ROW;
+use table_views::ORDER_AT;
+use table_views::built_of;
+use table_views::live_of;
+use table_views::order_in;
+use table_views::slots_of;
 
 // Order, metric and two zero bytes.
 fn put_header(image: &mut [u8], header: Row)
@@ -136,7 +136,7 @@ pub fn write(table: &[Row], image: &mut [u8]) -> Written
     let length = image_length(table, order);
     if image.len() < length {
         return Written {
-            refusal: RESULT_SHORT,
+            refusal: NO_ROOM,
             length: 0,
         };
     }

@@ -16,10 +16,10 @@ use Rattle.list_line.specs.declared.NumberRead.the-variants.{Number, NoN
 use Rattle.list_line.specs.declared.MeasureRead.{MeasureRead}
 use Rattle.list_line.specs.declared.MeasureRead.the-variants.{Measure, NoMeasure}
 use Rattle.list_line.specs.declared.LineRead.{LineRead}
-use Rattle.list_line.specs.InTurn.{Read, Item, followed, readNumber, readSize, signed, readMeasure, readLine}
-use Rattle.list_line.specs.InTurn.Read.{found, none}
+use Rattle.list_line.specs.InOrder.{Read, Item, followed, readNumber, readSize, signed, readMeasure, readLine}
+use Rattle.list_line.specs.InOrder.Read.{found, none}
 use Rattle.list_line.specs.Places.{Behind, NumberAt, MeasureAt, SizeFits, signedSize, LineAt}
-use Rattle.list_line.proofs.InTurn.{number-short, number-strays, number-goes-on, from-place}
+use Rattle.list_line.proofs.InOrder.{number-short, number-strays, number-goes-on, from-place}
 
 module _ {A B : Type 0} (f : A → List ℕ → Read B) where
   pub followed-found : {r : Read A} {v : A} {rest : List ℕ} → r ≡ found v rest → followed r f ≡ f v rest
@@ -84,17 +84,17 @@ size-fits list at r (Number v next) h = h .1
 size-fits list at r NoNumber h = tt
 
 -- the code's sign
-module _ {s : NumberRead} {v place : ℕ} (told : s ≡ Number v place) where
+module _ {s : NumberRead} {v place : ℕ} (known : s ≡ Number v place) where
   pub size-small : SizeFits s → v < 10000000
-  size-small h = subst SizeFits told h
+  size-small h = subst SizeFits known h
 
   pub negative-size : {negative : Bool} {z : ℤ} → negative ≡ true → z ≡ negℤ (pos v) → Measure z place ≡ signedSize negative s
   unfolding signed
-  negative-size e f = ap (λ z. Measure z place) f ∙ sym (ap₂ signedSize e told)
+  negative-size e f = ap (λ z. Measure z place) f ∙ sym (ap₂ signedSize e known)
 
   pub plain-size : {negative : Bool} {z : ℤ} → negative ≡ false → z ≡ pos v → Measure z place ≡ signedSize negative s
   unfolding signed
-  plain-size e f = ap (λ z. Measure z place) f ∙ sym (ap₂ signedSize e told)
+  plain-size e f = ap (λ z. Measure z place) f ∙ sym (ap₂ signedSize e known)
 
 signed-behind : (list : List ℕ) (at later limit : ℕ) (r : Read ℕ) {whole : Read ℤ} (negative : Bool) → whole ≡ withSign negative r → at ≤ later
     → (s : NumberRead) → NumberAt list later limit r s → MeasureAt list at whole (signedSize negative s)
@@ -104,7 +104,7 @@ signed-behind list at later limit r negative e l NoNumber h = e ∙ followed-non
 
 pub measure-behind : (list : List ℕ) (at later limit : ℕ) (r : Read ℕ) {whole : Read ℤ} (negative : Bool) → whole ≡ withSign negative r → at ≤ later
     → (s : NumberRead) → NumberAt list later limit r s → {m : MeasureRead} → m ≡ signedSize negative s → MeasureAt list at whole m
-measure-behind list at later limit r {whole} negative e l s h told = subst⁻¹ (MeasureAt list at whole) told (signed-behind list at later limit r negative e l s h)
+measure-behind list at later limit r {whole} negative e l s h known = subst⁻¹ (MeasureAt list at whole) known (signed-behind list at later limit r negative e l s h)
 
 -- by the first byte of a measure
 module _ (mark b : ℕ) (bs : List ℕ) where
@@ -158,13 +158,13 @@ module _ (list : List ℕ) (at : ℕ) (r : Read Item) (line : LineRead) where
   unfolding LineAt
   line-none e h = subst⁻¹ AsItem e h
 
-  pub item-told : LineAt list at r line → line .item ≡ true → AsItem true
+  pub item-known : LineAt list at r line → line .item ≡ true → AsItem true
   unfolding LineAt
-  item-told h e = subst AsItem e h
+  item-known h e = subst AsItem e h
 
-  pub none-told : LineAt list at r line → line .item ≡ false → r ≡ none
+  pub none-known : LineAt list at r line → line .item ≡ false → r ≡ none
   unfolding LineAt
-  none-told h e = subst AsItem e h
+  none-known h e = subst AsItem e h
 
 pub line-item : (list : List ℕ) (at : ℕ) (r : Read Item) {tag place : ℕ} {given measures : List ℤ} (code : List ℕ) → given ≡ measures
     → r ≡ found (record { tag = tag; profile = record { measures = measures; code = code } }) (drop place list) → Behind list at place

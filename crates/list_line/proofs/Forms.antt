@@ -17,9 +17,9 @@ use Rattle.text_rules.proofs.Digits.{below-digits, digit-from, decimal-below, l
 use Rattle.text_rules.proofs.Signs.{unsigned-minus, unsigned-plain, measure-minus, measure-plain}
 use Rattle.text_rules.proofs.Parts.{Free, parted-one, parted-first, joined, parted-back}
 use Rattle.list_rules.specs.Lines.{comma}
-use Rattle.list_line.specs.InTurn.{Read, followed, readNumber, readSize, signed, readMeasure}
-use Rattle.list_line.specs.InTurn.Read.{found, none}
-use Rattle.list_line.proofs.InTurn.{number-ends, number-short, number-long, number-strays, number-goes-on}
+use Rattle.list_line.specs.InOrder.{Read, followed, readNumber, readSize, signed, readMeasure}
+use Rattle.list_line.specs.InOrder.Read.{found, none}
+use Rattle.list_line.proofs.InOrder.{number-ends, number-short, number-long, number-strays, number-goes-on}
 use Rattle.list_line.proofs.Behind.{followed-found, size-found, after-minus, without-minus}
 
 -- what is read is one thing

@@ -20,9 +20,9 @@ use Rattle.list_rules.specs.Lines.{comma, semicolon, ListLine, isItemLine, item
 use Rattle.list_rules.specs.Lines.ListLine.{anItem, malformed}
 use Rattle.list_line.specs.declared.LineRead.{LineRead}
 use Rattle.list_line.specs.Places.{Behind, LineAt}
-use Rattle.list_line.specs.InTurn.{Read, Item, readNumber, readMeasure, readLine}
-use Rattle.list_line.specs.InTurn.Read.{found, none}
-use Rattle.list_line.proofs.Behind.{line-found, item-told, none-told}
+use Rattle.list_line.specs.InOrder.{Read, Item, readNumber, readMeasure, readLine}
+use Rattle.list_line.specs.InOrder.Read.{found, none}
+use Rattle.list_line.proofs.Behind.{line-found, item-known, none-known}
 use Rattle.list_line.proofs.Forms.{read-once, both, plain-free, digits-free, number-reads, measure-reads, numeral-form, Digits, number-form, Measured, measure-form}
 
 semicolon-no-digit : isDigit 10 semicolon ≡ false
@@ -221,11 +221,11 @@ line-broken text l h = by (parted lineFeed text) refl
     by (p ∷ q ∷ qs) e = first (isItemLine p) p q qs refl e
 
 -- what the code found at a place, as lines of the grammar
-module _ (list : List ℕ) (at : ℕ) (line : LineRead) (told : LineAt list at (readLine (drop at list)) line) where
+module _ (list : List ℕ) (at : ℕ) (line : LineRead) (known : LineAt list at (readLine (drop at list)) line) where
   pub item-here : line .item ≡ true → (linesOf (drop at list) ≡ anItem (line .tag) (line .profile) ∷ linesOf (drop (line .next) list)) × Behind list at (line .next)
   item-here e =
-      let r = item-told list at (readLine (drop at list)) line told e in
+      let r = item-known list at (readLine (drop at list)) line known e in
       (line-read (drop at list) (r .0), r .1)
 
   pub broken-here : line .item ≡ false → at < length list → Broken (drop at list)
-  broken-here e l = line-broken (drop at list) (omega (arith, length-drop at list)) (none-told list at (readLine (drop at list)) line told e)
+  broken-here e l = line-broken (drop at list) (omega (arith, length-drop at list)) (none-known list at (readLine (drop at list)) line known e)

@@ -7,9 +7,9 @@ use native.Mathlib.Omega.{arith}
 use native.Mathlib.Nat.{pow-succ', pow-le-pow-right, mul-le-mul-left, mul-left-comm}
 use lib.ListN.{length, getD, drop}
 use Rattle.text_rules.specs.Text.{digitOf, isDigit}
-use Rattle.list_line.specs.InTurn.{Read, readNumber}
-use Rattle.list_line.specs.InTurn.Read.{found, none}
-use Rattle.list_line.proofs.InTurn.{number-ends, number-short, number-long, number-strays, number-goes-on, from-place, number-over}
+use Rattle.list_line.specs.InOrder.{Read, readNumber}
+use Rattle.list_line.specs.InOrder.Read.{found, none}
+use Rattle.list_line.proofs.InOrder.{number-ends, number-short, number-long, number-strays, number-goes-on, from-place, number-over}
 
 pub record Halfway (list : List ℕ) (at least most n mark value i : ℕ) : Type 0 where
   pub begun : at ≤ i

@@ -1,4 +1,4 @@
-pub mod InTurn
+pub mod InOrder
 pub mod Halfway
 pub mod Behind
 pub mod Forms

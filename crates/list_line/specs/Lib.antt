@@ -1,2 +1,2 @@
-pub mod InTurn
+pub mod InOrder
 pub mod Places

@@ -10,8 +10,8 @@ use Rattle.list_line.specs.declared.NumberRead.the-variants.{Number, NoN
 use Rattle.list_line.specs.declared.MeasureRead.{MeasureRead}
 use Rattle.list_line.specs.declared.MeasureRead.the-variants.{Measure, NoMeasure}
 use Rattle.list_line.specs.declared.LineRead.{LineRead}
-use Rattle.list_line.specs.InTurn.{Read, Item, signed}
-use Rattle.list_line.specs.InTurn.Read.{found, none}
+use Rattle.list_line.specs.InOrder.{Read, Item, signed}
+use Rattle.list_line.specs.InOrder.Read.{found, none}
 
 -- a place behind another and not past the end
 pub record Behind (list : List ℕ) (at next : ℕ) : Type 0 where

@@ -4,7 +4,7 @@ ghost use mathlib.Core.Bool.{true, false};
 ghost use Prim.Native.Nat.{_+_, _*_, _≤_, _<_, _^_};
 ghost use lib.ListN.{drop};
 ghost use Rattle.text_rules.specs.Text.{digitOf, isDigit};
-ghost use Rattle.list_line.specs.InTurn.{readNumber, readSize, readMeasure, readLine};
+ghost use Rattle.list_line.specs.InOrder.{readNumber, readSize, readMeasure, readLine};
 ghost use Rattle.list_line.specs.Places.{NumberAt, MeasureAt, SizeFits, signedSize, LineAt};
 use metric_rules::Profile;
 

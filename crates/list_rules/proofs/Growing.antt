@@ -16,17 +16,17 @@ use Rattle.metric_rules.specs.declared.Profile.{Profile}
 use Rattle.metric_rules.specs.Row.{Row}
 use Rattle.tree_rules.specs.Layout.{cost}
 use Rattle.tree_rules.proofs.Cost.{cost-bound}
-use Rattle.bucket_rules.specs.declared.Added.{Added}
-use Rattle.bucket_rules.specs.Geometry.{room, bucketsOf}
-use Rattle.bucket_rules.specs.Table.{Table, orderOf, liveOf, liveTotal}
-use Rattle.bucket_rules.specs.Rebuild.{rebuilt}
-use Rattle.bucket_rules.specs.Add.{addRefusal, lowestEmpty, gathered, addBucket, addTarget, added, addReply, tableAfterAdd}
-use Rattle.bucket_rules.proofs.ByNumber.{all-count, count-all}
-use Rattle.bucket_rules.proofs.Views.{Only, same-order, kept-live}
-use Rattle.bucket_rules.proofs.Puts.{Holds, held-live}
-use Rattle.bucket_rules.proofs.Live.{Roomy, rebuilt-holds, rebuilt-only, rebuilt-empties}
-use Rattle.bucket_rules.proofs.Adding.{Target, not-in-use, vacant-live, lowest-within, lowest-empty, gathered-buckets, live-counted}
-use Rattle.bucket_rules.proofs.Fill.{room-most, Changeable, changeable, add-accepted, add-fits, passed-roomy}
+use Rattle.table_rules.specs.declared.Added.{Added}
+use Rattle.table_rules.specs.Geometry.{room, bucketsOf}
+use Rattle.table_rules.specs.Table.{Table, orderOf, liveOf, liveTotal}
+use Rattle.table_rules.specs.Rebuild.{rebuilt}
+use Rattle.table_rules.specs.Add.{addRefusal, lowestEmpty, gathered, addBucket, addTarget, added, addReply, tableAfterAdd}
+use Rattle.table_rules.proofs.ByNumber.{all-count, count-all}
+use Rattle.table_rules.proofs.Views.{Only, same-order, kept-live}
+use Rattle.table_rules.proofs.Puts.{Holds, held-live}
+use Rattle.table_rules.proofs.Live.{Roomy, rebuilt-holds, rebuilt-only, rebuilt-empties}
+use Rattle.table_rules.proofs.Adding.{Target, not-in-use, vacant-live, lowest-within, lowest-empty, gathered-buckets, live-counted}
+use Rattle.table_rules.proofs.Fill.{room-most, Changeable, changeable, add-accepted, add-fits, passed-roomy}
 
 module _ (f g : ℕ → ℕ) (k : ℕ) (below : (j : ℕ) → j < k → g j ≡ 0) where
   nothing-below : (n : ℕ) → n ≤ k → total (map g (countFrom 0 n)) ≡ 0
@@ -79,7 +79,7 @@ module _ (t : Table) (work : List Row) (tag : ℕ) (p : Profile) (accepted : add
   pub few-distances : addReply t work tag p .distances ≤ 49152
   unfolding addReply added rebuilt
   few-distances =
-      let told : addReply t work tag p .distances ≡ cost (length (gathered t tag p)) =
+      let known : addReply t work tag p .distances ≡ cost (length (gathered t tag p)) =
       ap
       (λ r.
       elim r as (λ x. Added) [
@@ -87,7 +87,7 @@ module _ (t : Table) (work : List Row) (tag : ℕ) (p : Profile) (accepted : add
         | suc n ↦ record { refusal = suc n; bucket = 0; distances = 0 }
       ] .distances)
       accepted in
-      omega (arith, told, cost-bound 12 (length (gathered t tag p)) few, few)
+      omega (arith, known, cost-bound 12 (length (gathered t tag p)) few, few)
 
   unfoldable now : Table
   now = added t tag p .table

@@ -3,8 +3,8 @@ use Prim.Native.Nat.{ℕ, zero, suc, _+_}
 use mathlib.Core.Bool.{true, false}
 use mathlib.Core.List.{List, [], _∷_}
 use Rattle.metric_rules.specs.Row.{Row}
-use Rattle.bucket_rules.specs.Table.{Table}
-use Rattle.bucket_rules.specs.Add.{addRefusal, addReply, tableAfterAdd, workAfterAdd}
+use Rattle.table_rules.specs.Table.{Table}
+use Rattle.table_rules.specs.Add.{addRefusal, addReply, tableAfterAdd, workAfterAdd}
 use Rattle.list_rules.specs.declared.ListRead.{ListRead}
 use Rattle.list_rules.specs.Lines.{ListLine, hasHeader, itemLines}
 use Rattle.list_rules.specs.Lines.ListLine.{anItem, malformed}

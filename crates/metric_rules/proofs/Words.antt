@@ -44,13 +44,13 @@ pub word-below : (n : ℕ) → 2 ^ 31 ≤ n → n < 2 ^ 32 → toZ w64 n -ℤ po
 word-below n l h = rw (lt-ltb n (2 ^ 63) (omega arith), le-ltb n (2 ^ 31) l, lt-ltb n (2 ^ 32) h)
 
 -- a signed number that is more by 2^32 is unsigned, and its lowest 32 bits are the number's word
-pub turn-sum : (z : ℤ) → SFits w32 z → z +ℤ pos (2 ^ 32) ≡ pos (lifted (2 ^ 32) z)
-turn-sum z s = lifted-sum (2 ^ 32) z (omega (arith, signed-size z s))
+pub lift-sum : (z : ℤ) → SFits w32 z → z +ℤ pos (2 ^ 32) ≡ pos (lifted (2 ^ 32) z)
+lift-sum z s = lifted-sum (2 ^ 32) z (omega (arith, signed-size z s))
 
-pub turn-fits : (z : ℤ) → SFits w32 z → lifted (2 ^ 32) z < 2 ^ 63
-turn-fits (pos n) s = omega (arith, s .sfits)
-turn-fits (negsuc n) s = omega (arith, s .sfits)
+pub lift-fits : (z : ℤ) → SFits w32 z → lifted (2 ^ 32) z < 2 ^ 63
+lift-fits (pos n) s = omega (arith, s .sfits)
+lift-fits (negsuc n) s = omega (arith, s .sfits)
 
-pub turn-word : (z : ℤ) → SFits w32 z → lifted (2 ^ 32) z % 2 ^ 32 ≡ ofZ w32 z
-turn-word (pos n) s = omega (arith, s .sfits)
-turn-word (negsuc n) s = omega (arith, s .sfits)
+pub lift-word : (z : ℤ) → SFits w32 z → lifted (2 ^ 32) z % 2 ^ 32 ≡ ofZ w32 z
+lift-word (pos n) s = omega (arith, s .sfits)
+lift-word (negsuc n) s = omega (arith, s .sfits)

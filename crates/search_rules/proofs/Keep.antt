@@ -13,7 +13,7 @@ use Rattle.lists.proofs.Lists.{all-weaken, all-always, all-append, all-take, al
 use Rattle.tree_rules.specs.Sorting.{keyLe, insertBy, sortBy}
 use Rattle.search_rules.specs.Range.{Entry, entry, entryDistance, entryKey, ordered, Pair}
 use Rattle.search_rules.specs.Nearest.{keep, worst}
-use Rattle.tree_rules.proofs.Sorting.{NotAfter, Sorted, Told, sort-perm, sort-length, sort-sorted, sort-of-sorted, sort-permuted, key-le-cases, insert-behind}
+use Rattle.tree_rules.proofs.Sorting.{NotAfter, Sorted, Determined, sort-perm, sort-length, sort-sorted, sort-of-sorted, sort-permuted, key-le-cases, insert-behind}
 
 pair-form : (e : Entry) → Pair e → e ≡ entry (getD e 0 0) (entryDistance e)
 unfolding entry entryDistance
@@ -23,9 +23,9 @@ pair-form (a ∷ b ∷ []) h = refl
 pair-form (a ∷ b ∷ c ∷ e) h = absurd (omega arith)
 
 -- two entries with the same key are the same
-pub pairs-told : (x y : Entry) → Pair x → Pair y → Told entryKey x y
+pub pairs-determined : (x y : Entry) → Pair x → Pair y → Determined entryKey x y
 unfolding entryKey
-pairs-told x y p q same =
+pairs-determined x y p q same =
     pair-form x p ∙ ap₂ entry (ap (λ (k : List ℕ). getD k 1 0) same) (ap (λ (k : List ℕ). getD k 0 0) same) ∙ sym (pair-form y q)
 
 module _ {A : Type 0} (key : A → List ℕ) where
@@ -50,7 +50,7 @@ module _ {A : Type 0} (key : A → List ℕ) where
 -- the order of the list does not matter
 pub keep-permuted : (k : ℕ) {xs ys : List Entry} → List·Permᴰ xs ys → All Pair xs → keep k xs ≡ keep k ys
 unfolding keep ordered
-keep-permuted k {xs} p h = ap (take k) (sort-permuted entryKey p (pairs-of-all pairs-told xs h))
+keep-permuted k {xs} p h = ap (take k) (sort-permuted entryKey p (pairs-of-all pairs-determined xs h))
 
 -- one more entry is put among those kept, and what is then past k is dropped
 pub keep-cons : (k : ℕ) (e : Entry) (es : List Entry) → keep k (e ∷ es) ≡ take k (insertBy entryKey e (keep k es))

@@ -17,7 +17,7 @@ use Rattle.metric_rules.specs.Distance.{Metric}
 use Rattle.tree_rules.specs.Layout.{leftSize}
 use Rattle.tree_rules.specs.Guided.{fromSlot, GuidedWithin, Guided}
 use Rattle.search_rules.specs.Range.{Entry, entry, entryDistance, toQuery, entryOf, entersLeft, entersRight, Pair}
-use Rattle.search_rules.specs.Nearest.{keep, Tally, worst, opens, taken, turn, halvesInTurn, nearestWithin, nearestTree}
+use Rattle.search_rules.specs.Nearest.{keep, Tally, worst, opens, taken, enterHalf, enterHalves, nearestWithin, nearestTree}
 use Rattle.search_rules.proofs.Selecting.{select-append}
 use Rattle.search_rules.proofs.Pruning.{left-out, right-out}
 use Rattle.search_rules.proofs.Keep.{Kept, keep-length, keep-kept, keep-of-kept, keep-permuted, keep-absorbs, keep-drops, append-swap}
@@ -25,8 +25,8 @@ use Rattle.search_rules.proofs.Keep.{Kept, keep-length, keep-kept, keep
 module _ (dist : Profile → Profile → ℕ) (query : Profile) (reports : Row → Bool) (k : ℕ) where
   -- the first slot, and its halves in turn
   unfoldable pub nearestStep : Row → (Tally → Tally) → (Tally → Tally) → Tally → Tally
-  unfolding taken halvesInTurn toQuery thresholdOf
-  nearestStep s left right t = halvesInTurn dist query reports k (toQuery dist query s) (thresholdOf s) left right (taken dist query reports k t s)
+  unfolding taken enterHalves toQuery thresholdOf
+  nearestStep s left right t = enterHalves dist query reports k (toQuery dist query s) (thresholdOf s) left right (taken dist query reports k t s)
 
   pub nearest-depth-enough : (n m : ℕ) (slots : List Row) → length slots ≤ n → length slots ≤ m → (t : Tally) → nearestWithin dist query reports k n t slots ≡ nearestWithin dist query reports k m t slots
   unfolding nearestWithin nearestStep
@@ -75,9 +75,9 @@ module _ (dist : Profile → Profile → ℕ) (query : Profile) (reports : Row �
         all = λ few. omega (arith, p .all (omega arith), q .all (omega (arith, p .size)), p .size);
       }
 
-  pub counted-turn : (enters : ℕ → Bool) (search : Tally → Tally) (t : Tally) (live n : ℕ) → length (t .kept) ≤ k → Counted t (search t) live n → Counted t (turn dist query reports k enters search t) live n
-  unfolding turn opens
-  counted-turn enters search t live n few h = go (ltb (length (t .kept)) k) refl (enters (worst (t .kept)))
+  pub counted-half : (enters : ℕ → Bool) (search : Tally → Tally) (t : Tally) (live n : ℕ) → length (t .kept) ≤ k → Counted t (search t) live n → Counted t (enterHalf dist query reports k enters search t) live n
+  unfolding enterHalf opens
+  counted-half enters search t live n few h = go (ltb (length (t .kept)) k) refl (enters (worst (t .kept)))
     where
       go : (a : Bool) → ltb (length (t .kept)) k ≡ a → (b : Bool) → Counted t (elim (a || b) [ true ↦ search t | false ↦ t ]) live n
       go true e b = h
@@ -127,17 +127,17 @@ module _ (dist : Profile → Profile → ℕ) (query : Profile) (reports : Row �
   counted-halves : (d m : ℕ) (left right : Tally → Tally) (t : Tally) (a b x y : ℕ) → length (t .kept) ≤ k
       → ((u : Tally) → length (u .kept) ≤ k → Counted u (left u) a x)
       → ((u : Tally) → length (u .kept) ≤ k → Counted u (right u) b y)
-      → Counted t (halvesInTurn dist query reports k d m left right t) (a + b) (x + y)
-  unfolding halvesInTurn
+      → Counted t (enterHalves dist query reports k d m left right t) (a + b) (x + y)
+  unfolding enterHalves
   counted-halves d m left right t a b x y few hl hr = go (leb d m)
     where
-      go : (c : Bool) → Counted t (elim c [ true ↦ turn dist query reports k (entersRight d m) right (turn dist query reports k (entersLeft d m) left t) | false ↦ turn dist query reports k (entersLeft d m) left (turn dist query reports k (entersRight d m) right t) ]) (a + b) (x + y)
+      go : (c : Bool) → Counted t (elim c [ true ↦ enterHalf dist query reports k (entersRight d m) right (enterHalf dist query reports k (entersLeft d m) left t) | false ↦ enterHalf dist query reports k (entersLeft d m) left (enterHalf dist query reports k (entersRight d m) right t) ]) (a + b) (x + y)
       go true =
-          let u = counted-turn (entersLeft d m) left t a x few (hl t few) in
-          counted-then u (counted-turn (entersRight d m) right _ b y (size-few u) (hr _ (size-few u)))
+          let u = counted-half (entersLeft d m) left t a x few (hl t few) in
+          counted-then u (counted-half (entersRight d m) right _ b y (size-few u) (hr _ (size-few u)))
       go false =
-          let u = counted-turn (entersRight d m) right t b y few (hr t few) in
-          let r = counted-then u (counted-turn (entersLeft d m) left _ a x (size-few u) (hl _ (size-few u))) in
+          let u = counted-half (entersRight d m) right t b y few (hr t few) in
+          let r = counted-then u (counted-half (entersLeft d m) left _ a x (size-few u) (hl _ (size-few u))) in
           recounted (add-comm b a) (add-comm y x) r
 
   counted-within : (n : ℕ) (slots : List Row) (t : Tally) → length slots ≤ n → length (t .kept) ≤ k → Counted t (nearestWithin dist query reports k n t slots) (lives slots) (length slots)
@@ -204,12 +204,12 @@ module _ (dist : Profile → Profile → ℕ) (query : Profile) (reports : Row �
       go false = sym (keep-of-kept k (t .kept) h) ∙ ap (keep k) (sym (append-nil (t .kept)))
 
   -- a half's turn: entered or not, what is then kept is as if it had been searched whole
-  turn-kept : (enters : ℕ → Bool) (search : Tally → Tally) (t : Tally) (half : List Row) → Kept k (t .kept)
+  enter-half-kept : (enters : ℕ → Bool) (search : Tally → Tally) (t : Tally) (half : List Row) → Kept k (t .kept)
       → search t .kept ≡ keep k (t .kept ++ liveEntries half)
       → (enters (worst (t .kept)) ≡ false → All (λ x. worst (t .kept) < toQuery dist query x) half)
-      → turn dist query reports k enters search t .kept ≡ keep k (t .kept ++ liveEntries half)
-  unfolding turn opens
-  turn-kept enters search t half h found out = go (ltb (length (t .kept)) k) refl (enters (worst (t .kept))) refl
+      → enterHalf dist query reports k enters search t .kept ≡ keep k (t .kept ++ liveEntries half)
+  unfolding enterHalf opens
+  enter-half-kept enters search t half h found out = go (ltb (length (t .kept)) k) refl (enters (worst (t .kept))) refl
     where
       go :
           (a : Bool) → ltb (length (t .kept)) k ≡ a → (b : Bool) → enters (worst (t .kept)) ≡ b
@@ -219,10 +219,10 @@ module _ (dist : Profile → Profile → ℕ) (query : Profile) (reports : Row �
       go false e false f = sym (keep-drops k (t .kept) h (ltb-false _ _ e) (liveEntries half) (entries-pairs (select reports half)) (far-entries _ half (out f)))
 
   -- two turns, the one after the other
-  turns-kept : (t u : Tally) (r : List Entry) (first second : List Row) → Kept k (t .kept)
+  enter-halves-kept : (t u : Tally) (r : List Entry) (first second : List Row) → Kept k (t .kept)
       → u .kept ≡ keep k (t .kept ++ liveEntries first) → r ≡ keep k (u .kept ++ liveEntries second)
       → r ≡ keep k (t .kept ++ (liveEntries first ++ liveEntries second))
-  turns-kept t u r first second h e f =
+  enter-halves-kept t u r first second h e f =
       f
       ∙ ap (λ (l : List Entry). keep k (l ++ liveEntries second)) e
       ∙ keep-absorbs k (t .kept ++ liveEntries first) (liveEntries second)
@@ -241,27 +241,27 @@ module _ (dist : Profile → Profile → ℕ) (query : Profile) (reports : Row �
         → All (λ x. fromSlot dist s x ≤ thresholdOf s) near → All (λ x. thresholdOf s ≤ fromSlot dist s x) far
         → ((u : Tally) → Kept k (u .kept) → left u .kept ≡ keep k (u .kept ++ liveEntries near))
         → ((u : Tally) → Kept k (u .kept) → right u .kept ≡ keep k (u .kept ++ liveEntries far))
-        → halvesInTurn dist query reports k (toQuery dist query s) (thresholdOf s) left right t .kept ≡ keep k (t .kept ++ (liveEntries near ++ liveEntries far))
-    unfolding halvesInTurn
+        → enterHalves dist query reports k (toQuery dist query s) (thresholdOf s) left right t .kept ≡ keep k (t .kept ++ (liveEntries near ++ liveEntries far))
+    unfolding enterHalves
     halves-kept s left right near far t h hn hf fl fr = go (leb (toQuery dist query s) (thresholdOf s))
       where
-        goL : (u : Tally) → Kept k (u .kept) → turn dist query reports k (leftTest s) left u .kept ≡ keep k (u .kept ++ liveEntries near)
-        goL u g = turn-kept (leftTest s) left u near g (fl u g) (λ out. all-weaken (left-out dist laws query (worst (u .kept)) s out) near hn)
+        goL : (u : Tally) → Kept k (u .kept) → enterHalf dist query reports k (leftTest s) left u .kept ≡ keep k (u .kept ++ liveEntries near)
+        goL u g = enter-half-kept (leftTest s) left u near g (fl u g) (λ out. all-weaken (left-out dist laws query (worst (u .kept)) s out) near hn)
 
-        goR : (u : Tally) → Kept k (u .kept) → turn dist query reports k (rightTest s) right u .kept ≡ keep k (u .kept ++ liveEntries far)
-        goR u g = turn-kept (rightTest s) right u far g (fr u g) (λ out. all-weaken (right-out dist laws query (worst (u .kept)) s out) far hf)
+        goR : (u : Tally) → Kept k (u .kept) → enterHalf dist query reports k (rightTest s) right u .kept ≡ keep k (u .kept ++ liveEntries far)
+        goR u g = enter-half-kept (rightTest s) right u far g (fr u g) (λ out. all-weaken (right-out dist laws query (worst (u .kept)) s out) far hf)
 
         after : (u : Tally) (half : List Row) → u .kept ≡ keep k (t .kept ++ liveEntries half) → Kept k (u .kept)
         after u half e =
             kept-as u (t .kept ++ liveEntries half) (all-append Pair (t .kept) (liveEntries half) (h .pairs) (entries-pairs (select reports half))) e
 
-        go : (c : Bool) → (elim c as (λ _. Tally) [ true ↦ turn dist query reports k (rightTest s) right (turn dist query reports k (leftTest s) left t) | false ↦ turn dist query reports k (leftTest s) left (turn dist query reports k (rightTest s) right t) ]) .kept ≡ keep k (t .kept ++ (liveEntries near ++ liveEntries far))
+        go : (c : Bool) → (elim c as (λ _. Tally) [ true ↦ enterHalf dist query reports k (rightTest s) right (enterHalf dist query reports k (leftTest s) left t) | false ↦ enterHalf dist query reports k (leftTest s) left (enterHalf dist query reports k (rightTest s) right t) ]) .kept ≡ keep k (t .kept ++ (liveEntries near ++ liveEntries far))
         go true =
-            let u = turn dist query reports k (leftTest s) left t in
-            turns-kept t u _ near far h (goL t h) (goR u (after u near (goL t h)))
+            let u = enterHalf dist query reports k (leftTest s) left t in
+            enter-halves-kept t u _ near far h (goL t h) (goR u (after u near (goL t h)))
         go false =
-            let u = turn dist query reports k (rightTest s) right t in
-            turns-kept t u _ far near h (goR t h) (goL u (after u far (goR t h)))
+            let u = enterHalf dist query reports k (rightTest s) right t in
+            enter-halves-kept t u _ far near h (goR t h) (goL u (after u far (goR t h)))
             ∙ keep-permuted k (Permᴰ·append-left (t .kept) (append-swap (liveEntries far) (liveEntries near)))
             (all-append Pair (t .kept) _ (h .pairs) (all-append Pair (liveEntries far) (liveEntries near) (entries-pairs (select reports far)) (entries-pairs (select reports near))))
 

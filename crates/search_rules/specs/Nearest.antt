@@ -38,27 +38,27 @@ module _ (dist : Profile → Profile → ℕ) (query : Profile) (reports : Row �
       record { kept = elim (reports row) [ true ↦ keep k (entryOf dist query row ∷ t .kept) | false ↦ t .kept ]; count = suc (t .count) }
 
   -- a half whose turn has come: its test is made on what is kept by then
-  unfoldable pub turn : (ℕ → Bool) → (Tally → Tally) → Tally → Tally
+  unfoldable pub enterHalf : (ℕ → Bool) → (Tally → Tally) → Tally → Tally
   unfolding opens
-  turn enters search t = elim (opens k enters (t .kept)) [ true ↦ search t | false ↦ t ]
+  enterHalf enters search t = elim (opens k enters (t .kept)) [ true ↦ search t | false ↦ t ]
 
   -- the half on the query's side goes first: left if d ≤ m
-  unfoldable pub halvesInTurn : ℕ → ℕ → (Tally → Tally) → (Tally → Tally) → Tally → Tally
-  unfolding turn entersLeft entersRight
-  halvesInTurn d m left right t =
+  unfoldable pub enterHalves : ℕ → ℕ → (Tally → Tally) → (Tally → Tally) → Tally → Tally
+  unfolding enterHalf entersLeft entersRight
+  enterHalves d m left right t =
       elim (leb d m) [
-        | true ↦ turn (entersRight d m) right (turn (entersLeft d m) left t)
-        | false ↦ turn (entersLeft d m) left (turn (entersRight d m) right t)
+        | true ↦ enterHalf (entersRight d m) right (enterHalf (entersLeft d m) left t)
+        | false ↦ enterHalf (entersLeft d m) left (enterHalf (entersRight d m) right t)
       ]
 
   -- the first slot, taken in before its halves are tested, and then its halves. The first argument bounds the depth, and the number of slots is enough
   unfoldable pub nearestWithin : ℕ → Tally → List Row → Tally
-  unfolding taken halvesInTurn toQuery thresholdOf leftSize
+  unfolding taken enterHalves toQuery thresholdOf leftSize
   nearestWithin zero t slots = t
   nearestWithin (suc depth) t [] = t
   nearestWithin (suc depth) t (s ∷ rest) =
       let l = leftSize (suc (length rest)) in
-      halvesInTurn (toQuery dist query s) (thresholdOf s)
+      enterHalves (toQuery dist query s) (thresholdOf s)
       (λ u. nearestWithin depth u (take l rest))
       (λ u. nearestWithin depth u (drop l rest))
       (taken t s)

@@ -9,24 +9,24 @@ use mathlib.Core.List.{[], _∷_}
 use lib.Dec.{leb}
 use lib.ListN.{length}
 use Rattle.metric_rules.specs.Distance.{validSpace}
-use Rattle.bucket_rules.specs.Refusals.{areaShort, tableBroken}
-use Rattle.bucket_rules.specs.Geometry.{validOrder, sizesRow, tableRows}
-use Rattle.bucket_rules.specs.Table.{Table, orderOf, tableSpace, builtOf, liveOf}
-use Rattle.bucket_rules.specs.Checks.{sizesPass, tableRefusal}
-use Rattle.bucket_rules.specs.Passed.{Framed}
-use Rattle.bucket_rules.proofs.Buckets.{order-most}
-use Rattle.bucket_rules.proofs.Passing.{sizes-inside, stopBy, table-stop, none-stop}
+use Rattle.table_rules.specs.Refusals.{shortArea, badTable}
+use Rattle.table_rules.specs.Geometry.{validOrder, sizesRow, tableRows}
+use Rattle.table_rules.specs.Table.{Table, orderOf, tableSpace, builtOf, liveOf}
+use Rattle.table_rules.specs.Checks.{sizesPass, tableRefusal}
+use Rattle.table_rules.specs.Passed.{Framed}
+use Rattle.table_rules.proofs.Buckets.{order-most}
+use Rattle.table_rules.proofs.Passing.{sizes-inside, stopBy, table-stop, none-stop}
 use Rattle.table_checks.specs.Frame.{frameRefusal}
 
 frameBy : Bool → Bool → Bool → ℕ
-frameBy order space long = elim (order && space) [ false ↦ tableBroken | true ↦ elim long [ false ↦ areaShort | true ↦ 0 ] ]
+frameBy order space long = elim (order && space) [ false ↦ badTable | true ↦ elim long [ false ↦ shortArea | true ↦ 0 ] ]
 
 frame-tests : (t : Table) → 0 < length t → frameRefusal t ≡ frameBy (validOrder (orderOf t)) (validSpace (tableSpace t)) (leb (tableRows (orderOf t)) (length t))
 unfolding frameRefusal frameBy
 frame-tests [] h = absurd (omega arith)
 frame-tests (r ∷ rs) h = refl
 
-pub no-rows : (t : Table) → length t ≡ 0 → frameRefusal t ≡ areaShort
+pub no-rows : (t : Table) → length t ≡ 0 → frameRefusal t ≡ shortArea
 unfolding frameRefusal
 no-rows [] e = refl
 no-rows (r ∷ rs) e = absurd (omega arith)
@@ -35,19 +35,19 @@ module _ (t : Table) (some : 0 < length t) where
   frame-when : (o s l : Bool) → validOrder (orderOf t) ≡ o → validSpace (tableSpace t) ≡ s → leb (tableRows (orderOf t)) (length t) ≡ l → frameRefusal t ≡ frameBy o s l
   frame-when o s l e f g = frame-tests t some ∙ (rw (e, f, g))
 
-  no-space : (o l : Bool) → frameBy o false l ≡ tableBroken
+  no-space : (o l : Bool) → frameBy o false l ≡ badTable
   unfolding frameBy
   no-space true l = refl
   no-space false l = refl
 
-  pub space-breaks : validSpace (tableSpace t) ≡ false → frameRefusal t ≡ tableBroken
+  pub space-breaks : validSpace (tableSpace t) ≡ false → frameRefusal t ≡ badTable
   space-breaks e = frame-when _ false _ refl e refl ∙ no-space (validOrder (orderOf t)) (leb (tableRows (orderOf t)) (length t))
 
-  pub order-breaks : validOrder (orderOf t) ≡ false → frameRefusal t ≡ tableBroken
+  pub order-breaks : validOrder (orderOf t) ≡ false → frameRefusal t ≡ badTable
   unfolding frameBy
   order-breaks e = frame-when false _ _ e refl refl
 
-  pub too-short : validOrder (orderOf t) ≡ true → validSpace (tableSpace t) ≡ true → leb (tableRows (orderOf t)) (length t) ≡ false → frameRefusal t ≡ areaShort
+  pub too-short : validOrder (orderOf t) ≡ true → validSpace (tableSpace t) ≡ true → leb (tableRows (orderOf t)) (length t) ≡ false → frameRefusal t ≡ shortArea
   unfolding frameBy
   too-short e f g = frame-when true true false e f g
 
@@ -64,7 +64,7 @@ frame-cases true true false e = absurd (omega arith)
 frame-cases true true true e = (refl, refl, refl)
 
 pub some-rows : (t : Table) → frameRefusal t ≡ 0 → 0 < length t
-some-rows t e = elim (decLe 1 (length t)) [ yes h ↦ h | no d ↦ (let z : areaShort ≡ 0 = sym (no-rows t (omega arith)) ∙ e in absurd (omega arith)) ]
+some-rows t e = elim (decLe 1 (length t)) [ yes h ↦ h | no d ↦ (let z : shortArea ≡ 0 = sym (no-rows t (omega arith)) ∙ e in absurd (omega arith)) ]
 
 pub framed : (t : Table) → frameRefusal t ≡ 0 → Framed t
 framed t e =
@@ -106,15 +106,15 @@ module _ (roomy sound : Table → Bool) (t : Table) where
       let q = frame-cases _ _ _ (sym (frame-tests t (some-rows t e)) ∙ e) in
       table-stop roomy sound t (some-rows t e) ∙ (rw (q .0, q .1, q .2, ea, eb, ed))
 
-  pub area-stops : frameRefusal t ≡ 0 → roomy t ≡ false → tableRefusal roomy sound t ≡ areaShort
+  pub area-stops : frameRefusal t ≡ 0 → roomy t ≡ false → tableRefusal roomy sound t ≡ shortArea
   unfolding stopBy
   area-stops e ea = behind-when false _ _ e ea refl refl
 
-  pub sizes-stop : frameRefusal t ≡ 0 → roomy t ≡ true → sizesPass (orderOf t) (builtOf t) (liveOf t) ≡ false → tableRefusal roomy sound t ≡ tableBroken
+  pub sizes-stop : frameRefusal t ≡ 0 → roomy t ≡ true → sizesPass (orderOf t) (builtOf t) (liveOf t) ≡ false → tableRefusal roomy sound t ≡ badTable
   unfolding stopBy
   sizes-stop e ea eb = behind-when true false _ e ea eb refl
 
   pub sound-decides : (b : Bool) → frameRefusal t ≡ 0 → roomy t ≡ true → sizesPass (orderOf t) (builtOf t) (liveOf t) ≡ true → sound t ≡ b
-      → tableRefusal roomy sound t ≡ elim b [ true ↦ 0 | false ↦ tableBroken ]
+      → tableRefusal roomy sound t ≡ elim b [ true ↦ 0 | false ↦ badTable ]
   unfolding stopBy
   sound-decides b e ea eb ed = behind-when true true b e ea eb ed

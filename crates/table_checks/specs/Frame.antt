@@ -7,17 +7,17 @@ use lib.Dec.{leb, eqb}
 use Rattle.lists.specs.Lists.{every, select}
 use Rattle.metric_rules.specs.Row.{Row, markOf, isLive}
 use Rattle.metric_rules.specs.Distance.{validSpace}
-use Rattle.bucket_rules.specs.Refusals.{areaShort, tableBroken}
-use Rattle.bucket_rules.specs.Geometry.{validOrder, tableRows}
-use Rattle.bucket_rules.specs.Table.{Table, orderOf, tableSpace}
+use Rattle.table_rules.specs.Refusals.{shortArea, badTable}
+use Rattle.table_rules.specs.Geometry.{validOrder, tableRows}
+use Rattle.table_rules.specs.Table.{Table, orderOf, tableSpace}
 
 unfoldable pub frameRefusal : Table → ℕ
-frameRefusal [] = areaShort
+frameRefusal [] = shortArea
 frameRefusal (r ∷ rs) =
     let t = r ∷ rs in
     elim (validOrder (orderOf t) && validSpace (tableSpace t)) [
-      | false ↦ tableBroken
-      | true ↦ elim (leb (tableRows (orderOf t)) (length t)) [ false ↦ areaShort | true ↦ 0 ]
+      | false ↦ badTable
+      | true ↦ elim (leb (tableRows (orderOf t)) (length t)) [ false ↦ shortArea | true ↦ 0 ]
     ]
 
 -- `marksPass` in one bucket

@@ -5,25 +5,25 @@ ghost use Prim.Native.Nat.{_<_};
 ghost use lib.Dec.{leb};
 ghost use lib.ListN.{length};
 ghost use Rattle.lists.specs.Lists.{every};
-ghost use Rattle.bucket_rules.specs.Geometry.{bucketsOf, sizesRow, workRows};
-ghost use Rattle.bucket_rules.specs.Table.{orderOf, builtOf, liveOf};
-ghost use Rattle.bucket_rules.specs.Checks.{sizePasses, sizesPass, marksPass, tableRefusal, readRefusal};
-ghost use Rattle.bucket_rules.specs.Passed.{Passed};
+ghost use Rattle.table_rules.specs.Geometry.{bucketsOf, sizesRow, workRows};
+ghost use Rattle.table_rules.specs.Table.{orderOf, builtOf, liveOf};
+ghost use Rattle.table_rules.specs.Checks.{sizePasses, sizesPass, marksPass, tableRefusal, readRefusal};
+ghost use Rattle.table_rules.specs.Passed.{Passed};
 ghost use Rattle.table_checks.specs.Frame.{frameRefusal, slotsMarked};
-use bucket_rules::AREA_SHORT;
-use bucket_rules::TABLE_BROKEN;
 use metric_rules::Row;
-use order::Order;
-use order::Ordered;
 use rows::mark_of;
-use table::HEADER_ROW;
-use table::built_of;
-use table::live_of;
-use table::live_total;
-use table::order_in;
-use table::order_of;
-use table::slots_of;
-use table::valid_space;
+use table_order::Order;
+use table_order::Ordered;
+use table_rules::BAD_TABLE;
+use table_rules::SHORT_AREA;
+use table_views::HEADER_ROW;
+use table_views::built_of;
+use table_views::live_of;
+use table_views::live_total;
+use table_views::order_in;
+use table_views::order_of;
+use table_views::slots_of;
+use table_views::valid_space;
 
 // A bucket's sizes are words of any value, and four times a word fits 64 bits.
 pub fn size_passes(k: u32, built: u32, live: u32) -> bool
@@ -98,16 +98,16 @@ fn frame_refusal(table: &[Row]) -> u32
     ensures { λ r. ⌜ r ≡ frameRefusal (now (table .entry)) ⌝ }
 {
     if table.len() == 0 {
-        return AREA_SHORT;
+        return SHORT_AREA;
     }
     if !valid_space(table[HEADER_ROW]) {
-        return TABLE_BROKEN;
+        return BAD_TABLE;
     }
     match Order::new(order_of(table)) {
-        Ordered::TooLarge => TABLE_BROKEN,
+        Ordered::TooLarge => BAD_TABLE,
         Ordered::Is(order) => {
             if table.len() < order.table_rows() {
-                AREA_SHORT
+                SHORT_AREA
             } else {
                 0
             }
@@ -124,7 +124,7 @@ pub fn read_refusal(table: &[Row]) -> u32
         return refusal;
     }
     if !sizes_pass(table, order_in(table)) {
-        return TABLE_BROKEN;
+        return BAD_TABLE;
     }
     0
 }
@@ -139,13 +139,13 @@ pub fn change_refusal(table: &[Row], rows: usize) -> u32
     }
     let order = order_in(table);
     if rows < order.work_rows() {
-        return AREA_SHORT;
+        return SHORT_AREA;
     }
     if !sizes_pass(table, order) {
-        return TABLE_BROKEN;
+        return BAD_TABLE;
     }
     if !marks_pass(table, order) {
-        return TABLE_BROKEN;
+        return BAD_TABLE;
     }
     0
 }

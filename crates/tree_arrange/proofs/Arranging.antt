@@ -16,8 +16,8 @@ use Rattle.metric_rules.proofs.Codec.{threshold-with-threshold, tag-with-thresh
 use Rattle.tree_rules.specs.Sorting.{sortBy}
 use Rattle.tree_rules.specs.Layout.{leftSize, Ranked, rankedFrom, tagKey, placed, fromPivot, nearKey, lastDistance, split, node, layout}
 use Rattle.tree_rules.specs.Guided.{fromSlot, Whole}
-use Rattle.working_rows.specs.Working.{workKey, firstKey, rankedOf, ranksWritten, RanksApart, measuredFrom, sortedFrom, arranged, lastMeasured}
-use Rattle.tree_rules.proofs.Sorting.{NotAfter, Told, sort-cons, sort-perm, sort-length, sort-permuted, insert-first, sort-map}
+use Rattle.tree_rows.specs.Working.{workKey, firstKey, rankedOf, ranksWritten, RanksApart, measuredFrom, sortedFrom, arranged, lastMeasured}
+use Rattle.tree_rules.proofs.Sorting.{NotAfter, Determined, sort-cons, sort-perm, sort-length, sort-permuted, insert-first, sort-map}
 use Rattle.tree_rules.proofs.Placed.{placed-with-threshold, placed-with-mark}
 use Rattle.tree_rules.proofs.Layouts.{stripped, layoutOf, layout-ranked, layout-node, layout-stripped}
 
@@ -32,13 +32,13 @@ pub pairs-ranks : (rows : List Row) → Pairs Apart rows → RanksApart rows
 pairs-ranks [] h = tt
 pairs-ranks (r ∷ rs) h = (h .0, pairs-ranks rs (h .1))
 
-told-first : (r s : Row) → Apart r s → Told firstKey r s
+determined-first : (r s : Row) → Apart r s → Determined firstKey r s
 unfolding firstKey
-told-first r s n e = absurd (n (ap (λ (k : List ℕ). getD k 1 0) e))
+determined-first r s n e = absurd (n (ap (λ (k : List ℕ). getD k 1 0) e))
 
-told-work : (r s : Row) → Apart r s → Told workKey r s
+determined-work : (r s : Row) → Apart r s → Determined workKey r s
 unfolding workKey
-told-work r s n e = absurd (n (ap (λ (k : List ℕ). getD k 2 0) e))
+determined-work r s n e = absurd (n (ap (λ (k : List ℕ). getD k 2 0) e))
 
 apart-flip : (r s : Row) → Apart r s → Apart s r
 apart-flip r s n e = n (sym e)
@@ -59,14 +59,14 @@ module _ (dist : Profile → Profile → ℕ) where
   arranged-by v rest rows p least apart =
       let other : Pairs Apart (v ∷ rest) = pairs-perm Apart apart-flip (Permᴰ·symm p) (ranks-pairs rows apart) in
       ap (sortedFrom dist)
-      (sym (sort-permuted firstKey p (pairs-weaken told-first (v ∷ rest) other))
+      (sym (sort-permuted firstKey p (pairs-weaken determined-first (v ∷ rest) other))
       ∙ sort-cons firstKey v rest
       ∙ insert-first firstKey v (sortBy firstKey rest) (all-perm (NotAfter firstKey v) (Permᴰ·symm (sort-perm firstKey rest)) least))
       ∙ ap (λ (rs : List Row). v ∷ rs)
       (sym
       (sort-permuted workKey (perm-map (measuredFrom dist v) (Permᴰ·symm (sort-perm firstKey rest)))
-      (pairs-map (measuredFrom dist v) (Told workKey) rest
-      (pairs-weaken (λ r s n. told-work (measuredFrom dist v r) (measuredFrom dist v s) (measured-apart v r s n)) rest (other .1)))))
+      (pairs-map (measuredFrom dist v) (Determined workKey) rest
+      (pairs-weaken (λ r s n. determined-work (measuredFrom dist v r) (measuredFrom dist v s) (measured-apart v r s n)) rest (other .1)))))
 
   sorted-from-length : (s : List Row) → length (sortedFrom dist s) ≡ length s
   unfolding sortedFrom

@@ -8,12 +8,12 @@ ghost use lib.ListN.{length, getD, set};
 ghost use Rattle.lists.specs.Lists.{every};
 ghost use Rattle.metric_rules.specs.Distance.{distance, spaceOf};
 ghost use Rattle.tree_rules.specs.Sorting.{keyLe};
-ghost use Rattle.working_rows.specs.Working.{firstKey, RanksApart, measuredFrom, arranged};
+ghost use Rattle.tree_rows.specs.Working.{firstKey, RanksApart, measuredFrom, arranged};
 use metric::distance_between;
 use metric_rules::Row;
 use metric_rules::THRESHOLD_AT;
+use tree_rows::tag_le;
 use tree_sort::sort;
-use working_rows::no_later;
 
 // The place of the row with the least tag and rank.
 fn first_at(rows: &[Row]) -> usize
@@ -23,7 +23,7 @@ fn first_at(rows: &[Row]) -> usize
     let mut at = 0;
     let mut i = 1;
     while i < rows.len() {
-        if !no_later(rows[at], rows[i]) {
+        if !tag_le(rows[at], rows[i]) {
             at = i;
         }
         i += 1;

@@ -18,10 +18,10 @@ use Rattle.metric_rules.proofs.Codec.{tag-with-mark, profile-with-mark, thresho
 use Rattle.tree_rules.specs.Sorting.{keyLe, sortBy}
 use Rattle.tree_rules.specs.Layout.{leftSize, Ranked, rankedFrom, tagKey, placed, fromPivot, nearKey, lastDistance, split, layout, isLayout}
 use Rattle.tree_rules.specs.Guided.{fromSlot, GuidedWithin, Guided}
-use Rattle.tree_rules.proofs.Sorting.{apart-less, NotAfter, Sorted, Told, key-le-refl, key-le-cases, key-le-less, key-le-same, key-le-trans, key-le-first, sort-perm, sort-length, sort-sorted, sort-append}
+use Rattle.tree_rules.proofs.Sorting.{apart-less, NotAfter, Sorted, Determined, key-le-refl, key-le-cases, key-le-less, key-le-same, key-le-trans, key-le-first, sort-perm, sort-length, sort-sorted, sort-append}
 use Rattle.tree_rules.proofs.Placed.{tag-placed, profile-placed, threshold-placed, placed-own}
 use Rattle.tree_rules.proofs.LastKey.{slotKey, lastKey, lastOf, later-known, last-perm, last-upper, last-least, least-key, last-key-of}
-use Rattle.tree_rules.proofs.Layouts.{left-fits, take-left, drop-left, split-halves, ranked-length, layout-none, layoutOf, layout-by-nodes, layout-of-length, layout-of-permutes, layout-of-all, layout-reordered, layout-pivot, layout-ranked, layout-permutes, told-by-tag}
+use Rattle.tree_rules.proofs.Layouts.{left-fits, take-left, drop-left, split-halves, ranked-length, layout-none, layoutOf, layout-by-nodes, layout-of-length, layout-of-permutes, layout-of-all, layout-reordered, layout-pivot, layout-ranked, layout-permutes, determined-by-tag}
 
 slotOf : Ranked → Row
 slotOf x = x .row
@@ -322,8 +322,8 @@ module _ (dist : Profile → Profile → ℕ) where
   -- slots with distinct tags whose first slot stands: the layout keeps that slot but for its mark, and lays out the halves
   module _ (v : Ranked) (left right : List Ranked) (half : length left ≡ leftSize (suc (length left + length right)))
       (stands : Stands (v .row) (map slotOf left) (map slotOf right)) (apart : Pairs TagsApart (v ∷ left ++ right)) where
-    told : Pairs (Told tagKey) (left ++ right)
-    told = pairs-weaken told-by-tag (left ++ right) (apart .1)
+    determined : Pairs (Determined tagKey) (left ++ right)
+    determined = pairs-weaken determined-by-tag (left ++ right) (apart .1)
 
     first-tag : All (NotAfter tagKey v) (left ++ right)
     unfolding slotOf tagKey
@@ -355,20 +355,20 @@ module _ (dist : Profile → Profile → ℕ) where
         ∙ sym (last-key-of dist (v .row) (map slotOf left)))
         ∙ sym (stands .within)
 
-    half-sorted : (xs : List Ranked) → Pairs (Told tagKey) xs → layoutOf dist (sortBy (nearKey dist v) xs) ≡ layoutOf dist xs
+    half-sorted : (xs : List Ranked) → Pairs (Determined tagKey) xs → layoutOf dist (sortBy (nearKey dist v) xs) ≡ layoutOf dist xs
     half-sorted xs t = sym (layout-reordered dist (Permᴰ·symm (sort-perm (nearKey dist v) xs)) t)
 
     node-kept : layoutOf dist (v ∷ left ++ right) ≡ withMark 0 (v .row) ∷ layoutOf dist left ++ layoutOf dist right
     node-kept =
-        layout-pivot dist v (left ++ right) first-tag told
+        layout-pivot dist v (left ++ right) first-tag determined
         ∙ ap (split dist (layoutOf dist) v) (sort-append (nearKey dist v) left right across)
         ∙ split-halves dist (layoutOf dist) v (sortBy (nearKey dist v) left) (sortBy (nearKey dist v) right)
         (sort-length (nearKey dist v) left ∙ half ∙ ap₂ (λ (i j : ℕ). leftSize (suc (i + j))) (sym (sort-length (nearKey dist v) left)) (sym (sort-length (nearKey dist v) right)))
         ∙ ap (λ (r : Row). r ∷ layoutOf dist (sortBy (nearKey dist v) left) ++ layoutOf dist (sortBy (nearKey dist v) right))
         (ap (λ (m : ℕ). placed m (v .row)) threshold-kept ∙ placed-own (v .row))
         ∙ ap₂ (λ (a b : List Row). withMark 0 (v .row) ∷ a ++ b)
-        (half-sorted left (pairs-left (Told tagKey) left right told))
-        (half-sorted right (pairs-right (Told tagKey) left right told))
+        (half-sorted left (pairs-left (Determined tagKey) left right determined))
+        (half-sorted right (pairs-right (Determined tagKey) left right determined))
 
   -- slots with distinct tags that pass the test are their own layout but for their marks, whatever their ranks
   lays-within :

@@ -13,7 +13,7 @@ use Rattle.metric_rules.specs.Row.{Row, tagOf}
 use Rattle.tree_rules.specs.Sorting.{sortBy}
 use Rattle.tree_rules.specs.Layout.{leftSize, Ranked, rankedFrom, tagKey, placed, fromPivot, nearKey, lastDistance, split, node, layoutWithin, layout}
 use Rattle.tree_rules.proofs.Placed.{tag-placed, profile-placed, placed-again}
-use Rattle.tree_rules.proofs.Sorting.{NotAfter, Sorted, Told, sort-perm, sort-length, sort-sorted, sort-permuted, sort-cons, insert-first, sort-map}
+use Rattle.tree_rules.proofs.Sorting.{NotAfter, Sorted, Determined, sort-perm, sort-length, sort-sorted, sort-permuted, sort-cons, insert-first, sort-map}
 
 -- the left half is no longer than the rest
 pub left-fits : (n : ℕ) → leftSize (suc n) ≤ n
@@ -167,17 +167,17 @@ module _ (dist : Profile → Profile → ℕ) where
         all-of-map f Q (layoutOf xs) (all-perm Q (Permᴰ·symm (layout-of-permutes xs)) (all-map (λ (x : Ranked). f (x .row)) Q xs h))
 
   -- the input's order does not count where elements with one tag and rank are one
-  pub layout-reordered : {xs ys : List Ranked} → List·Permᴰ xs ys → Pairs (Told tagKey) xs → layoutOf xs ≡ layoutOf ys
+  pub layout-reordered : {xs ys : List Ranked} → List·Permᴰ xs ys → Pairs (Determined tagKey) xs → layoutOf xs ≡ layoutOf ys
   layout-reordered {xs} {ys} p t =
       layout-node xs ∙ ap (node dist layoutOf) (sort-permuted tagKey p t) ∙ sym (layout-node ys)
 
-  told-near : (v x y : Ranked) → Told tagKey x y → Told (nearKey dist v) x y
+  determined-near : (v x y : Ranked) → Determined tagKey x y → Determined (nearKey dist v) x y
   unfolding nearKey
-  told-near v x y t e = t (ap (λ (k : List ℕ). drop 1 k) e)
+  determined-near v x y t e = t (ap (λ (k : List ℕ). drop 1 k) e)
 
   -- a row of the least tag and rank is the first slot's, and the rest is sorted in whatever order it stands
   pub layout-pivot :
-      (v : Ranked) (rest : List Ranked) → All (NotAfter tagKey v) rest → Pairs (Told tagKey) rest
+      (v : Ranked) (rest : List Ranked) → All (NotAfter tagKey v) rest → Pairs (Determined tagKey) rest
       → layoutOf (v ∷ rest) ≡ split dist layoutOf v (sortBy (nearKey dist v) rest)
   unfolding node
   layout-pivot v rest a t =
@@ -185,7 +185,7 @@ module _ (dist : Profile → Profile → ℕ) where
       ∙ ap (node dist layoutOf)
       (sort-cons tagKey v rest ∙ insert-first tagKey v (sortBy tagKey rest) (all-perm (NotAfter tagKey v) (Permᴰ·symm (sort-perm tagKey rest)) a))
       ∙ ap (split dist layoutOf v)
-      (sym (sort-permuted (nearKey dist v) (Permᴰ·symm (sort-perm tagKey rest)) (pairs-weaken (told-near v) rest t)))
+      (sym (sort-permuted (nearKey dist v) (Permᴰ·symm (sort-perm tagKey rest)) (pairs-weaken (determined-near v) rest t)))
 
   module _ (v : Ranked) where
     pivot-strips : (x : Ranked) → fromPivot dist (stripped v) (stripped x) ≡ fromPivot dist v x
@@ -259,6 +259,6 @@ module _ (dist : Profile → Profile → ℕ) where
       (List·Permᴰ·trans (layout-of-permutes f kept (rankedFrom 0 rows)) (perm-of-eq (ranked-rows f 0 rows)))
 
 -- elements are told apart by their tags
-pub told-by-tag : (x y : Ranked) → (tagOf (x .row) ≡ tagOf (y .row) → ⊥) → Told tagKey x y
+pub determined-by-tag : (x y : Ranked) → (tagOf (x .row) ≡ tagOf (y .row) → ⊥) → Determined tagKey x y
 unfolding tagKey
-told-by-tag x y n e = absurd (n (ap (λ (k : List ℕ). getD k 0 0) e))
+determined-by-tag x y n e = absurd (n (ap (λ (k : List ℕ). getD k 0 0) e))

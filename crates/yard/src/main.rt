@@ -1,10 +1,10 @@
 // The program: reads standard input in pieces, has the conversation take each piece line by line, and writes at once what a line prints.
 ghost use Prim.Native.Nat.{_+_, _*_, _^_, _≤_, _<_};
 ghost use lib.ListN.{length};
-ghost use Rattle.yard_rules.specs.Spoken.{Ample};
-ghost use Rattle.yard_answer.specs.Lent.{lent};
+ghost use Rattle.yard_rules.specs.Conversation.{Ample};
+ghost use Rattle.yard_command.specs.Lent.{lent};
 ghost use Rattle.yard_session.specs.Fed.{Midway, fed};
-ghost use Rattle.yard_session.specs.Stands.{Stands};
+ghost use Rattle.yard_session.specs.Matches.{Matches};
 use libc::STDIN_FILENO;
 use libc::STDOUT_FILENO;
 use metric_rules::ROW_WIDTH;
@@ -46,7 +46,7 @@ fn take_piece(
 ) -> Place
     requires { ⌜ (65 + 37 * length (now result) ≤ length (now out)) × (90 ≤ length (now area)) × (length (now area) < 2 ^ 32) × (before .number + length (now piece) < 2 ^ 64) ⌝ }
     ensures { λ r. ⌜ r .number ≤ before .number + length (now (piece .entry)) ⌝ }
-    ensures { λ r. ⌜ ((m : Midway) → Stands m (lent (now (table .entry)) (now (work .entry)) (now (result .entry))) (now (area .entry)) before → Stands (fed m (now (piece .entry))) (lent (now (table .exit)) (now (work .exit)) (now (result .exit))) (now (area .exit)) r) ⌝ }
+    ensures { λ r. ⌜ ((m : Midway) → Matches m (lent (now (table .entry)) (now (work .entry)) (now (result .entry))) (now (area .entry)) before → Matches (fed m (now (piece .entry))) (lent (now (table .exit)) (now (work .exit)) (now (result .exit))) (now (area .exit)) r) ⌝ }
 {
     let mut at = before;
     let mut from = 0;

@@ -10,10 +10,10 @@ use borrow.Author.Tests.{leb-true}
 use Rattle.metric_rules.specs.declared.Profile.{Profile}
 use Rattle.metric_rules.specs.Validity.{validMeasures}
 use Rattle.search_rules.specs.Range.{Entry}
-use Rattle.bucket_rules.specs.Refusals.{badMeasure, noneAsked, resultShort}
-use Rattle.bucket_rules.specs.Table.{Table}
-use Rattle.bucket_rules.specs.Checks.{readRefusal}
-use Rattle.bucket_rules.specs.Search.{Answer, fitRefusal, searchReply, rangeAnswer, rangeRefusal, rangeReply, nearestAnswer, nearestRefusal, nearestReply}
+use Rattle.table_rules.specs.Refusals.{badMeasure, noCount, noRoom}
+use Rattle.table_rules.specs.Table.{Table}
+use Rattle.table_rules.specs.Checks.{readRefusal}
+use Rattle.table_rules.specs.Search.{Answer, fitRefusal, searchReply, rangeAnswer, rangeRefusal, rangeReply, nearestAnswer, nearestRefusal, nearestReply}
 
 none-found : (n : ℕ) (a : Answer) (m : ℕ) → searchReply (suc n) a .found ≤ m
 unfolding searchReply
@@ -23,7 +23,7 @@ fit-found : (area : List Entry) (a : Answer) → searchReply (fitRefusal area a)
 unfolding fitRefusal searchReply
 fit-found area a = by (leb (length (a .entries)) (length area)) refl
   where
-    by : (b : Bool) → leb (length (a .entries)) (length area) ≡ b → searchReply (elim b [ true ↦ 0 | false ↦ resultShort ]) a .found ≤ length area
+    by : (b : Bool) → leb (length (a .entries)) (length area) ≡ b → searchReply (elim b [ true ↦ 0 | false ↦ noRoom ]) a .found ≤ length area
     by true e = leb-true (length (a .entries)) (length area) e
     by false e = omega arith
 
@@ -41,7 +41,7 @@ unfolding nearestReply nearestRefusal
 nearest-found t area query k = by (readRefusal t) (validMeasures query) k
   where
     by : (n : ℕ) (b : Bool) (k : ℕ)
-        → searchReply (elim n [ suc n ↦ suc n | zero ↦ elim b [ false ↦ badMeasure | true ↦ elim k [ zero ↦ noneAsked | suc j ↦ fitRefusal area (nearestAnswer t query (suc j)) ] ] ]) (nearestAnswer t query k) .found ≤ length area
+        → searchReply (elim n [ suc n ↦ suc n | zero ↦ elim b [ false ↦ badMeasure | true ↦ elim k [ zero ↦ noCount | suc j ↦ fitRefusal area (nearestAnswer t query (suc j)) ] ] ]) (nearestAnswer t query k) .found ≤ length area
     by (suc n) b k = none-found n (nearestAnswer t query k) (length area)
     by zero false k = none-found 1 (nearestAnswer t query k) (length area)
     by zero true zero = none-found 4 (nearestAnswer t query zero) (length area)

@@ -2,9 +2,9 @@
 ghost use mathlib.Core.Path.{_≡_};
 ghost use Prim.Native.Nat.{_+_, _*_, _≤_};
 ghost use lib.ListN.{length};
-ghost use Rattle.bucket_rules.specs.Add.{addReply, tableAfterAdd, workAfterAdd};
-ghost use Rattle.bucket_rules.specs.Remove.{removeReply, tableAfterRemove, workAfterRemove};
-ghost use Rattle.bucket_rules.specs.Search.{rangeReply, resultAfterRange, nearestReply, resultAfterNearest};
+ghost use Rattle.table_rules.specs.Add.{addReply, tableAfterAdd, workAfterAdd};
+ghost use Rattle.table_rules.specs.Remove.{removeReply, tableAfterRemove, workAfterRemove};
+ghost use Rattle.table_rules.specs.Search.{rangeReply, resultAfterRange, nearestReply, resultAfterNearest};
 ghost use Rattle.yard_rules.specs.Line.{letterN, letterW};
 ghost use Rattle.yard_rules.specs.Reply.{addText, removeText, searchText};
 ghost use Rattle.yard_reply.specs.Put.{Puts};
@@ -12,7 +12,7 @@ use metric_rules::Profile;
 use metric_rules::Row;
 use search_rules::Entry;
 
-pub fn say_added(
+pub fn run_add(
     table: &mut [Row],
     work: &mut [Row],
     out: &mut [u8],
@@ -24,20 +24,20 @@ pub fn say_added(
     ensures work { λ _. ⌜ now (work .exit) ≡ workAfterAdd (now (table .entry)) (now (work .entry)) tag profile ⌝ }
     ensures text { λ r. ⌜ Puts (now (out .entry)) (now (out .exit)) r (addText (addReply (now (table .entry)) (now (work .entry)) tag profile)) ⌝ }
 {
-    yard_reply::put_added(out, add::add(table, work, tag, profile))
+    yard_reply::put_added(out, table_add::add(table, work, tag, profile))
 }
 
-pub fn say_removed(table: &mut [Row], work: &mut [Row], out: &mut [u8], tag: u64) -> usize
+pub fn run_remove(table: &mut [Row], work: &mut [Row], out: &mut [u8], tag: u64) -> usize
     requires { ⌜ 65 ≤ length (now out) ⌝ }
     ensures table { λ _. ⌜ now (table .exit) ≡ tableAfterRemove (now (table .entry)) (now (work .entry)) tag ⌝ }
     ensures work { λ _. ⌜ now (work .exit) ≡ workAfterRemove (now (table .entry)) (now (work .entry)) tag ⌝ }
     ensures text { λ r. ⌜ Puts (now (out .entry)) (now (out .exit)) r (removeText (removeReply (now (table .entry)) (now (work .entry)) tag)) ⌝ }
 {
-    yard_reply::put_removed(out, remove::remove(table, work, tag))
+    yard_reply::put_removed(out, table_remove::remove(table, work, tag))
 }
 
 // A search's reply needs room for as many entries as the result area has.
-pub fn say_within(
+pub fn run_range(
     table: &[Row],
     result: &mut [Entry],
     out: &mut [u8],
@@ -48,11 +48,11 @@ pub fn say_within(
     ensures result { λ _. ⌜ now (result .exit) ≡ resultAfterRange (now (table .entry)) (now (result .entry)) query radius ⌝ }
     ensures text { λ r. ⌜ Puts (now (out .entry)) (now (out .exit)) r (searchText letterW (rangeReply (now (table .entry)) (now (result .entry)) query radius) (resultAfterRange (now (table .entry)) (now (result .entry)) query radius)) ⌝ }
 {
-    let reply = bucket_range::range(table, result, query, radius);
+    let reply = table_range::range(table, result, query, radius);
     yard_reply::put_searched(out, b'W', reply, result)
 }
 
-pub fn say_nearest(
+pub fn run_nearest(
     table: &[Row],
     result: &mut [Entry],
     out: &mut [u8],
@@ -63,6 +63,6 @@ pub fn say_nearest(
     ensures result { λ _. ⌜ now (result .exit) ≡ resultAfterNearest (now (table .entry)) (now (result .entry)) query k ⌝ }
     ensures text { λ r. ⌜ Puts (now (out .entry)) (now (out .exit)) r (searchText letterN (nearestReply (now (table .entry)) (now (result .entry)) query k) (resultAfterNearest (now (table .entry)) (now (result .entry)) query k)) ⌝ }
 {
-    let reply = bucket_nearest::nearest(table, result, query, k);
+    let reply = table_nearest::nearest(table, result, query, k);
     yard_reply::put_searched(out, b'N', reply, result)
 }

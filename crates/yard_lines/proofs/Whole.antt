@@ -7,7 +7,7 @@ use lib.Dec.{eqb}
 use borrow.Author.Tests.{eqb-true, eqb-false}
 use Rattle.lists.proofs.Lists.{all-append}
 use Rattle.text_rules.specs.Text.{lineFeed, parted}
-use Rattle.yard_rules.specs.Spoken.{lastKept, firstKept, linesIn}
+use Rattle.yard_rules.specs.Conversation.{lastKept, firstKept, linesIn}
 use Rattle.text_rules.proofs.Parts.{Free, parted-one, parted-first}
 use Rattle.yard_lines.specs.Pieces.{Gathering, gathering, gatherings, whole, someLeft, ended}
 

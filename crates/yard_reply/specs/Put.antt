@@ -4,7 +4,7 @@ use mathlib.Core.Path.{_≡_}
 use mathlib.Core.List.{List, [], _∷_}
 use lib.ListN.{length}
 use lib.Seq.{sets}
-use Rattle.bucket_rules.specs.declared.Searched.{Searched}
+use Rattle.table_rules.specs.declared.Searched.{Searched}
 use Rattle.yard_rules.specs.Reply.{replyLine, replyNumbers}
 
 -- the area after it, its length, and that the area has room for it

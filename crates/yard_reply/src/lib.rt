@@ -4,10 +4,10 @@ ghost use Prim.Native.Nat.{_+_, _*_, _≤_};
 ghost use lib.ListN.{length};
 ghost use Rattle.yard_reply.specs.Put.{Puts, FoundPut};
 ghost use Rattle.yard_rules.specs.Reply.{replyLine, addText, removeText, searchText};
-use bucket_rules::Added;
-use bucket_rules::Removed;
-use bucket_rules::Searched;
 use search_rules::Entry;
+use table_rules::Added;
+use table_rules::Removed;
+use table_rules::Searched;
 
 // A letter and one number: a refusal, or a line that is `?`.
 pub fn put_one(out: &mut [u8], letter: u8, n: u64) -> usize

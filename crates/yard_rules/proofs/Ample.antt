@@ -11,22 +11,22 @@ use lib.ListN.{length}
 use borrow.Author.Tests.{le-leb, leb-true}
 use Rattle.lists.proofs.Tests.{and-pass}
 use Rattle.metric_rules.specs.Distance.{validSpace}
-use Rattle.bucket_rules.specs.Refusals.{badOrder, badMetric, areaShort}
-use Rattle.bucket_rules.specs.Geometry.{validOrder, room, firstSlot, tableRows, workRows}
-use Rattle.bucket_rules.specs.Table.{Table, orderOf}
-use Rattle.bucket_rules.specs.Checks.{marksPass, tableRefusal, readRefusal, changeRefusal}
-use Rattle.bucket_rules.specs.Fresh.{freshRefusal}
-use Rattle.bucket_rules.specs.Search.{Answer, fitRefusal}
-use Rattle.bucket_rules.proofs.Fill.{rooms-grow}
-use Rattle.bucket_rules.proofs.Passing.{stopBy, table-stop}
-use Rattle.bucket_rules.proofs.Replies.{fit-held}
-use Rattle.yard_rules.specs.Spoken.{Areas, Ample, mostYardOrder, headerRefusal}
+use Rattle.table_rules.specs.Refusals.{badOrder, badMetric, shortArea}
+use Rattle.table_rules.specs.Geometry.{validOrder, room, firstSlot, tableRows, workRows}
+use Rattle.table_rules.specs.Table.{Table, orderOf}
+use Rattle.table_rules.specs.Checks.{marksPass, tableRefusal, readRefusal, changeRefusal}
+use Rattle.table_rules.specs.Fresh.{freshRefusal}
+use Rattle.table_rules.specs.Search.{Answer, fitRefusal}
+use Rattle.table_rules.proofs.Fill.{rooms-grow}
+use Rattle.table_rules.proofs.Passing.{stopBy, table-stop}
+use Rattle.table_rules.proofs.Replies.{fit-held}
+use Rattle.yard_rules.specs.Conversation.{Areas, Ample, mostYardOrder, headerRefusal}
 
 rows-grow : {j k : ℕ} → j ≤ k → tableRows j ≤ tableRows k
 unfolding tableRows firstSlot
 rows-grow {j} {k} h = omega (arith, rooms-grow {j = suc j} {k = suc k} (omega arith))
 
-not-by-length : (header lengths sizes : Bool) → lengths ≡ true → stopBy header lengths sizes ≡ areaShort → ⊥
+not-by-length : (header lengths sizes : Bool) → lengths ≡ true → stopBy header lengths sizes ≡ shortArea → ⊥
 unfolding stopBy
 not-by-length false lengths sizes e s = omega arith
 not-by-length true false sizes e s = absurd (false≢true e)
@@ -38,7 +38,7 @@ abbrev pub ByHeader : ℕ → Type 0
 ByHeader n = (n ≡ 0) ⊎ (n ≡ badOrder) ⊎ (n ≡ badMetric)
 
 by-header : (few order metric long : Bool) → (few ≡ true → long ≡ true)
-    → ByHeader (elim few [ false ↦ badOrder | true ↦ elim order [ false ↦ badOrder | true ↦ elim metric [ false ↦ badMetric | true ↦ elim long [ false ↦ areaShort | true ↦ 0 ] ] ] ])
+    → ByHeader (elim few [ false ↦ badOrder | true ↦ elim order [ false ↦ badOrder | true ↦ elim metric [ false ↦ badMetric | true ↦ elim long [ false ↦ shortArea | true ↦ 0 ] ] ] ])
 by-header false order metric long e = inr (inl refl)
 by-header true false metric long e = inr (inl refl)
 by-header true true false long e = inr (inr refl)
@@ -56,18 +56,18 @@ module _ {a : Areas} (ample : Ample a) where
     long : tableRows (orderOf (a .table)) ≤ length (a .table)
     long = le-trans (rows-grow few) (ample .table)
 
-    not-short : (roomy sound : Table → Bool) → roomy (a .table) ≡ true → tableRefusal roomy sound (a .table) ≡ areaShort → ⊥
+    not-short : (roomy sound : Table → Bool) → roomy (a .table) ≡ true → tableRefusal roomy sound (a .table) ≡ shortArea → ⊥
     unfolding tableRows firstSlot
     not-short roomy sound e s =
         let t = a .table in
         not-by-length _ _ _ (and-pass (leb (tableRows (orderOf t)) (length t)) (roomy t) (le-leb (tableRows (orderOf t)) (length t) long) e)
         (sym (table-stop roomy sound t (omega (arith, long))) ∙ s)
 
-    pub read-not-short : readRefusal (a .table) ≡ areaShort → ⊥
+    pub read-not-short : readRefusal (a .table) ≡ shortArea → ⊥
     unfolding readRefusal
     read-not-short s = not-short (λ u. true) (λ u. true) refl s
 
-    pub change-not-short : changeRefusal (a .work) (a .table) ≡ areaShort → ⊥
+    pub change-not-short : changeRefusal (a .work) (a .table) ≡ shortArea → ⊥
     unfolding changeRefusal workRows
     change-not-short s =
         not-short (λ u. leb (workRows (orderOf u)) (length (a .work))) marksPass

@@ -8,21 +8,21 @@ use Rattle.metric_rules.specs.Distance.{mostDistance, saturated, gap, measureDi
 use Rattle.tree_rules.specs.Sorting.{keyLe, insertBy, sortBy}
 use Rattle.tree_rules.specs.Layout.{leftSize, costWithin, cost, rankedFrom, tagKey, placed, fromPivot, nearKey, lastDistance, split, node, layoutWithin, layout}
 use Rattle.search_rules.specs.Range.{entry, entryDistance, entryKey, ordered, entersLeft, entersRight, nothing, both, toQuery, entryOf, isHit, visited, rangeWithin, rangeTree}
-use Rattle.search_rules.specs.Nearest.{keep, worst, opens as halfOpens, taken, turn, halvesInTurn, nearestWithin, nearestTree}
-use Rattle.bucket_rules.specs.Geometry.{validOrder, room, bucketsOf, headerRow, sizesRow, firstSlot, tableRows, workRows}
-use Rattle.bucket_rules.specs.Table.{rowAt, orderOf, tableSpace, builtOf, liveOf, inUse, liveTotal, slotsOf, liveSlots, pairRow, headerOf, putSizes, putBucket, emptied, cleared}
-use Rattle.bucket_rules.specs.Checks.{sizePasses, sizesPass, marksPass, tableRefusal, readRefusal, changeRefusal}
-use Rattle.bucket_rules.specs.Fresh.{freshRefusal, freshTable, tableAfterFresh}
-use Rattle.bucket_rules.specs.Rebuild.{liveItems, rebuilt}
-use Rattle.bucket_rules.specs.Add.{addRefusal, emptyFrom, lowestEmpty, gathered, addBucket, addTarget, added, addReply, tableAfterAdd, workAfterAdd}
-use Rattle.bucket_rules.specs.Remove.{removeRefusal, marked, united, thinned, settled, removed, removeReply, tableAfterRemove, workAfterRemove}
-use Rattle.bucket_rules.specs.Search.{bucketsDown, rangeMet, rangeAnswer, nearestTally, nearestAnswer, fitRefusal, rangeRefusal, nearestRefusal, searchReply, zeroEntry, resultAfter, rangeReply, resultAfterRange, nearestReply, resultAfterNearest}
-use Rattle.bucket_rules.specs.LookUp.{placeFrom, placeIn, find, isLiveTag}
+use Rattle.search_rules.specs.Nearest.{keep, worst, opens as halfOpens, taken, enterHalf, enterHalves, nearestWithin, nearestTree}
+use Rattle.table_rules.specs.Geometry.{validOrder, room, bucketsOf, headerRow, sizesRow, firstSlot, tableRows, workRows}
+use Rattle.table_rules.specs.Table.{rowAt, orderOf, tableSpace, builtOf, liveOf, inUse, liveTotal, slotsOf, liveSlots, pairRow, headerOf, putSizes, putBucket, emptied, cleared}
+use Rattle.table_rules.specs.Checks.{sizePasses, sizesPass, marksPass, tableRefusal, readRefusal, changeRefusal}
+use Rattle.table_rules.specs.Fresh.{freshRefusal, freshTable, tableAfterFresh}
+use Rattle.table_rules.specs.Rebuild.{liveItems, rebuilt}
+use Rattle.table_rules.specs.Add.{addRefusal, emptyFrom, lowestEmpty, gathered, addBucket, addTarget, added, addReply, tableAfterAdd, workAfterAdd}
+use Rattle.table_rules.specs.Remove.{removeRefusal, marked, united, rebuiltLower, shrunk, removed, removeReply, tableAfterRemove, workAfterRemove}
+use Rattle.table_rules.specs.Search.{bucketsDown, rangeMet, rangeAnswer, nearestTally, nearestAnswer, fitRefusal, rangeRefusal, nearestRefusal, searchReply, zeroEntry, resultAfter, rangeReply, resultAfterRange, nearestReply, resultAfterNearest}
+use Rattle.table_rules.specs.LookUp.{placeFrom, placeIn, find, isLiveTag}
 use Rattle.text_rules.specs.Text.{onto, parted, partAt, partsIn, digitOf, isDigit, isNumeral, numeralAfter, numeral, digits, widthWithin, width, decimal}
 use Rattle.text_rules.specs.Fields.{isNegative, unsigned, isMeasure, hundredths, measureIn}
 use Rattle.yard_rules.specs.Line.{isNumber, onlyByte, isCode, codeIn, hasProfile, profileIn, headerIn, opens, commandIn}
 use Rattle.yard_rules.specs.Reply.{spaced, replyLine, replyNumbers, addText, removeText, entryText, entriesText, searchText}
-use Rattle.yard_rules.specs.Spoken.{otherText, mostYardOrder, headerRefusal, greeted, areasAfter, textAfter, answered, spoken, after, printed, lastKept, firstKept, linesIn, conversation, Areas}
+use Rattle.yard_rules.specs.Conversation.{otherText, mostYardOrder, headerRefusal, headerOutcome, areasAfter, textAfter, commandOutcome, lineOutcome, after, printed, lastKept, firstKept, linesIn, conversation, Areas}
 
 unfoldable pub computed : Areas → List ℕ → List ℕ
 unfolding
@@ -31,14 +31,14 @@ unfolding
     validMeasure validMeasures mostDistance saturated gap measureDistance differing codeDistance largest worstDistance distanceBy distance metricAt spaceOf
     lastMetric validSpace keyLe insertBy sortBy leftSize costWithin cost rankedFrom tagKey placed fromPivot nearKey lastDistance split node
     layoutWithin layout entry entryDistance entryKey ordered isLive entersLeft entersRight nothing both toQuery entryOf isHit visited
-    rangeWithin rangeTree keep worst halfOpens taken turn halvesInTurn nearestWithin nearestTree validOrder room
+    rangeWithin rangeTree keep worst halfOpens taken enterHalf enterHalves nearestWithin nearestTree validOrder room
     bucketsOf headerRow sizesRow firstSlot tableRows workRows rowAt orderOf tableSpace builtOf liveOf inUse liveTotal slotsOf liveSlots
     pairRow headerOf putSizes putBucket emptied cleared sizePasses sizesPass marksPass tableRefusal readRefusal changeRefusal freshRefusal
     freshTable tableAfterFresh liveItems rebuilt addRefusal emptyFrom lowestEmpty gathered addBucket addTarget added addReply tableAfterAdd
-    workAfterAdd removeRefusal marked united thinned settled removed removeReply tableAfterRemove workAfterRemove placeFrom placeIn find
+    workAfterAdd removeRefusal marked united rebuiltLower shrunk removed removeReply tableAfterRemove workAfterRemove placeFrom placeIn find
     isLiveTag bucketsDown rangeMet rangeAnswer nearestTally nearestAnswer fitRefusal rangeRefusal nearestRefusal searchReply zeroEntry
     resultAfter rangeReply resultAfterRange nearestReply resultAfterNearest onto parted partAt partsIn digitOf isDigit isNumeral numeralAfter
     numeral digits widthWithin width decimal isNumber onlyByte isCode codeIn isNegative unsigned isMeasure hundredths measureIn
     hasProfile profileIn headerIn opens commandIn spaced replyLine replyNumbers addText removeText entryText entriesText searchText otherText
-    mostYardOrder headerRefusal greeted areasAfter textAfter answered spoken after printed lastKept firstKept linesIn conversation
+    mostYardOrder headerRefusal headerOutcome areasAfter textAfter commandOutcome lineOutcome after printed lastKept firstKept linesIn conversation
 computed a input = conversation a input

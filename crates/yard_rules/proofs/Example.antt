@@ -3,7 +3,7 @@ use Prim.Native.Nat.{ℕ}
 use mathlib.Core.Path.{_≡_, refl}
 use mathlib.Core.List.{List, [], _∷_}
 use lib.ListN.{replicate}
-use Rattle.yard_rules.specs.Spoken.{Areas}
+use Rattle.yard_rules.specs.Conversation.{Areas}
 use Rattle.yard_rules.proofs.Computing.{computed}
 
 -- areas for order 2 that hold other content before

@@ -8,10 +8,10 @@ use lib.ListN.{take, drop, getD}
 use Rattle.lists.specs.Lists.{All}
 use Rattle.lists.proofs.Lists.{all-append}
 use Rattle.search_rules.specs.Range.{Entry}
-use Rattle.bucket_rules.specs.declared.Searched.{Searched}
+use Rattle.table_rules.specs.declared.Searched.{Searched}
 use Rattle.text_rules.specs.Text.{lineFeed, space, parted, numeral, digits, decimal}
 use Rattle.yard_rules.specs.Reply.{spaced, replyLine, replyNumbers, entryText, entriesText, searchText}
-use Rattle.yard_rules.specs.Spoken.{lastKept}
+use Rattle.yard_rules.specs.Conversation.{lastKept}
 use Rattle.text_rules.proofs.Numerals.{digits-back, decimal-back}
 use Rattle.text_rules.proofs.Parts.{Free, parted-one, parted-first, digits-free}
 use Rattle.yard_rules.proofs.Parts.{decimal-free, reply-back}

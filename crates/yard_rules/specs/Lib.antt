@@ -1,3 +1,3 @@
 pub mod Line
 pub mod Reply
-pub mod Spoken
+pub mod Conversation

@@ -3,9 +3,9 @@ use Prim.Native.Nat.{ℕ, zero, suc}
 use mathlib.Core.List.{List, [], _∷_, _++_}
 use lib.ListN.{take, getD}
 use Rattle.search_rules.specs.Range.{Entry}
-use Rattle.bucket_rules.specs.declared.Added.{Added}
-use Rattle.bucket_rules.specs.declared.Removed.{Removed}
-use Rattle.bucket_rules.specs.declared.Searched.{Searched}
+use Rattle.table_rules.specs.declared.Added.{Added}
+use Rattle.table_rules.specs.declared.Removed.{Removed}
+use Rattle.table_rules.specs.declared.Searched.{Searched}
 use Rattle.text_rules.specs.Text.{lineFeed, space, digits, decimal}
 use Rattle.yard_rules.specs.Line.{letterA, letterR}
 

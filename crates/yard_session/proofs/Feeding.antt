@@ -10,7 +10,7 @@ use lib.ListN.{length, take, drop, length-drop}
 use lib.Seq.{take-all}
 use borrow.Author.Tests.{ne-eqb}
 use Rattle.text_rules.specs.Text.{lineFeed}
-use Rattle.yard_rules.specs.Spoken.{Yard, after, spoken, printed}
+use Rattle.yard_rules.specs.Conversation.{Yard, after, lineOutcome, printed}
 use Rattle.text_rules.proofs.Parts.{Free}
 use Rattle.yard_lines.specs.Held.{untilFeed}
 use Rattle.yard_lines.specs.Pieces.{Gathering, gathering}
@@ -27,7 +27,7 @@ pub printed-both : (y : Yard) (xs ys : List (List ℕ)) → printed y (xs ++ ys)
 unfolding printed afterLines
 printed-both y [] ys = refl
 printed-both y (x ∷ xs) ys =
-    let text = spoken (y .areas) (suc (y .lines)) (y .stage) x .text in
+    let text = lineOutcome (y .areas) (suc (y .lines)) (y .stage) x .text in
     ap (λ t. text ++ t) (printed-both (after y x) xs ys) ∙ sym (append-assoc text _ _)
 
 -- the lines of two stretches
@@ -84,7 +84,7 @@ pub fed-feed : (m : Midway) → fed m (lineFeed ∷ []) ≡ record { yard = afte
 unfolding fed gathering afterLines
 fed-feed m = refl
 
-pub text-feed : (m : Midway) → fedText m (lineFeed ∷ []) ≡ spoken (m .yard .areas) (suc (m .yard .lines)) (m .yard .stage) (m .pending) .text
+pub text-feed : (m : Midway) → fedText m (lineFeed ∷ []) ≡ lineOutcome (m .yard .areas) (suc (m .yard .lines)) (m .yard .stage) (m .pending) .text
 unfolding fedText gathering printed
 text-feed m = append-nil _
 

@@ -13,7 +13,7 @@ use borrow.Author.Tests.{ne-eqb}
 use Rattle.yard_rules.specs.declared.Stage.{Stage}
 use Rattle.yard_rules.specs.declared.Stage.the-variants as stage
 use Rattle.text_rules.specs.Text.{lineFeed}
-use Rattle.yard_rules.specs.Spoken.{Areas, Yard, Said, spoken, after, printed}
+use Rattle.yard_rules.specs.Conversation.{Areas, Yard, LineOutcome, lineOutcome, after, printed}
 use Rattle.text_rules.proofs.Parts.{Free}
 use Rattle.yard_lines.specs.declared.Held.{Held}
 use Rattle.yard_lines.specs.declared.Gathered.{Gathered}
@@ -21,61 +21,61 @@ use Rattle.yard_lines.specs.Held.{untilFeed, Holds, Gathers}
 use Rattle.yard_lines.specs.Pieces.{someLeft}
 use Rattle.yard_lines.proofs.Pieces.{until-free}
 use Rattle.yard_reply.specs.Put.{Puts}
-use Rattle.yard_talk.specs.declared.Spoke.{Spoke}
-use Rattle.yard_talk.specs.Says.{Says}
-use Rattle.yard_talk.proofs.Longer.{long-spoken}
+use Rattle.yard_step.specs.declared.Stepped.{Stepped}
+use Rattle.yard_step.specs.StepLeaves.{StepLeaves}
+use Rattle.yard_step.proofs.Longer.{long-outcome}
 use Rattle.yard_session.specs.declared.Place.{Place}
 use Rattle.yard_session.specs.Fed.{Midway, afterLines, begun, fed, fedText, lastOf, lastLine, endText, stretch}
-use Rattle.yard_session.specs.Stands.{AnsweredAs, Stands, Takes, Ends}
+use Rattle.yard_session.specs.Matches.{AnsweredAs, Matches, Takes, Ends}
 use Rattle.yard_session.proofs.Feeding.{fed-both, text-both, fed-free, text-free, fed-feed, text-feed, stretch-feed, stretch-end}
 
 nothing-held : (area : List ℕ) → Holds area (record { length = 0; over = false }) []
 nothing-held area = record { room = omega arith; whole = λ e. refl; longer = λ e. absurd (false≢true e) }
 
 -- before the first byte
-pub begins : (a : Areas) (area : List ℕ) → Stands (begun a) a area (record { stage = stage.Waiting; number = 1; length = 0; over = false; from = 0; printed = 0 })
+pub begins : (a : Areas) (area : List ℕ) → Matches (begun a) a area (record { stage = stage.Waiting; number = 1; length = 0; over = false; from = 0; printed = 0 })
 unfolding begun
 begins a area = record { areas-are = refl; stage-is = refl; number-is = refl; line-is = nothing-held area }
 
 -- the line that is held
 pub long-answered : {area line : List ℕ} {h : Held} → 90 ≤ length area → h .over ≡ true → Holds area h line → AnsweredAs [] line
-long-answered {line = line} l e k a number s = sym (long-spoken a number s line (omega (arith, k .longer e)))
+long-answered {line = line} l e k a number s = sym (long-outcome a number s line (omega (arith, k .longer e)))
 
 pub whole-answered : {area line : List ℕ} {h : Held} → h .over ≡ false → Holds area h line → AnsweredAs (take (h .length) area) line
-whole-answered e k a number s = ap (spoken a number s) (k .whole e)
+whole-answered e k a number s = ap (lineOutcome a number s) (k .whole e)
 
 -- a line feed
-pub line-taken : {m : Midway} {areas : Areas} {area : List ℕ} {at : Place} (line : List ℕ) (areas' : Areas) (out later : List ℕ) (r : Spoke) (next : ℕ)
-    → Stands m areas area at → AnsweredAs line (m .pending) → Says (spoken areas (at .number) (at .stage) line) areas' out later r
+pub line-taken : {m : Midway} {areas : Areas} {area : List ℕ} {at : Place} (line : List ℕ) (areas' : Areas) (out later : List ℕ) (r : Stepped) (next : ℕ)
+    → Matches m areas area at → AnsweredAs line (m .pending) → StepLeaves (lineOutcome areas (at .number) (at .stage) line) areas' out later r
     → Takes m (lineFeed ∷ []) areas' area out later (record { stage = r .stage; number = at .number + 1; length = 0; over = false; from = next; printed = r .length })
 unfolding after
 line-taken {m} {areas} {area} {at} line areas' out later r next st alike says =
     let y : Yard = m .yard in
-    let said : spoken areas (at .number) (at .stage) line ≡ spoken (y .areas) (suc (y .lines)) (y .stage) (m .pending) =
+    let outcome : lineOutcome areas (at .number) (at .stage) line ≡ lineOutcome (y .areas) (suc (y .lines)) (y .stage) (m .pending) =
     alike areas (at .number) (at .stage)
-    ∙ ap (λ (a : Areas). spoken a (at .number) (at .stage) (m .pending)) (st .areas-are)
-    ∙ ap (λ n. spoken (y .areas) n (at .stage) (m .pending)) (st .number-is)
-    ∙ ap (λ (s : Stage). spoken (y .areas) (suc (y .lines)) s (m .pending)) (st .stage-is) in
+    ∙ ap (λ (a : Areas). lineOutcome a (at .number) (at .stage) (m .pending)) (st .areas-are)
+    ∙ ap (λ n. lineOutcome (y .areas) n (at .stage) (m .pending)) (st .number-is)
+    ∙ ap (λ (s : Stage). lineOutcome (y .areas) (suc (y .lines)) s (m .pending)) (st .stage-is) in
     let place : Place = record { stage = r .stage; number = at .number + 1; length = 0; over = false; from = next; printed = r .length } in
     record {
       stands =
-          subst (λ (n : Midway). Stands n areas' area place) (sym (fed-feed m))
+          subst (λ (n : Midway). Matches n areas' area place) (sym (fed-feed m))
           (record {
-            areas-are = says .areas-are ∙ ap (λ (s : Said). s .areas) said;
-            stage-is = says .stage-is ∙ ap (λ (s : Said). s .stage) said;
+            areas-are = says .areas-are ∙ ap (λ (s : LineOutcome). s .areas) outcome;
+            stage-is = says .stage-is ∙ ap (λ (s : LineOutcome). s .stage) outcome;
             number-is = ap (λ n. n + 1) (st .number-is) ∙ add-one (suc (y .lines));
             line-is = nothing-held area;
           });
-      text-is = subst (Puts out later (r .length)) (ap (λ (s : Said). s .text) said ∙ sym (text-feed m)) (says .text-is);
+      text-is = subst (Puts out later (r .length)) (ap (λ (s : LineOutcome). s .text) outcome ∙ sym (text-feed m)) (says .text-is);
     }
 
 -- bytes without a line feed: nothing is printed
 goes-on : {m : Midway} {areas : Areas} {area : List ℕ} {at : Place} (later : List ℕ) (h : Held) (bytes : List ℕ) (next : ℕ) → Free lineFeed bytes
-    → Stands m areas area at → Holds later h (m .pending ++ bytes)
-    → Stands (fed m bytes) areas later (record { stage = at .stage; number = at .number; length = h .length; over = h .over; from = next; printed = 0 })
+    → Matches m areas area at → Holds later h (m .pending ++ bytes)
+    → Matches (fed m bytes) areas later (record { stage = at .stage; number = at .number; length = h .length; over = h .over; from = next; printed = 0 })
 goes-on {m} {areas} {area} {at} later h bytes next f st k =
     subst
-    (λ (n : Midway). Stands n areas later (record { stage = at .stage; number = at .number; length = h .length; over = h .over; from = next; printed = 0 }))
+    (λ (n : Midway). Matches n areas later (record { stage = at .stage; number = at .number; length = h .length; over = h .over; from = next; printed = 0 }))
     (sym (fed-free m bytes f))
     (record { areas-are = st .areas-are; stage-is = st .stage-is; number-is = st .number-is; line-is = k })
 
@@ -87,7 +87,7 @@ takes-both : (m : Midway) (xs ys : List ℕ) {areas : Areas} {area out later : L
     → Takes (fed m xs) ys areas area out later r → Takes m (xs ++ ys) areas area out later r
 takes-both m xs ys {areas} {area} {out} {later} {r} f t =
     record {
-      stands = subst (λ (n : Midway). Stands n areas area r) (sym (fed-both m xs ys)) (t .stands);
+      stands = subst (λ (n : Midway). Matches n areas area r) (sym (fed-both m xs ys)) (t .stands);
       text-is =
           subst (Puts out later (r .printed))
           (ap (λ (s : List ℕ). s ++ fedText (fed m xs) ys) (sym (text-free m xs f)) ∙ sym (text-both m xs ys))
@@ -97,11 +97,11 @@ takes-both m xs ys {areas} {area} {out} {later} {r} f t =
 -- a piece from a place on: to its end where no line feed follows, and else through the line feed
 module _ {m : Midway} {areas : Areas} {area : List ℕ} {at : Place} (later : List ℕ) (g : Gathered) (piece : List ℕ) (from : ℕ)
     (inside : from < length piece) (gathers : Gathers area (record { length = at .length; over = at .over }) piece from later g)
-    (st : Stands m areas area at) where
+    (st : Matches m areas area at) where
   abbrev gathered : Place
   gathered = record { stage = at .stage; number = at .number; length = g .length; over = g .over; from = length piece; printed = 0 }
 
-  goes-until : Stands (fed m (untilFeed (drop from piece))) areas later gathered
+  goes-until : Matches (fed m (untilFeed (drop from piece))) areas later gathered
   goes-until =
       goes-on later (record { length = g .length; over = g .over }) (untilFeed (drop from piece)) (length piece) (until-free (drop from piece)) st (gathers .holds (m .pending) (st .line-is))
 
@@ -112,7 +112,7 @@ module _ {m : Midway} {areas : Areas} {area : List ℕ} {at : Place} (later : Li
       (record { stands = goes-until; text-is = nothing-printed m out (untilFeed (drop from piece)) (until-free (drop from piece)) })
 
   pub line-ends : (areas' : Areas) (out after : List ℕ) (r : Place) → g .end < length piece → r .from ≡ g .end + 1
-      → ((n : Midway) → Stands n areas later gathered → Takes n (lineFeed ∷ []) areas' later out after r)
+      → ((n : Midway) → Matches n areas later gathered → Takes n (lineFeed ∷ []) areas' later out after r)
       → Takes m (stretch piece from (r .from)) areas' later out after r
   line-ends areas' out after r h e step =
       let line : List ℕ = untilFeed (drop from piece) in
@@ -149,7 +149,7 @@ first-last {area} {line} {h} number lines e z k n =
     ∙ ap (λ (l : List ℕ). elim (eqb number 1) [ true ↦ l ∷ [] | false ↦ [] ]) none
 
 -- the end of the input
-pub ends-without : {m : Midway} {areas : Areas} {area : List ℕ} {at : Place} (out : List ℕ) (r : Place) → Stands m areas area at
+pub ends-without : {m : Midway} {areas : Areas} {area : List ℕ} {at : Place} (out : List ℕ) (r : Place) → Matches m areas area at
     → lastOf (m .yard .lines) (m .pending) ≡ [] → r .stage ≡ stage.Ended → r .printed ≡ 0 → Ends m areas out out r
 unfolding lastLine endText afterLines printed
 ends-without {m} out r st none e z =

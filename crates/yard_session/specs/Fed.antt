@@ -5,7 +5,7 @@ use mathlib.Core.List.{List, [], _∷_, _++_}
 use lib.ListN.{take, drop}
 use Rattle.yard_rules.specs.declared.Stage.{Stage}
 use Rattle.yard_rules.specs.declared.Stage.the-variants as stage
-use Rattle.yard_rules.specs.Spoken.{Areas, Yard, after, printed}
+use Rattle.yard_rules.specs.Conversation.{Areas, Yard, after, printed}
 use Rattle.yard_lines.specs.Pieces.{gathering, someLeft}
 
 -- what stands after some lines

@@ -5,11 +5,11 @@ ghost use mathlib.Core.List.{List, [], _∷_};
 ghost use Prim.Native.Nat.{ℕ, suc, _+_, _-_, _*_, _^_, _≤_, _<_};
 ghost use lib.ListN.{length};
 ghost use Rattle.text_rules.specs.Text.{lineFeed};
-ghost use Rattle.yard_rules.specs.Spoken.{Areas};
+ghost use Rattle.yard_rules.specs.Conversation.{Areas};
 ghost use Rattle.yard_lines.specs.Held.{Holds};
-ghost use Rattle.yard_answer.specs.Lent.{lent};
+ghost use Rattle.yard_command.specs.Lent.{lent};
 ghost use Rattle.yard_session.specs.Fed.{Midway, begun, lastOf, hasEnded, stretch};
-ghost use Rattle.yard_session.specs.Stands.{AnsweredAs, Stands, Takes, Ends};
+ghost use Rattle.yard_session.specs.Matches.{AnsweredAs, Matches, Takes, Ends};
 use metric_rules::Row;
 use search_rules::Entry;
 use yard_lines::Held;
@@ -28,7 +28,7 @@ pub struct Place {
 
 // Before the first byte.
 pub fn begin() -> Place
-    ensures { λ r. ⌜ ((areas : Areas) (area : List ℕ) → Stands (begun areas) areas area r) × (r .from ≡ 0) × (r .number ≡ 1) ⌝ }
+    ensures { λ r. ⌜ ((areas : Areas) (area : List ℕ) → Matches (begun areas) areas area r) × (r .from ≡ 0) × (r .number ≡ 1) ⌝ }
 {
     Place {
         stage: Stage::Waiting,
@@ -67,19 +67,19 @@ fn end_line(
 ) -> Place
     requires { ⌜ (65 + 37 * length (now result) ≤ length (now out)) × (90 ≤ length (now area)) × (length (now area) < 2 ^ 32) × (at .number < 2 ^ 64 - 1) ⌝ }
     ensures { λ r. ⌜ (r .from ≡ next) × (r .number ≡ at .number + 1) × (r .printed ≤ length (now (out .entry))) ⌝ }
-    ensures { λ r. ⌜ ((m : Midway) → Stands m (lent (now (table .entry)) (now (work .entry)) (now (result .entry))) (now (area .entry)) at → Takes m (lineFeed ∷ []) (lent (now (table .exit)) (now (work .exit)) (now (result .exit))) (now (area .entry)) (now (out .entry)) (now (out .exit)) r) ⌝ }
+    ensures { λ r. ⌜ ((m : Midway) → Matches m (lent (now (table .entry)) (now (work .entry)) (now (result .entry))) (now (area .entry)) at → Takes m (lineFeed ∷ []) (lent (now (table .exit)) (now (work .exit)) (now (result .exit))) (now (area .entry)) (now (out .entry)) (now (out .exit)) r) ⌝ }
 {
     let stage = at.stage;
     let line = held_line(area, at.length, at.over);
-    let spoke = yard_talk::talk(table, work, result, out, stage, at.number, line);
-    let after = spoke.stage;
+    let stepped = yard_step::step(table, work, result, out, stage, at.number, line);
+    let after = stepped.stage;
     Place {
         stage: after,
         number: at.number + 1,
         length: 0,
         over: false,
         from: next,
-        printed: spoke.length,
+        printed: stepped.length,
     }
 }
 
@@ -96,7 +96,7 @@ pub fn take_line(
 ) -> Place
     requires { ⌜ (65 + 37 * length (now result) ≤ length (now out)) × (90 ≤ length (now area)) × (length (now area) < 2 ^ 32) × (at .number < 2 ^ 64 - 1) × (from < length (now piece)) ⌝ }
     ensures { λ r. ⌜ (from < r .from) × (r .from ≤ length (now (piece .entry))) × (r .number ≤ at .number + 1) × (r .printed ≤ length (now (out .entry))) ⌝ }
-    ensures { λ r. ⌜ ((m : Midway) → Stands m (lent (now (table .entry)) (now (work .entry)) (now (result .entry))) (now (area .entry)) at → Takes m (stretch (now (piece .entry)) from (r .from)) (lent (now (table .exit)) (now (work .exit)) (now (result .exit))) (now (area .exit)) (now (out .entry)) (now (out .exit)) r) ⌝ }
+    ensures { λ r. ⌜ ((m : Midway) → Matches m (lent (now (table .entry)) (now (work .entry)) (now (result .entry))) (now (area .entry)) at → Takes m (stretch (now (piece .entry)) from (r .from)) (lent (now (table .exit)) (now (work .exit)) (now (result .exit))) (now (area .exit)) (now (out .entry)) (now (out .exit)) r) ⌝ }
 {
     let held = Held {
         length: at.length,
@@ -142,7 +142,7 @@ pub fn take_end(
 ) -> Place
     requires { ⌜ (65 + 37 * length (now result) ≤ length (now out)) × (90 ≤ length (now area)) × (length (now area) < 2 ^ 32) × (at .number < 2 ^ 64 - 1) ⌝ }
     ensures { λ r. ⌜ (r .number ≤ at .number + 1) × (r .printed ≤ length (now (out .entry))) ⌝ }
-    ensures { λ r. ⌜ ((m : Midway) → Stands m (lent (now (table .entry)) (now (work .entry)) (now (result .entry))) (now (area .entry)) at → Ends m (lent (now (table .exit)) (now (work .exit)) (now (result .exit))) (now (out .entry)) (now (out .exit)) r) ⌝ }
+    ensures { λ r. ⌜ ((m : Midway) → Matches m (lent (now (table .entry)) (now (work .entry)) (now (result .entry))) (now (area .entry)) at → Ends m (lent (now (table .exit)) (now (work .exit)) (now (result .exit))) (now (out .entry)) (now (out .exit)) r) ⌝ }
 {
     let number = at.number;
     if !is_line(number, at.length, at.over) {

@@ -7,8 +7,8 @@ use mathlib.Core.List.{List, map}
 use native.Mathlib.Omega.{arith}
 use borrow.Author.Tests.{not-true, not-false}
 use Rattle.lists.specs.Lists.{total, countFrom, every}
-use Rattle.bucket_rules.specs.Geometry.{bucketsOf}
-use Rattle.bucket_rules.proofs.Buckets.{bucketsFrom, buckets-all, bucket-fails, bucket-passes, buckets-pass}
+use Rattle.table_rules.specs.Geometry.{bucketsOf}
+use Rattle.table_rules.proofs.Buckets.{bucketsFrom, buckets-all, bucket-fails, bucket-passes, buckets-pass}
 use Rattle.image_rules.specs.Bytes.{headerFields, headerBytes, sizesEnd}
 use Rattle.image_rules.specs.Read.{liveIn, slotsBefore, rowIn, bucketIn}
 use Rattle.image_fields.specs.SlotsRead.{slotsRead}

@@ -6,9 +6,9 @@ use mathlib.Core.List.{List}
 use native.Mathlib.Omega.{arith}
 use borrow.Author.Tests.{not-true, not-false}
 use Rattle.lists.specs.Lists.{every}
-use Rattle.bucket_rules.specs.Geometry.{bucketsOf}
-use Rattle.bucket_rules.specs.Checks.{sizePasses}
-use Rattle.bucket_rules.proofs.Buckets.{bucketsFrom, buckets-all, bucket-fails, bucket-passes, buckets-pass}
+use Rattle.table_rules.specs.Geometry.{bucketsOf}
+use Rattle.table_rules.specs.Checks.{sizePasses}
+use Rattle.table_rules.proofs.Buckets.{bucketsFrom, buckets-all, bucket-fails, bucket-passes, buckets-pass}
 use Rattle.image_rules.specs.Read.{builtIn, liveIn}
 use Rattle.image_read.proofs.Slots.{pair-inside}
 use Rattle.image_fields.proofs.each_size_passes.Statement.{statement}

@@ -5,7 +5,7 @@ use mathlib.Core.List.{map}
 use native.Mathlib.Numerals.{add-one}
 use native.Mathlib.Omega.{arith}
 use Rattle.lists.specs.Lists.{total, countFrom}
-use Rattle.bucket_rules.specs.Geometry.{bucketsOf}
+use Rattle.table_rules.specs.Geometry.{bucketsOf}
 use Rattle.image_rules.specs.Read.{liveIn}
 use Rattle.lists.proofs.Totals.{total-more}
 use Rattle.image_read.proofs.Slots.{pair-inside}

@@ -6,8 +6,8 @@ use borrow.Author.Needs.{needs}
 use borrow.Author.Tests.{not-true, not-false}
 use lib.Dec.{leb}
 use Rattle.lists.specs.Lists.{total}
-use Rattle.bucket_rules.specs.Geometry.{room, bucketsOf}
-use Rattle.bucket_rules.specs.Checks.{sizesPass}
+use Rattle.table_rules.specs.Geometry.{room, bucketsOf}
+use Rattle.table_rules.specs.Checks.{sizesPass}
 use Rattle.image_rules.specs.Read.{liveIn}
 use Rattle.image_fields.proofs.sizes_pass.Statement.{statement}
 use Rattle.image_fields.proofs.sizes_pass.Tie as tie

@@ -8,11 +8,11 @@ use borrow.Rule.Slice.PartMut.{putMid, same-len-mid}
 use lib.ListN.{length, take, drop, replicate, length-take, length-drop}
 use Rattle.lists.specs.Lists.{countFrom}
 use Rattle.metric_rules.specs.Row.{Row, zeroRow}
-use Rattle.bucket_rules.specs.Geometry.{room, firstSlot}
-use Rattle.bucket_rules.specs.Table.{Table, putSizes}
+use Rattle.table_rules.specs.Geometry.{room, firstSlot}
+use Rattle.table_rules.specs.Table.{Table, putSizes}
 use Rattle.image_rules.specs.Read.{rowIn, bucketIn}
 use Rattle.image_read.proofs.Slots.{length-counted, pair-inside, sizes-within, bucket-inside}
-use Rattle.buckets.proofs.Places.{sizes-inside, room-inside, room-given-back}
+use Rattle.table_buckets.proofs.Places.{sizes-inside, room-inside, room-given-back}
 use Rattle.image_fill.proofs.put_bucket.Statement.{statement}
 use Rattle.image_fill.proofs.put_bucket.Tie as tie
 

@@ -5,14 +5,14 @@ use mathlib.Core.List.{List, foldl}
 use native.Mathlib.Omega.{arith}
 use lib.ListN.{length}
 use Rattle.lists.specs.Lists.{total, countFrom}
-use Rattle.bucket_rules.specs.Geometry.{room, bucketsOf}
-use Rattle.bucket_rules.specs.Table.{Table, putBucket}
-use Rattle.bucket_rules.proofs.Buckets.{bucketsFrom, buckets-all, buckets-next, buckets-end}
+use Rattle.table_rules.specs.Geometry.{room, bucketsOf}
+use Rattle.table_rules.specs.Table.{Table, putBucket}
+use Rattle.table_rules.proofs.Buckets.{bucketsFrom, buckets-all, buckets-next, buckets-end}
 use Rattle.image_rules.specs.Read.{liveIn, slotsBefore, bucketIn}
 use Rattle.image_rules.proofs.Loaded.{length-bucket-in}
 use Rattle.image_read.proofs.Slots.{pair-inside, sizes-within, bucket-inside, before-more, few-slots, built-within}
-use Rattle.buckets.specs.Lent.{Lent}
-use Rattle.buckets.proofs.Places.{lent-put}
+use Rattle.table_buckets.specs.OfOrder.{OfOrder}
+use Rattle.table_buckets.proofs.Places.{lent-put}
 use Rattle.image_fill.proofs.put_buckets.Statement.{statement}
 use Rattle.image_fill.proofs.put_buckets.Tie as tie
 
@@ -21,7 +21,7 @@ put image u k = putBucket k (bucketIn image k) (liveIn image k) u
 
 abbrev Inv-loop : tie.InvT-loop
 Inv-loop table₀ order image tags records t first₀ k₀ table first k =
-    (k ≤ t + 1) × (length table ≡ length table₀) × (first ≡ slotsBefore image k) × Lent table t
+    (k ≤ t + 1) × (length table ≡ length table₀) × (first ≡ slotsBefore image k) × OfOrder table t
     × (foldl (put image) table (bucketsFrom t k) ≡ foldl (put image) table₀ (bucketsOf t))
 
 abbrev μ-loop : tie.MeasureT-loop

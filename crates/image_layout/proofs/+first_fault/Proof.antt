@@ -16,7 +16,7 @@ use Rattle.image_layout.proofs.first_fault.Reads as first-fault
 use Rattle.image_layout.proofs.first_fault.Kinds as first-fault-kinds
 use Rattle.image_layout.proofs.+first_fault.Lts-first_fault as first-fault-lts
 use Rattle.image_layout.proofs.arrange.Reads as arrange-reads
-use Rattle.image_layout.proofs.first_seated.Reads as first-seated-reads
+use Rattle.image_layout.proofs.first_in_place.Reads as first-in-place-reads
 use Rattle.image_layout.proofs.+first_fault.{statement}
 use Rattle.image_layout.proofs.+first_fault.Tie.{close}
 
@@ -32,7 +32,7 @@ first-fault-below t =
     and 3 first-fault-kinds.ps (falls 3 first-fault-kinds.ps _<_ μ-first-fault t) first-fault.Pre
 
 abbrev first-fault-callees : ℕ → first-fault-lts.Claims
-first-fault-callees t = (arrange-reads.Asked, arrange-reads.Learnt, first-seated-reads.Asked, first-seated-reads.Learnt, first-fault-below t, first-fault.Post)
+first-fault-callees t = (arrange-reads.Asked, arrange-reads.Learnt, first-in-place-reads.Asked, first-in-place-reads.Learnt, first-fault-below t, first-fault.Post)
 
 not-zero : (n : ℕ) → (n ≡ 0 → ⊥) → 1 ≤ n
 not-zero n f = omega arith
@@ -63,8 +63,8 @@ first-fault-arrange-requires t c κs =
     let s = c .before .before .before in
     (s .pre .1 .0, not-zero (length (s .args .entries .now)) (c .before .if1 .left), s .pre .1 .2)
 
-first-fault-first-seated-requires : (t : ℕ) → first-fault-lts.Need-first-seated-requires (first-fault-callees t) (first-fault-at t) first-fault.Post
-first-fault-first-seated-requires t c κs =
+first-fault-first-in-place-requires : (t : ℕ) → first-fault-lts.Need-first-in-place-requires (first-fault-callees t) (first-fault-at t) first-fault.Post
+first-fault-first-in-place-requires t c κs =
     let s = c .before .before .before .before .before .before in
     let p = prepared t (c .before .before) in
     (s .pre .1 .0, omega (arith, p .some, p .fits), omega (arith, p .some, p .kept))
@@ -76,7 +76,7 @@ first-fault-returns-2 : (t : ℕ) → first-fault-lts.Need-returns-2 (first-faul
 first-fault-returns-2 t c =
     let s = c .before .before .before .before .before .before .before .before in
     let p = prepared t (c .before .before .before .before) in
-    let q = c .before .first-seated in
+    let q = c .before .first-in-place in
     fault-first p (λ i h. slot-width (s .args .image .now) (s .args .at) i) (s .pre .1 .3) (q .result) (q .ensures) (not-true (q .result) (c .if2 .taken))
 
 first-fault-add-end : (t : ℕ) → first-fault-lts.Need-add-end (first-fault-callees t) (first-fault-at t) first-fault.Post
@@ -113,7 +113,7 @@ first-fault-returns-3 : (t : ℕ) → first-fault-lts.Need-returns-3 (first-faul
 first-fault-returns-3 t c =
     let s = c .before .before .before .before .before .before .before .before .before .before .before .before in
     let p = prepared t (c .before .before .before .before .before .before .before .before) in
-    let q = c .before .before .before .before .before .first-seated in
+    let q = c .before .before .before .before .before .first-in-place in
     let b = c .before .before .first-fault in
     fault-in-left p (λ i h. slot-width (s .args .image .now) (s .args .at) i) (s .pre .1 .3) (q .result) (q .ensures) (not-false (q .result) (c .before .before .before .before .if2 .left)) (b .result) (b .ensures) (c .if3 .taken)
 
@@ -160,7 +160,7 @@ first-fault-returns-4 : (t : ℕ) → first-fault-lts.Need-returns-4 (first-faul
 first-fault-returns-4 t c =
     let s = c .before .before .before .before .before .before .before .before .before .before .before .before .before .before .before in
     let p = prepared t (c .before .before .before .before .before .before .before .before .before .before .before) in
-    let q = c .before .before .before .before .before .before .before .before .first-seated in
+    let q = c .before .before .before .before .before .before .before .before .first-in-place in
     let b = c .before .before .before .before .before .first-fault in
     let d = c .before .first-fault2 in
     fault-in-right p (λ i h. slot-width (s .args .image .now) (s .args .at) i) (s .pre .1 .3) (q .result) (q .ensures) (not-false (q .result) (c .before .before .before .before .before .before .before .if2 .left)) (b .result) (b .ensures) (c .before .before .before .if3 .left)
@@ -172,7 +172,7 @@ pub +first-fault-spec : {M : Type 1} → statement M
     first-fault.Post
     (first-fault-returns t)
     (first-fault-arrange-requires t)
-    (first-fault-first-seated-requires t)
+    (first-fault-first-in-place-requires t)
     (first-fault-same-length t)
     (first-fault-returns-2 t)
     (first-fault-add-end t)

@@ -8,7 +8,7 @@ use lib.Dec.{leb, ltb}
 use lib.ListN.{length}
 use Rattle.lists.specs.Lists.{total}
 use Rattle.metric_rules.specs.Distance.{validSpace}
-use Rattle.bucket_rules.specs.Geometry.{validOrder}
+use Rattle.table_rules.specs.Geometry.{validOrder}
 use Rattle.image_rules.specs.Bytes.{headerFields, headerBytes}
 use Rattle.image_rules.specs.Read.{orderIn, spaceIn, zerosIn}
 use Rattle.image_load.specs.Steps.{headerBy, headerRefusal}
@@ -23,20 +23,20 @@ enough : (c : tie.Else1) → headerBytes ≤ length (c .before .before .before .
 unfolding headerBytes headerFields total
 enough c = leb-true 4 (length (c .before .before .before .args .image .now)) (long-tested (c .before) ∙ not-false (c .before .has-bytes .result) (c .if1 .left))
 
-long-told : (c : tie.Else1) → ltb (length (c .before .before .before .args .image .now)) headerBytes ≡ false
-long-told c = le-ltb (length (c .before .before .before .args .image .now)) headerBytes (enough c)
+long-known : (c : tie.Else1) → ltb (length (c .before .before .before .args .image .now)) headerBytes ≡ false
+long-known c = le-ltb (length (c .before .before .before .args .image .now)) headerBytes (enough c)
 
 order-tested : (c : tie.After-is-order) → validOrder (orderIn (c .before .before .before .before .before .args .image .now)) ≡ c .is-order .result
 order-tested c = sym (c .is-order .ensures ∙ ap validOrder (c .before .order-in .ensures))
 
-order-told : (c : tie.Else2) → validOrder (orderIn (c .before .before .before .before .before .before .args .image .now)) ≡ true
-order-told c = order-tested (c .before) ∙ not-false (c .before .is-order .result) (c .if2 .left)
+order-known : (c : tie.Else2) → validOrder (orderIn (c .before .before .before .before .before .before .args .image .now)) ≡ true
+order-known c = order-tested (c .before) ∙ not-false (c .before .is-order .result) (c .if2 .left)
 
 space-tested : (c : tie.After-valid-metric) → validSpace (spaceIn (c .before .before .before .before .before .before .before .before .args .image .now)) ≡ c .valid-metric .result
 space-tested c = sym (c .valid-metric .ensures ∙ ap (λ (m : ℕ). validSpace (record { metric = m })) (c .before .metric-in .ensures))
 
-space-told : (c : tie.Else3) → validSpace (spaceIn (c .before .before .before .before .before .before .before .before .before .args .image .now)) ≡ true
-space-told c = space-tested (c .before) ∙ not-false (c .before .valid-metric .result) (c .if3 .left)
+space-known : (c : tie.Else3) → validSpace (spaceIn (c .before .before .before .before .before .before .before .before .before .args .image .now)) ≡ true
+space-known c = space-tested (c .before) ∙ not-false (c .before .valid-metric .result) (c .if3 .left)
 
 returns : tie.Need-returns
 unfolding headerRefusal headerBy headerBytes headerFields total
@@ -50,7 +50,7 @@ order-in-requires c κs = enough c
 returns-2 : tie.Need-returns-2
 unfolding headerRefusal headerBy
 returns-2 c =
-    rw (long-told (c .before .before .before), order-tested (c .before) ∙ not-true (c .before .is-order .result) (c .if2 .taken)) refl
+    rw (long-known (c .before .before .before), order-tested (c .before) ∙ not-true (c .before .is-order .result) (c .if2 .taken)) refl
 
 metric-in-requires : tie.Need-metric-in-requires
 metric-in-requires c κs = enough (c .before .before .before)
@@ -58,7 +58,7 @@ metric-in-requires c κs = enough (c .before .before .before)
 returns-3 : tie.Need-returns-3
 unfolding headerRefusal headerBy
 returns-3 c =
-    rw (long-told (c .before .before .before .before .before .before), order-told (c .before .before .before), space-tested (c .before) ∙ not-true (c .before .valid-metric .result) (c .if3 .taken)) refl
+    rw (long-known (c .before .before .before .before .before .before), order-known (c .before .before .before), space-tested (c .before) ∙ not-true (c .before .valid-metric .result) (c .if3 .taken)) refl
 
 zeros-in-requires : tie.Need-zeros-in-requires
 zeros-in-requires c κs = enough (c .before .before .before .before .before .before)
@@ -67,13 +67,13 @@ returns-4 : tie.Need-returns-4
 unfolding headerRefusal headerBy
 returns-4 c =
     let image = c .before .before .before .before .before .before .before .before .before .before .before .args .image .now in
-    rw (long-told (c .before .before .before .before .before .before .before .before), order-told (c .before .before .before .before .before), space-told (c .before .before), ne-eqb (zerosIn image) 0 (λ e. c .if4 .taken (c .before .zeros-in .ensures ∙ e))) refl
+    rw (long-known (c .before .before .before .before .before .before .before .before), order-known (c .before .before .before .before .before), space-known (c .before .before), ne-eqb (zerosIn image) 0 (λ e. c .if4 .taken (c .before .zeros-in .ensures ∙ e))) refl
 
 returns-5 : tie.Need-returns-5
 unfolding headerRefusal headerBy
 returns-5 c =
     let image = c .before .before .before .before .before .before .before .before .before .before .before .args .image .now in
-    rw (long-told (c .before .before .before .before .before .before .before .before), order-told (c .before .before .before .before .before), space-told (c .before .before), eq-eqb (zerosIn image) 0 (sym (c .before .zeros-in .ensures) ∙ c .if4 .left)) refl
+    rw (long-known (c .before .before .before .before .before .before .before .before), order-known (c .before .before .before .before .before), space-known (c .before .before), eq-eqb (zerosIn image) 0 (sym (c .before .zeros-in .ensures) ∙ c .if4 .left)) refl
 
 pub header-refusal-spec : {M : Type 1} → statement M
 header-refusal-spec =

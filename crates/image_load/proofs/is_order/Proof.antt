@@ -1,9 +1,9 @@
 -- `image_load::is_order` meets its contract: an order is one that `Order::new` takes.
 use mathlib.Core.Path.{sym, ap, _∙_}
 use borrow.Author.Needs.{needs}
-use Rattle.bucket_rules.proofs.Buckets.{order-valid}
-use Rattle.order.specs.Answers.{answerOf}
-use Rattle.order.proofs.Orders.{is-order, no-order}
+use Rattle.table_rules.proofs.Buckets.{order-valid}
+use Rattle.table_order.specs.Answers.{answerOf}
+use Rattle.table_order.proofs.Orders.{is-order, no-order}
 use Rattle.image_load.proofs.is_order.Statement.{statement}
 use Rattle.image_load.proofs.is_order.Tie as tie
 

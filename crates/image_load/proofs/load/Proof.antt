@@ -5,10 +5,10 @@ use mathlib.Core.List.{foldl}
 use native.Mathlib.Omega.{arith}
 use borrow.Author.Needs.{needs}
 use lib.ListN.{length}
-use Rattle.bucket_rules.specs.Geometry.{bucketsOf}
-use Rattle.bucket_rules.specs.Table.{Table, putBucket}
-use Rattle.bucket_rules.specs.Fresh.{freshTable, tableAfterFresh}
-use Rattle.bucket_rules.proofs.Buckets.{order-most}
+use Rattle.table_rules.specs.Geometry.{bucketsOf}
+use Rattle.table_rules.specs.Table.{Table, putBucket}
+use Rattle.table_rules.specs.Fresh.{freshTable, tableAfterFresh}
+use Rattle.table_rules.proofs.Buckets.{order-most}
 use Rattle.image_rules.specs.Bytes.{headerBytes, sizesEnd, imageLength}
 use Rattle.image_rules.specs.Read.{orderIn, spaceIn, liveIn, bucketIn}
 use Rattle.image_rules.specs.Load.{loadRefusal}
@@ -50,15 +50,15 @@ slots-in-requires c κs =
 
 -- the table once it is fresh, and the places in the image
 module _ (c : tie.After-slots-in) where
-  fresh-told : c .before .before .before .before .fresh .last .0 ≡ freshTable (orderIn (c .before .before .before .before .before .before .before .before .before .before .before .args .image .now)) (spaceIn (c .before .before .before .before .before .before .before .before .before .before .before .args .image .now)) (c .before .before .before .before .before .before .before .before .before .before .before .args .table .now)
-  fresh-told =
+  fresh-known : c .before .before .before .before .fresh .last .0 ≡ freshTable (orderIn (c .before .before .before .before .before .before .before .before .before .before .before .args .image .now)) (spaceIn (c .before .before .before .before .before .before .before .before .before .before .before .args .image .now)) (c .before .before .before .before .before .before .before .before .before .before .before .args .table .now)
+  fresh-known =
       let a = c .before .before .before .before .before .before .before .before .before .before .before .args in
       c .before .before .before .before .fresh .ensures .1
       ∙ ap₂ (λ (o m : ℕ). tableAfterFresh o (record { metric = m }) (a .table .now)) (c .before .before .before .before .before .before .before .order-in .ensures) (c .before .before .before .before .before .metric-in .ensures)
       ∙ fresh-accepted (a .image .now) (a .table .now) (ok (c .before .before .before .before .before .before .before .before))
 
-  end-told : c .before .before .sizes-end .result ≡ sizesEnd (orderIn (c .before .before .before .before .before .before .before .before .before .before .before .args .image .now))
-  end-told = c .before .before .sizes-end .ensures ∙ ap sizesEnd (c .before .before .before .before .before .before .before .order-in .ensures)
+  end-known : c .before .before .sizes-end .result ≡ sizesEnd (orderIn (c .before .before .before .before .before .before .before .before .before .before .before .args .image .now))
+  end-known = c .before .before .sizes-end .ensures ∙ ap sizesEnd (c .before .before .before .before .before .before .before .order-in .ensures)
 
   few : c .slots-in .result ≤ 53248
   few =
@@ -71,7 +71,7 @@ mul-put-buckets c = omega (arith, few c)
 
 add-put-buckets : tie.Need-add-put-buckets
 unfolding imageLength
-add-put-buckets c = omega (arith, few c, end-told c, ok (c .before .before .before .before .before .before .before .before) .long)
+add-put-buckets c = omega (arith, few c, end-known c, ok (c .before .before .before .before .before .before .before .before) .long)
 
 put-buckets-requires : tie.Need-put-buckets-requires
 put-buckets-requires c κs =
@@ -79,9 +79,9 @@ put-buckets-requires c κs =
     let image = a .image .now in
     let o = ok (c .before .before .before .before .before .before .before .before) in
     let order = c .before .before .before .before .before .before .before .order-in .ensures in (
-      rw (order, fresh-told c) (fresh-lent image (a .table .now) o),
+      rw (order, fresh-known c) (fresh-lent image (a .table .now) o),
       order,
-      places image (c .before .before .sizes-end .result) (c .slots-in .result) (o .long) (end-told c) (c .slots-in .ensures),
+      places image (c .before .before .sizes-end .result) (c .slots-in .result) (o .long) (end-known c) (c .slots-in .ensures),
       rw order (o .sizes),
     )
 
@@ -93,7 +93,7 @@ returns-2 c =
       sym (goes (c .before .before .before .before .before .before .before .before .before .before)),
       load-puts image (a .table .now) (ok (c .before .before .before .before .before .before .before .before .before .before)) (goes (c .before .before .before .before .before .before .before .before .before .before)) _
           (c .before .put-buckets .ensures
-          ∙ ap₂ (λ (u : Table) (n : ℕ). foldl (λ v k. putBucket k (bucketIn image k) (liveIn image k) v) u (bucketsOf n)) (fresh-told at) (c .before .before .before .before .before .before .before .before .before .order-in .ensures)),
+          ∙ ap₂ (λ (u : Table) (n : ℕ). foldl (λ v k. putBucket k (bucketIn image k) (liveIn image k) v) u (bucketsOf n)) (fresh-known at) (c .before .before .before .before .before .before .before .before .before .order-in .ensures)),
     )
 
 pub load-spec : {M : Type 1} → statement M

@@ -6,10 +6,10 @@ use borrow.Author.Needs.{needs}
 use borrow.Author.Tests.{not-true, not-false}
 use Rattle.lists.specs.Lists.{every}
 use Rattle.metric_rules.specs.Distance.{Space, spaceOf}
-use Rattle.bucket_rules.specs.Geometry.{bucketsOf}
+use Rattle.table_rules.specs.Geometry.{bucketsOf}
 use Rattle.image_rules.specs.Read.{orderIn, spaceIn}
 use Rattle.image_fields.specs.SlotsRead.{slotsRead}
-use Rattle.image_test.specs.Standing.{bucketRead, slotsStand}
+use Rattle.image_test.specs.Trees.{bucketRead, treesValid}
 use Rattle.image_test.proofs.Checked.{slots-pass-parts}
 use Rattle.image_load.proofs.Loading.{header-space}
 use Rattle.image_load.proofs.slots_pass.Statement.{statement}
@@ -25,10 +25,10 @@ returns : tie.Need-returns
 returns c =
     let image = c .before .before .before .args .image .now in
     sym (slots-pass-parts image
-    ∙ ap (λ (x : Bool). x && slotsStand (spaceIn image) image) (read-tested (c .before) ∙ not-true (c .before .buckets-read .result) (c .if1 .taken)))
+    ∙ ap (λ (x : Bool). x && treesValid (spaceIn image) image) (read-tested (c .before) ∙ not-true (c .before .buckets-read .result) (c .if1 .taken)))
 
-slots-stand-requires : tie.Need-slots-stand-requires
-slots-stand-requires c κs =
+trees-valid-requires : tie.Need-trees-valid-requires
+trees-valid-requires c κs =
     let p = c .before .before .before .before .before .before .before .pre in
     (p .0, p .1, p .3, read-tested (c .before .before .before .before .before) ∙ not-false (c .before .before .before .before .before .buckets-read .result) (c .before .before .before .before .if1 .left))
 
@@ -38,10 +38,10 @@ returns-2 c =
     let made = c .before .before .header-row in
     let space : spaceOf (made .result) ≡ spaceIn image =
     ap spaceOf (made .ensures) ∙ header-space _ _ ∙ ap (λ (m : ℕ). record { metric = m }) (c .before .before .before .metric-in .ensures) in
-    c .slots-stand .ensures
-    ∙ ap (λ (s : Space). slotsStand s image) space
+    c .trees-valid .ensures
+    ∙ ap (λ (s : Space). treesValid s image) space
     ∙ sym (slots-pass-parts image
-    ∙ ap (λ (x : Bool). x && slotsStand (spaceIn image) image) (read-tested (c .before .before .before .before .before .before) ∙ not-false (c .before .before .before .before .before .before .buckets-read .result) (c .before .before .before .before .before .if1 .left)))
+    ∙ ap (λ (x : Bool). x && treesValid (spaceIn image) image) (read-tested (c .before .before .before .before .before .before) ∙ not-false (c .before .before .before .before .before .before .buckets-read .result) (c .before .before .before .before .before .if1 .left)))
 
 pub slots-pass-spec : {M : Type 1} → statement M
 slots-pass-spec =
@@ -50,5 +50,5 @@ slots-pass-spec =
     (λ c κs. search needs)
     returns
     (λ c κs. search needs) (λ c κs. search needs) (λ c κs. search needs)
-    slots-stand-requires
+    trees-valid-requires
     returns-2)

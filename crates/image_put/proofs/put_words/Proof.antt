@@ -6,7 +6,7 @@ use lib.ListN.{length, take, drop, length-take, length-drop}
 use lib.Seq.{sets}
 use Rattle.metric_rules.specs.Row.{rowWidth}
 use Rattle.metric_rules.proofs.Values.{is-row}
-use Rattle.bucket_rules.proofs.Windows.{window, window-getD}
+use Rattle.table_rules.proofs.Windows.{window, window-getD}
 use Rattle.image_rules.specs.Bytes.{bytesOf}
 use Rattle.image_rules.proofs.Bytes.{length-bytes}
 use Rattle.image_put.proofs.Stores.{Stored, none-stored, all-stored, more-stored}

@@ -47,7 +47,7 @@ use denote.Triple.Clauses.{Lasts, ensured, lasts}
 use denote.Triple.Table.{entered, cited}
 use denote.Triple.Walked.{says, needs, Stays, stay-dropped, walkOf, goes-dropped, Walks, ends-at, walked, walk-meets}
 use denote.Exit.{yes}
-use Rattle.walks.proofs.Lending.{lies-in, lies-out, tokens-for, tokens-back, Kept, over}
+use Rattle.loan_proofs.proofs.Lending.{lies-in, lies-out, tokens-for, tokens-back, Kept, over}
 use Rattle.image_rules.specs.Read.{numberAt}
 use Rattle.image_reader.specs.Moved.{movedOn}
 use Rattle.image_reader.specs.declared.Reader.{Reader}

@@ -5,7 +5,7 @@ use mathlib.Core.List.{List}
 use native.Mathlib.Omega.{arith}
 use lib.ListN.{length}
 use lib.Seq.{sets}
-use Rattle.bucket_rules.proofs.Passing.{slots-asked}
+use Rattle.table_rules.proofs.Passing.{slots-asked}
 use Rattle.image_rules.specs.Write.{tagsOf, recordsOf}
 use Rattle.image_put.proofs.Stores.{length-tags, length-records}
 use Rattle.image_write.proofs.Runs.{Stored, none-stored, all-stored, slots-fit, more-stored}

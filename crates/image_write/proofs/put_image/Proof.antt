@@ -7,8 +7,8 @@ use borrow.Author.Needs.{needs}
 use lib.ListN.{length}
 use lib.Seq.{sets}
 use Rattle.lists.specs.Lists.{total}
-use Rattle.bucket_rules.specs.Geometry.{headerRow}
-use Rattle.bucket_rules.specs.Table.{rowAt, orderOf, tableSpace, builtOf, liveOf}
+use Rattle.table_rules.specs.Geometry.{headerRow}
+use Rattle.table_rules.specs.Table.{rowAt, orderOf, tableSpace, builtOf, liveOf}
 use Rattle.image_rules.specs.Bytes.{headerFields, headerBytes, pairBytes, sizeBytes, sizesEnd}
 use Rattle.image_rules.specs.Write.{sizesOf, tagsOf, recordsOf, allSlots}
 use Rattle.image_put.proofs.Stores.{length-tags}

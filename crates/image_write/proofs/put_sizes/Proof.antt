@@ -7,8 +7,8 @@ use native.Mathlib.Omega.{arith}
 use lib.ListN.{length, length-append}
 use lib.Seq.{sets}
 use Rattle.lists.specs.Lists.{total, countFrom}
-use Rattle.bucket_rules.specs.Geometry.{bucketsOf}
-use Rattle.bucket_rules.specs.Table.{Table, builtOf, liveOf}
+use Rattle.table_rules.specs.Geometry.{bucketsOf}
+use Rattle.table_rules.specs.Table.{Table, builtOf, liveOf}
 use Rattle.image_rules.specs.Bytes.{bytesOf, headerFields, headerBytes, sizeBytes, pairBytes, sizesEnd}
 use Rattle.image_rules.specs.Write.{sizesOf}
 use Rattle.image_rules.proofs.Bytes.{length-bytes}

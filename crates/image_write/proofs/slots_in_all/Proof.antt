@@ -5,7 +5,7 @@ use mathlib.Core.List.{map}
 use native.Mathlib.Numerals.{add-one}
 use native.Mathlib.Omega.{arith}
 use Rattle.lists.specs.Lists.{total, countFrom}
-use Rattle.bucket_rules.specs.Table.{orderOf, builtOf}
+use Rattle.table_rules.specs.Table.{orderOf, builtOf}
 use Rattle.lists.proofs.Totals.{total-more}
 use Rattle.image_write.proofs.Runs.{sizes-in}
 use Rattle.image_write.proofs.Counts.{count-slots}

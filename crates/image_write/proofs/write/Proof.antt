@@ -3,7 +3,7 @@ use mathlib.Core.Path.{_∙_, refl, sym}
 use native.Mathlib.Omega.{arith}
 use borrow.Author.Needs.{needs}
 use Rattle.lists.specs.Lists.{total}
-use Rattle.bucket_rules.proofs.Passing.{read-passed}
+use Rattle.table_rules.proofs.Passing.{read-passed}
 use Rattle.image_rules.specs.Bytes.{headerFields, tagFields, recordFields, headerBytes, tagBytes, recordBytes, sizeBytes, pairBytes, sizesEnd, imageLength}
 use Rattle.image_rules.proofs.Lengths.{length-image}
 use Rattle.image_write.proofs.Runs.{sizes-in}

@@ -6,9 +6,9 @@ use borrow.Author.Tests.{not-true, not-false, lt-leb, le-leb}
 use mathlib.Core.Path.{_≡_, sym, _∙_, ap}
 use mathlib.Core.Bool.{Bool, true, false}
 use lib.Dec.{leb}
-use Rattle.bucket_rules.specs.Geometry.{workRows}
-use Rattle.bucket_rules.specs.Table.{Table, orderOf, builtOf, liveOf}
-use Rattle.bucket_rules.specs.Checks.{sizesPass, marksPass}
+use Rattle.table_rules.specs.Geometry.{workRows}
+use Rattle.table_rules.specs.Table.{Table, orderOf, builtOf, liveOf}
+use Rattle.table_rules.specs.Checks.{sizesPass, marksPass}
 use Rattle.table_checks.specs.Frame.{frameRefusal}
 use Rattle.table_checks.proofs.Framing.{some-rows, framed, sizes-asked, frame-stops, area-stops, sizes-stop, sound-decides}
 use borrow.Author.Needs.{needs}
@@ -33,19 +33,19 @@ order-in-requires c κs = some-rows (c .before .before .args .table .now) (stand
 work-rows-requires : tie.Need-work-rows-requires
 work-rows-requires c κs = omega (arith, c .order-in .ensures, framed (c .before .before .before .args .table .now) (stands (c .before)) .order)
 
-work-told : (c : tie.After-work-rows) → c .work-rows .result ≡ workRows (orderOf (c .before .before .before .before .args .table .now))
-work-told c = c .work-rows .ensures ∙ ap workRows (c .before .order-in .ensures)
+work-known : (c : tie.After-work-rows) → c .work-rows .result ≡ workRows (orderOf (c .before .before .before .before .args .table .now))
+work-known c = c .work-rows .ensures ∙ ap workRows (c .before .order-in .ensures)
 
-room-told : (c : tie.Else2) → let a = c .before .before .before .before .before .args in roomy (a .rows) (a .table .now) ≡ true
-room-told c =
+room-known : (c : tie.Else2) → let a = c .before .before .before .before .before .args in roomy (a .rows) (a .table .now) ≡ true
+room-known c =
     let a = c .before .before .before .before .before .args in
-    le-leb (workRows (orderOf (a .table .now))) (a .rows) (omega (arith, work-told (c .before)))
+    le-leb (workRows (orderOf (a .table .now))) (a .rows) (omega (arith, work-known (c .before)))
 
 returns-2 : tie.Need-returns-2
 returns-2 c =
     let at = c .before .before .before in
     let a = at .before .before .args in
-    sym (area-stops (roomy (a .rows)) marksPass (a .table .now) (stands at) (lt-leb (workRows (orderOf (a .table .now))) (a .rows) (omega (arith, work-told (c .before)))))
+    sym (area-stops (roomy (a .rows)) marksPass (a .table .now) (stands at) (lt-leb (workRows (orderOf (a .table .now))) (a .rows) (omega (arith, work-known (c .before)))))
 
 sizes-pass-requires : tie.Need-sizes-pass-requires
 sizes-pass-requires c κs =
@@ -66,7 +66,7 @@ returns-3 : tie.Need-returns-3
 returns-3 c =
     let at = c .before .before .before .before .before in
     let a = at .before .before .args in
-    sym (sizes-stop (roomy (a .rows)) marksPass (a .table .now) (stands at) (room-told (c .before .before)) (sizes-tested (c .before) ∙ not-true (c .before .sizes-pass .result) (c .if3 .taken)))
+    sym (sizes-stop (roomy (a .rows)) marksPass (a .table .now) (stands at) (room-known (c .before .before)) (sizes-tested (c .before) ∙ not-true (c .before .sizes-pass .result) (c .if3 .taken)))
 
 marks-pass-requires : tie.Need-marks-pass-requires
 marks-pass-requires c κs =
@@ -77,14 +77,14 @@ returns-4 : tie.Need-returns-4
 returns-4 c =
     let at = c .before .before .before .before .before .before .before in
     let a = at .before .before .args in
-    sym (sound-decides (roomy (a .rows)) marksPass (a .table .now) false (stands at) (room-told (c .before .before .before .before)) (sizes-passed (c .before .before))
+    sym (sound-decides (roomy (a .rows)) marksPass (a .table .now) false (stands at) (room-known (c .before .before .before .before)) (sizes-passed (c .before .before))
     (sym (c .before .marks-pass .ensures) ∙ not-true (c .before .marks-pass .result) (c .if4 .taken)))
 
 returns-5 : tie.Need-returns-5
 returns-5 c =
     let at = c .before .before .before .before .before .before .before in
     let a = at .before .before .args in
-    sym (sound-decides (roomy (a .rows)) marksPass (a .table .now) true (stands at) (room-told (c .before .before .before .before)) (sizes-passed (c .before .before))
+    sym (sound-decides (roomy (a .rows)) marksPass (a .table .now) true (stands at) (room-known (c .before .before .before .before)) (sizes-passed (c .before .before))
     (sym (c .before .marks-pass .ensures) ∙ not-false (c .before .marks-pass .result) (c .if4 .left)))
 
 pub change-refusal-spec : {M : Type 1} → statement M

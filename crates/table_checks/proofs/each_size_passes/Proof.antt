@@ -6,10 +6,10 @@ use borrow.Author.Tests.{not-true, not-false}
 use mathlib.Core.Path.{_≡_, sym, _∙_, ap, ap₂}
 use mathlib.Core.Bool.{Bool}
 use Rattle.lists.specs.Lists.{every}
-use Rattle.bucket_rules.specs.Geometry.{bucketsOf, sizesRow}
-use Rattle.bucket_rules.specs.Table.{Table, builtOf, liveOf}
-use Rattle.bucket_rules.specs.Checks.{sizePasses}
-use Rattle.bucket_rules.proofs.Buckets.{bucketsFrom, buckets-all, bucket-fails, bucket-passes, buckets-pass}
+use Rattle.table_rules.specs.Geometry.{bucketsOf, sizesRow}
+use Rattle.table_rules.specs.Table.{Table, builtOf, liveOf}
+use Rattle.table_rules.specs.Checks.{sizePasses}
+use Rattle.table_rules.proofs.Buckets.{bucketsFrom, buckets-all, bucket-fails, bucket-passes, buckets-pass}
 use Rattle.table_checks.proofs.each_size_passes.Statement.{statement}
 use Rattle.table_checks.proofs.each_size_passes.Tie as tie
 

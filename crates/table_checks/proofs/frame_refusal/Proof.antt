@@ -7,11 +7,11 @@ use mathlib.Core.Path.{_≡_, sym, _∙_, ap}
 use mathlib.Core.Bool.{true, false}
 use lib.ListN.{length}
 use Rattle.metric_rules.specs.Distance.{validSpace}
-use Rattle.bucket_rules.specs.Geometry.{validOrder, headerRow, tableRows}
-use Rattle.bucket_rules.specs.Table.{rowAt, orderOf, tableSpace}
-use Rattle.bucket_rules.proofs.Buckets.{order-valid}
-use Rattle.order.specs.Answers.{answerOf}
-use Rattle.order.proofs.Orders.{is-order, no-order}
+use Rattle.table_rules.specs.Geometry.{validOrder, headerRow, tableRows}
+use Rattle.table_rules.specs.Table.{rowAt, orderOf, tableSpace}
+use Rattle.table_rules.proofs.Buckets.{order-valid}
+use Rattle.table_order.specs.Answers.{answerOf}
+use Rattle.table_order.proofs.Orders.{is-order, no-order}
 use Rattle.table_checks.proofs.Framing.{no-rows, space-breaks, order-breaks, too-short, frame-stands}
 use borrow.Author.Needs.{needs}
 use Rattle.table_checks.proofs.frame_refusal.Statement.{statement}
@@ -27,11 +27,11 @@ space-passed :
     (c : tie.Else2) → validSpace (tableSpace (c .before .before .before .before .args .table .now)) ≡ true
 space-passed c = space-tested (c .before) ∙ not-false (c .before .valid-space .result) (c .if2 .left)
 
-order-told :
+order-known :
     (c : tie.After-order)
     → (c .order .given .0 .0 .t ≡ orderOf (c .before .before .before .before .before .before .before .before .args .table .now))
     × (orderOf (c .before .before .before .before .before .before .before .before .args .table .now) ≤ 12)
-order-told c =
+order-known c =
     let n = c .before .before .before .order-of in
     let is = is-order (c .order .given .0 .0) (n .result) (ap answerOf (sym (c .order .given .1)) ∙ c .before .before .new .ensures) in
     (is .0 ∙ n .ensures, omega (arith, is .1, n .ensures))
@@ -45,7 +45,7 @@ returns-2 c =
     sym (space-breaks t (omega (arith, c .before .before .before .if1 .left)) (space-tested (c .before) ∙ not-true (c .before .valid-space .result) (c .if2 .taken)))
 
 table-rows-requires : tie.Need-table-rows-requires
-table-rows-requires c κs = omega (arith, order-told (c .before))
+table-rows-requires c κs = omega (arith, order-known (c .before))
 
 returns-3 : tie.Need-returns-3
 returns-3 c =
@@ -59,9 +59,9 @@ returns-4 : tie.Need-returns-4
 returns-4 c =
     let at = c .before .before .before in
     let t = at .before .before .before .before .before .before .before .before .args .table .now in
-    let told : (at .order .given .0 .0 .t ≡ orderOf t) × (orderOf t ≤ 12) = order-told at in
-    let rows : tableRows (orderOf t) ≡ c .before .table-rows .result = sym (c .before .table-rows .ensures ∙ ap tableRows (told .0)) in
-    sym (too-short t (omega (arith, at .before .before .before .before .before .before .before .if1 .left)) (order-valid (orderOf t) (told .1))
+    let known : (at .order .given .0 .0 .t ≡ orderOf t) × (orderOf t ≤ 12) = order-known at in
+    let rows : tableRows (orderOf t) ≡ c .before .table-rows .result = sym (c .before .table-rows .ensures ∙ ap tableRows (known .0)) in
+    sym (too-short t (omega (arith, at .before .before .before .before .before .before .before .if1 .left)) (order-valid (orderOf t) (known .1))
     (space-passed (at .before .before .before .before))
     (lt-leb (tableRows (orderOf t)) (length t) (omega arith)))
 
@@ -69,9 +69,9 @@ returns-5 : tie.Need-returns-5
 returns-5 c =
     let at = c .before .before .before in
     let t = at .before .before .before .before .before .before .before .before .args .table .now in
-    let told : (at .order .given .0 .0 .t ≡ orderOf t) × (orderOf t ≤ 12) = order-told at in
-    let rows : tableRows (orderOf t) ≡ c .before .table-rows .result = sym (c .before .table-rows .ensures ∙ ap tableRows (told .0)) in
-    sym (frame-stands t (omega (arith, at .before .before .before .before .before .before .before .if1 .left)) (order-valid (orderOf t) (told .1))
+    let known : (at .order .given .0 .0 .t ≡ orderOf t) × (orderOf t ≤ 12) = order-known at in
+    let rows : tableRows (orderOf t) ≡ c .before .table-rows .result = sym (c .before .table-rows .ensures ∙ ap tableRows (known .0)) in
+    sym (frame-stands t (omega (arith, at .before .before .before .before .before .before .before .if1 .left)) (order-valid (orderOf t) (known .1))
     (space-passed (at .before .before .before .before))
     (le-leb (tableRows (orderOf t)) (length t) (omega arith)))
 

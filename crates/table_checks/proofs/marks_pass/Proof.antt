@@ -6,11 +6,11 @@ use borrow.Author.Tests.{not-true, not-false}
 use mathlib.Core.Path.{_≡_, sym, _∙_, ap, ap₂}
 use mathlib.Core.Bool.{Bool}
 use Rattle.lists.specs.Lists.{every}
-use Rattle.bucket_rules.specs.Geometry.{bucketsOf}
-use Rattle.bucket_rules.specs.Table.{Table, orderOf, liveOf, slotsOf, liveSlots}
-use Rattle.bucket_rules.specs.Checks.{marksPass}
-use Rattle.bucket_rules.proofs.Buckets.{bucketsFrom, buckets-all, bucket-fails, bucket-passes, buckets-pass}
-use Rattle.bucket_rules.proofs.Passing.{sizes-inside, slots-asked}
+use Rattle.table_rules.specs.Geometry.{bucketsOf}
+use Rattle.table_rules.specs.Table.{Table, orderOf, liveOf, slotsOf, liveSlots}
+use Rattle.table_rules.specs.Checks.{marksPass}
+use Rattle.table_rules.proofs.Buckets.{bucketsFrom, buckets-all, bucket-fails, bucket-passes, buckets-pass}
+use Rattle.table_rules.proofs.Passing.{sizes-inside, slots-asked}
 use Rattle.table_checks.specs.Frame.{slotsMarked}
 use borrow.Author.Needs.{needs}
 use Rattle.table_checks.proofs.marks_pass.Statement.{statement}

@@ -4,8 +4,8 @@ use Prim.Native.Nat.{ℕ}
 use borrow.Author.Tests.{not-true, not-false}
 use mathlib.Core.Path.{_≡_, refl, sym, _∙_, ap}
 use mathlib.Core.Bool.{Bool, true}
-use Rattle.bucket_rules.specs.Table.{Table, orderOf, builtOf, liveOf}
-use Rattle.bucket_rules.specs.Checks.{sizesPass, readRefusal}
+use Rattle.table_rules.specs.Table.{Table, orderOf, builtOf, liveOf}
+use Rattle.table_rules.specs.Checks.{sizesPass, readRefusal}
 use Rattle.table_checks.specs.Frame.{frameRefusal}
 use Rattle.table_checks.proofs.Framing.{some-rows, sizes-asked, frame-stops, sizes-stop, sound-decides}
 use borrow.Author.Needs.{needs}

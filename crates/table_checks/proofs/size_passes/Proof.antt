@@ -4,7 +4,7 @@ use Prim.Native.Nat.{ℕ, _*_}
 use mathlib.Core.Path.{ap}
 use mathlib.Core.Bool.{_&&_, _||_}
 use lib.Dec.{leb, ltb, eqb}
-use Rattle.bucket_rules.specs.Checks.{sizePasses}
+use Rattle.table_rules.specs.Checks.{sizePasses}
 use borrow.Author.Needs.{needs}
 use Rattle.table_checks.proofs.size_passes.Statement.{statement}
 use Rattle.table_checks.proofs.size_passes.Tie as tie

@@ -6,9 +6,9 @@ use mathlib.Core.Bool.{Bool, _&&_}
 use mathlib.Core.List.{map}
 use lib.Dec.{leb}
 use Rattle.lists.specs.Lists.{total}
-use Rattle.bucket_rules.specs.Geometry.{room, bucketsOf}
-use Rattle.bucket_rules.specs.Table.{liveOf}
-use Rattle.bucket_rules.specs.Checks.{sizesPass}
+use Rattle.table_rules.specs.Geometry.{room, bucketsOf}
+use Rattle.table_rules.specs.Table.{liveOf}
+use Rattle.table_rules.specs.Checks.{sizesPass}
 use borrow.Author.Needs.{needs}
 use Rattle.table_checks.proofs.sizes_pass.Statement.{statement}
 use Rattle.table_checks.proofs.sizes_pass.Tie as tie

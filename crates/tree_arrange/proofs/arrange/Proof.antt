@@ -14,7 +14,7 @@ use Rattle.lists.proofs.Tests.{every-all}
 use Rattle.metric_rules.specs.Row.{Row}
 use Rattle.metric_rules.specs.Distance.{Space, distance, spaceOf}
 use Rattle.tree_rules.specs.Sorting.{keyLe, sortBy}
-use Rattle.working_rows.specs.Working.{workKey, firstKey, RanksApart, measuredFrom, sortedFrom, arranged}
+use Rattle.tree_rows.specs.Working.{workKey, firstKey, RanksApart, measuredFrom, sortedFrom, arranged}
 use Rattle.tree_rules.proofs.Sorting.{NotAfter}
 use Rattle.tree_rules.proofs.Parts.{part-rest, put-rest, part-behind, put-behind}
 use Rattle.tree_rules.proofs.Brought.{brought, brought-perm, brought-first}

@@ -16,7 +16,7 @@ use Rattle.lists.proofs.Lists.{all-append, all-weaken}
 use Rattle.lists.proofs.Tests.{all-every}
 use Rattle.metric_rules.specs.Row.{Row}
 use Rattle.tree_rules.specs.Sorting.{keyLe}
-use Rattle.working_rows.specs.Working.{firstKey}
+use Rattle.tree_rows.specs.Working.{firstKey}
 use Rattle.tree_rules.proofs.Sorting.{key-le-refl, key-le-trans, key-le-flip}
 use Rattle.tree_arrange.proofs.first_at.Statement.{statement}
 use Rattle.tree_arrange.proofs.first_at.Tie as tie
@@ -50,17 +50,17 @@ abbrev μ-loop : tie.MeasureT-loop
 loop-holds : tie.Need-loop-holds Inv-loop μ-loop
 loop-holds c = (omega arith, c .pre, least-one (c .args .rows .now) (c .pre))
 
-mul-no-later : tie.Need-mul-no-later Inv-loop μ-loop
-mul-no-later c = omega arith
+mul-tag-le : tie.Need-mul-tag-le Inv-loop μ-loop
+mul-tag-le c = omega arith
 
-shared-slice-copy-out-no-later : tie.Need-shared-slice-copy-out-no-later Inv-loop μ-loop
-shared-slice-copy-out-no-later c = omega arith
+shared-slice-copy-out-tag-le : tie.Need-shared-slice-copy-out-tag-le Inv-loop μ-loop
+shared-slice-copy-out-tag-le c = omega arith
 
-mul-no-later-2 : tie.Need-mul-no-later-2 Inv-loop μ-loop
-mul-no-later-2 c = omega arith
+mul-tag-le-2 : tie.Need-mul-tag-le-2 Inv-loop μ-loop
+mul-tag-le-2 c = omega arith
 
-shared-slice-copy-out-no-later-2 : tie.Need-shared-slice-copy-out-no-later-2 Inv-loop μ-loop
-shared-slice-copy-out-no-later-2 c = omega arith
+shared-slice-copy-out-tag-le-2 : tie.Need-shared-slice-copy-out-tag-le-2 Inv-loop μ-loop
+shared-slice-copy-out-tag-le-2 c = omega arith
 
 add-i : tie.Need-add-i Inv-loop μ-loop
 add-i c = omega arith
@@ -78,13 +78,13 @@ loop-again c =
       omega (arith, w .1),
       omega arith,
       subst (λ (n : ℕ). Least rows n (l .i + 1)) (sym (w .1))
-          (least-moved rows (l .at) (l .i) h (l .inv .2) (sym (c .before .no-later .ensures) ∙ not-true (c .before .no-later .result) (w .0 .taken))),
+          (least-moved rows (l .at) (l .i) h (l .inv .2) (sym (c .before .tag-le .ensures) ∙ not-true (c .before .tag-le .result) (w .0 .taken))),
     ))
     (λ w. (
       omega (arith, w .1),
       omega arith,
       subst (λ (n : ℕ). Least rows n (l .i + 1)) (sym (w .1))
-          (least-with rows (l .at) (l .i) h (l .inv .2) (sym (c .before .no-later .ensures) ∙ not-false (c .before .no-later .result) (w .0 .left))),
+          (least-with rows (l .at) (l .i) h (l .inv .2) (sym (c .before .tag-le .ensures) ∙ not-false (c .before .tag-le .result) (w .0 .left))),
     ))
     (c .if1 .came)
 
@@ -104,10 +104,10 @@ first-at-spec =
     Inv-loop
     μ-loop
     loop-holds
-    mul-no-later
-    shared-slice-copy-out-no-later
-    mul-no-later-2
-    shared-slice-copy-out-no-later-2
+    mul-tag-le
+    shared-slice-copy-out-tag-le
+    mul-tag-le-2
+    shared-slice-copy-out-tag-le-2
     (λ c κs. search needs)
     add-i
     loop-less

@@ -9,7 +9,7 @@ use lib.ListN.{length, length-map, getD, set, length-set}
 use Rattle.metric_rules.specs.Row.{Row, profileOf}
 use Rattle.metric_rules.specs.Distance.{Space, distance, spaceOf}
 use Rattle.tree_rules.specs.Guided.{fromSlot}
-use Rattle.working_rows.specs.Working.{measuredFrom}
+use Rattle.tree_rows.specs.Working.{measuredFrom}
 use Rattle.tree_rules.proofs.Parts.{writtenTo, written-at, written-step, written-all, getD-mapped}
 use Rattle.tree_arrange.proofs.measure.Statement.{statement}
 use Rattle.tree_arrange.proofs.measure.Tie as tie

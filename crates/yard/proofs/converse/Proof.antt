@@ -5,7 +5,7 @@ use native.Mathlib.Omega.{arith}
 use lib.ListN.{length, take, length-take}
 use lib.Seq.{length-take-le}
 use borrow.Author.Needs.{needs}
-use Rattle.yard_answer.specs.Lent.{lent}
+use Rattle.yard_command.specs.Lent.{lent}
 use Rattle.yard.proofs.Reached.{Reached, nothing-taken, piece-taken}
 use Rattle.yard.proofs.converse.Statement.{statement}
 use Rattle.yard.proofs.converse.Tie as tie

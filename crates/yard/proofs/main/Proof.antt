@@ -1,9 +1,9 @@
 -- `yard::main` lends areas that are long enough for every order that the program takes.
 use native.Mathlib.Omega.{arith}
 use borrow.Author.Needs.{needs}
-use Rattle.bucket_rules.specs.Geometry.{room, firstSlot, tableRows, workRows}
-use Rattle.yard_rules.specs.Spoken.{mostYardOrder}
-use Rattle.yard_answer.specs.Lent.{lent}
+use Rattle.table_rules.specs.Geometry.{room, firstSlot, tableRows, workRows}
+use Rattle.yard_rules.specs.Conversation.{mostYardOrder}
+use Rattle.yard_command.specs.Lent.{lent}
 use Rattle.yard.proofs.main.Statement.{statement}
 use Rattle.yard.proofs.main.Tie as tie
 

@@ -4,7 +4,7 @@ use mathlib.Core.Path.{_≡_, refl}
 use native.Mathlib.Omega.{arith}
 use lib.ListN.{length}
 use borrow.Author.Needs.{needs}
-use Rattle.yard_answer.specs.Lent.{lent}
+use Rattle.yard_command.specs.Lent.{lent}
 use Rattle.yard_session.specs.Fed.{stretch}
 use Rattle.yard.proofs.Reached.{Leads, no-bytes, more-bytes, all-bytes}
 use Rattle.yard.proofs.take_piece.Statement.{statement}

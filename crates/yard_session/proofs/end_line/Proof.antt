@@ -1,7 +1,7 @@
 -- `yard_session::end_line` meets its contract: the line that is held is answered as the pending one.
 use mathlib.Core.Path.{refl}
 use denote.Ref.{now}
-use Rattle.yard_answer.specs.Lent.{lent}
+use Rattle.yard_command.specs.Lent.{lent}
 use Rattle.yard_session.proofs.Standing.{line-taken}
 use borrow.Author.Needs.{needs}
 use Rattle.yard_session.proofs.end_line.Statement.{statement}
@@ -11,7 +11,7 @@ returns : tie.Need-returns
 returns c =
     let a = c .before .before .before .before .before .before .before .before .before .before .before .before .before .before .args in
     let h = c .before .before .before .before .before .before .before .before .before .before .before .held-line in
-    let t = c .before .before .before .before .before .before .talk in (
+    let t = c .before .before .before .before .before .before .step in (
       (refl, refl, t .ensures .text-is .2),
       λ m st. line-taken (now (h .result)) (lent (t .last .0) (t .last .1 .0) (t .last .1 .1 .0)) (a .out .now) (t .last .1 .1 .1 .0) (t .result) (a .next) st (h .ensures .1 (m .pending) (st .line-is)) (t .ensures),
     )

@@ -1,6 +1,6 @@
 -- `yard_session::take_line` meets its contract: the bytes up to the line feed go to the pending line, and the line feed ends it.
 use native.Mathlib.Omega.{arith}
-use Rattle.yard_answer.specs.Lent.{lent}
+use Rattle.yard_command.specs.Lent.{lent}
 use Rattle.yard_session.proofs.Standing.{piece-ends, line-ends}
 use borrow.Author.Needs.{needs}
 use Rattle.yard_session.proofs.take_line.Statement.{statement}

@@ -1,3 +1,0 @@
--- The buckets' turns, one after the other, are the table's search, and what they leave is the reply.
-mod Turns
-mod Replying

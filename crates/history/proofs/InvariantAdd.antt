@@ -1,0 +1,143 @@
+-- An accepted add keeps the invariant, and its live items are the new one and those before, permuted: a rebuild of the buckets below the lowest empty
+-- one, with the new row.
+use Prim.Native.Nat.{ℕ, zero, suc, _^_, _<_}
+use mathlib.Core.Path.{_≡_, refl, sym, _∙_, ap₂}
+use mathlib.Core.Bool.{Bool, true, false, _&&_}
+use mathlib.Core.List.{List, [], _∷_, _++_, map, List·Permᴰ}
+use native.Mathlib.Omega.{arith}
+use lib.Dec.{leb}
+use lib.ListN.{length}
+use borrow.Author.Tests.{leb-false}
+use Rattle.lists.specs.Lists.{countFrom, distinct, All}
+use Rattle.lists.proofs.Lists.{all-map, all-weaken}
+use Rattle.lists.proofs.Tests.{and-pass}
+use Rattle.lists.proofs.Distinct.{distinct-pairs, pairs-distinct}
+use Rattle.metric_rules.specs.declared.Profile.{Profile}
+use Rattle.metric_rules.specs.Row.{Row, IsRow, IsProfile, rowOf, tagOf, profileOf}
+use Rattle.metric_rules.specs.Validity.{validTag, validMeasures}
+use Rattle.metric_rules.proofs.Codec.{tag-of-row, profile-of-row, row-fits}
+use Rattle.tree_rules.specs.Layout.{placed}
+use Rattle.table_rules.specs.Refusals.{badTag, badMeasure, alreadyLive, full}
+use Rattle.table_rules.specs.Geometry.{room}
+use Rattle.table_rules.specs.Table.{Table, orderOf, builtOf, liveOf, liveTotal}
+use Rattle.table_rules.specs.Checks.{changeRefusal}
+use Rattle.table_rules.specs.LookUp.{isLiveTag}
+use Rattle.table_rules.specs.Rebuild.{liveItems, rebuilt}
+use Rattle.table_rules.specs.Add.{addRefusal, lowestEmpty, gathered, addTarget, added}
+use Rattle.table_rules.proofs.Views.{Only, same-order}
+use Rattle.table_rules.proofs.ByNumber.{count-apart}
+use Rattle.table_rules.proofs.Live.{allLive, rebuilt-only}
+use Rattle.table_rules.proofs.Finding.{no-live-tag}
+use Rattle.table_rules.proofs.Sizes.{sizes-at}
+use Rattle.table_rules.proofs.Adding.{Target, gathered-buckets, add-target}
+use Rattle.history.proofs.Invariant.{Invariant}
+use Rattle.history.proofs.ByBucket.{ByBucket, by-bucket-roomy}
+use Rattle.history.proofs.InvariantForms.{by-bucket-invariant, by-bucket-total, invariant-lives, invariant-by-bucket}
+use Rattle.history.proofs.Rebuilding.{validRow, rebuilt-by-bucket, rebuilt-sizes, rebuilt-live, rebuilt-once, rebuilt-number}
+
+-- what an accepted add was asked
+pub record Addable (t : Table) (tag : ℕ) (p : Profile) : Type 0 where
+  pub validated : validTag tag ≡ true
+  pub measures : validMeasures p ≡ true
+  pub new : isLiveTag t tag ≡ false
+  pub notFull : liveTotal t < room (orderOf t)
+
+pub addable : (t : Table) (work : List Row) (tag : ℕ) (p : Profile) → addRefusal t work tag p ≡ 0 → Addable t tag p
+unfolding addRefusal
+addable t work tag p h =
+    go (changeRefusal work t) (validTag tag) refl (validMeasures p) refl (isLiveTag t tag) refl (leb (room (orderOf t)) (liveTotal t)) refl h
+  where
+    go :
+        (c : ℕ) (a : Bool) → validTag tag ≡ a → (b : Bool) → validMeasures p ≡ b → (l : Bool) → isLiveTag t tag ≡ l → (f : Bool)
+        → leb (room (orderOf t)) (liveTotal t) ≡ f
+        → _≡_ {A = ℕ} (elim c [
+          | suc n ↦ suc n
+          | zero ↦
+              elim a [
+                | false ↦ badTag
+                | true ↦ elim b [ false ↦ badMeasure | true ↦ elim l [ true ↦ alreadyLive | false ↦ elim f [ true ↦ full | false ↦ 0 ] ] ]
+              ]
+        ]) 0
+        → Addable t tag p
+    go (suc n) a ea b eb l el f ef h = absurd (omega arith)
+    go zero false ea b eb l el f ef h = absurd (omega arith)
+    go zero true ea false eb l el f ef h = absurd (omega arith)
+    go zero true ea true eb true el f ef h = absurd (omega arith)
+    go zero true ea true eb false el true ef h = absurd (omega arith)
+    go zero true ea true eb false el false ef h = record { validated = ea; measures = eb; new = el; notFull = leb-false (room (orderOf t)) (liveTotal t) ef }
+
+-- the row that an add stores
+module _ (tag : ℕ) (p : Profile) (isProfile : IsProfile p) where
+  pub new-item : {B : Type 0} (f : ℕ → Profile → B) → f (tagOf (rowOf tag p 0 0)) (profileOf (rowOf tag p 0 0)) ≡ f tag p
+  new-item f = ap₂ f (tag-of-row tag p 0 0) (profile-of-row tag p 0 0 isProfile)
+
+  new-valid : validTag tag ≡ true → validMeasures p ≡ true → validRow (rowOf tag p 0 0) ≡ true
+  unfolding validRow
+  new-valid a b = new-item (λ n q. validTag n && validMeasures q) ∙ and-pass (validTag tag) (validMeasures p) a b
+
+module _ {t : Table} (invariant : Invariant t) (tag : ℕ) (p : Profile) (fits : tag < 2 ^ 64) (isProfile : IsProfile p) (ok : Addable t tag p) where
+  abbrev new : List Row
+  new = rowOf tag p 0 0 ∷ []
+
+  abbrev below : List ℕ
+  below = countFrom 0 (lowestEmpty t)
+
+  target : Target t below (addTarget t tag p) (length (new ++ liveItems t below))
+  unfolding gathered
+  target = add-target t (invariant .sizes) (invariant-lives invariant) tag p (ok .notFull)
+
+  new-rows : All IsRow new
+  new-rows = (row-fits tag p 0 0 isProfile fits (omega arith) (omega arith), tt)
+
+  new-once : distinct (map tagOf (new ++ allLive t)) ≡ true
+  unfolding allLive
+  new-once =
+      pairs-distinct (map tagOf (new ++ allLive t)) (
+        all-map tagOf (λ n. tagOf (rowOf tag p 0 0) ≡ n → ⊥) (allLive t)
+            (all-weaken (λ r a e. a (sym e ∙ tag-of-row tag p 0 0)) (allLive t) (no-live-tag t tag (ok .new))),
+        distinct-pairs (map tagOf (allLive t)) (invariant .once),
+      )
+
+  added-steps : added t tag p .table ≡ rebuilt t below (addTarget t tag p) (new ++ liveItems t below) .table
+  unfolding added gathered
+  added-steps = refl
+
+  abbrev after : Table
+  after = rebuilt t below (addTarget t tag p) (new ++ liveItems t below) .table
+
+  only : Only (λ j. All (λ i. j ≡ i → ⊥) (addTarget t tag p ∷ below)) t after
+  only =
+      rebuilt-only t (by-bucket-roomy (invariant-by-bucket invariant)) below (gathered-buckets t) (addTarget t tag p) (target .reached) (new ++ liveItems t below) (target .fits)
+
+  same : orderOf after ≡ orderOf t
+  same = same-order (only .header)
+
+  number : length (allLive after) ≡ suc (length (allLive t))
+  number =
+      rebuilt-number (invariant-by-bucket invariant) below (gathered-buckets t) (count-apart 0 (lowestEmpty t)) new new-rows
+      (new-valid tag p isProfile (ok .validated) (ok .measures), tt) new-once (addTarget t tag p) target
+
+  pub invariant-added : Invariant (added t tag p .table)
+  invariant-added =
+      let s : ByBucket t = invariant-by-bucket invariant in
+      let valid = new-valid tag p isProfile (ok .validated) (ok .measures) in
+      rw added-steps
+      (by-bucket-invariant
+      (rebuilt-by-bucket s below (gathered-buckets t) (count-apart 0 (lowestEmpty t)) new new-rows (valid, tt) new-once (addTarget t tag p) target)
+      (rebuilt-sizes s below (gathered-buckets t) (count-apart 0 (lowestEmpty t)) new new-rows (valid, tt) new-once (addTarget t tag p) target
+      (λ j h a. sizes-at (orderOf t) (builtOf t) (liveOf t) (invariant .sizes) j h))
+      (rw same (omega (arith, number, by-bucket-total s, ok .notFull)))
+      (rebuilt-once s below (gathered-buckets t) (count-apart 0 (lowestEmpty t)) new new-rows (valid, tt) new-once (addTarget t tag p) target))
+
+  -- header, length and the rows past the table are kept, and every other bucket
+  pub added-only : Only (λ j. All (λ i. j ≡ i → ⊥) (addTarget t tag p ∷ countFrom 0 (lowestEmpty t))) t (added t tag p .table)
+  added-only = rw added-steps only
+
+  -- the live items: the new one and those before, whatever a row has besides threshold and mark
+  pub added-live :
+      {B : Type 0} (f : Row → B) → ((m : ℕ) (row : Row) → f (placed m row) ≡ f row)
+      → List·Permᴰ (map f (allLive (added t tag p .table))) (f (rowOf tag p 0 0) ∷ map f (allLive t))
+  added-live f kept =
+      rw added-steps
+      (rebuilt-live (invariant-by-bucket invariant) below (gathered-buckets t) (count-apart 0 (lowestEmpty t)) new new-rows
+      (new-valid tag p isProfile (ok .validated) (ok .measures), tt) new-once (addTarget t tag p) target f kept)

@@ -1,0 +1,89 @@
+-- A sound table whose live items are the model's: range and nearest answer as the model's scan, the row that a tag finds is the model's item, and as
+-- many are live. A scan does not depend on the order of its list; of one tag there is one item.
+use Prim.Native.Nat.{ℕ, _≤_}
+use mathlib.Core.Path.{_≡_, sym, _∙_, ap, subst}
+use mathlib.Core.List.{List, map, map-map, List·Permᴰ}
+use lib.Dec.{leb, eqb}
+use lib.ListN.{length, length-map}
+use borrow.Author.Tests.{eqb-true}
+use Rattle.lists.specs.Lists.{every, total, All}
+use Rattle.lists.proofs.Lists.{all-weaken, perm-length, perm-map}
+use Rattle.lists.proofs.Tests.{and-second, every-all}
+use Rattle.metric_rules.specs.declared.Profile.{Profile}
+use Rattle.metric_rules.specs.Row.{markOf, tagOf}
+use Rattle.metric_rules.specs.Distance.{Space, distance}
+use Rattle.search_rules.specs.Range.{Entry, entry, entryOf, toQuery}
+use Rattle.search_rules.proofs.Keep.{keep-permuted}
+use Rattle.table_rules.specs.Geometry.{bucketsOf}
+use Rattle.table_rules.proofs.ByNumber.{length-flatten}
+use Rattle.table_rules.specs.Table.{Table, orderOf, tableSpace, liveOf, liveTotal, slotsOf, liveSlots}
+use Rattle.table_rules.specs.Checks.{marksPass}
+use Rattle.table_rules.specs.Rebuild.{liveItems}
+use Rattle.table_rules.specs.LookUp.{find}
+use Rattle.table_rules.specs.Search.{rangeAnswer, nearestAnswer}
+use Rattle.history.specs.Model.{Item, itemOf, Model, withTag, scanned, modelRange, modelNearest}
+use Rattle.history.specs.Represents.{itemsIn}
+use Rattle.history.proofs.Invariant.{Invariant}
+use Rattle.history.proofs.RefinesLists.{map-where, select-perm, select-map, select-once, perm-of-one}
+use Rattle.history.proofs.RefinesSearch.{within-permuted, entry-pairs}
+use Rattle.history.proofs.RefinesTable.{liveEntries, range-scans, nearest-scans}
+use Rattle.history.proofs.RefinesFinding.{tagged, rowFound, find-row}
+
+pub record Matches (t : Table) (m : Model) : Type 0 where
+  pub invariant : Invariant t
+  pub order : orderOf t ≡ m .order
+  pub space : tableSpace t ≡ m .space
+  pub same : List·Permᴰ (itemsIn t) (m .items)
+
+-- an item's entry, by what distances depend on
+itemEntry : Space → Profile → Item → Entry
+itemEntry space q i = entry (i .tag) (distance space (i .profile) q)
+
+module _ {t : Table} {m : Model} (matches : Matches t m) where
+  entries-same : (q : Profile) → List·Permᴰ (liveEntries t q) (scanned m q)
+  unfolding itemsIn itemOf scanned itemEntry entryOf toQuery
+  entries-same q =
+      subst (λ (space : Space). List·Permᴰ (liveEntries t q) (map (itemEntry space q) (m .items))) (matches .space)
+      (subst (λ (es : List Entry). List·Permᴰ es (map (itemEntry (tableSpace t) q) (m .items)))
+      (map-map (itemEntry (tableSpace t) q) itemOf (liveItems t (bucketsOf (orderOf t))))
+      (perm-map (itemEntry (tableSpace t) q) (matches .same)))
+
+  pub range-alike : (q : Profile) (r : ℕ) → rangeAnswer t q r .entries ≡ modelRange m q r
+  unfolding modelRange
+  range-alike q r =
+      range-scans (matches .invariant) q r
+      ∙ within-permuted r (entries-same q) (entry-pairs (distance (tableSpace t)) q (liveItems t (bucketsOf (orderOf t))))
+
+  pub nearest-alike : (q : Profile) (k : ℕ) → nearestAnswer t q k .entries ≡ modelNearest m q k
+  unfolding modelNearest
+  nearest-alike q k =
+      nearest-scans (matches .invariant) q k
+      ∙ keep-permuted k (entries-same q) (entry-pairs (distance (tableSpace t)) q (liveItems t (bucketsOf (orderOf t))))
+
+  -- the model's items with a tag are those of the live rows with it
+  pub tagged-items : (tag : ℕ) → map itemOf (tagged tag (liveItems t (bucketsOf (orderOf t)))) ≡ withTag tag (m .items)
+  unfolding itemsIn itemOf withTag
+  tagged-items tag =
+      let live = liveItems t (bucketsOf (orderOf t)) in
+      let one : length (map itemOf (tagged tag live)) ≤ 1 = simp length-map (select-once tagOf tag live (matches .invariant .once)) in
+      perm-of-one
+      (subst (λ (is : List Item). List·Permᴰ is (withTag tag (m .items)))
+      (select-map (λ i. eqb (i .tag) tag) itemOf live)
+      (select-perm (λ i. eqb (i .tag) tag) (matches .same)))
+      one
+
+  -- what the table finds is what the model has
+  pub found-items : (tag : ℕ) → map itemOf (rowFound (find t tag)) ≡ withTag tag (m .items)
+  found-items tag = ap (map itemOf) (find-row t tag (matches .invariant .once)) ∙ tagged-items tag
+
+  pub live-total : liveTotal t ≡ length (m .items)
+  unfolding liveTotal itemsIn liveItems marksPass
+  live-total =
+      let sizes : All (λ k. length (liveSlots t k) ≡ liveOf t k) (bucketsOf (orderOf t)) =
+      all-weaken (λ k h. eqb-true (length (liveSlots t k)) (liveOf t k) (and-second (every (λ row. leb (markOf row) 1) (slotsOf t k)) _ h)) (bucketsOf (orderOf t))
+      (every-all _ (bucketsOf (orderOf t)) (matches .invariant .marks))
+      in
+      ap total (sym (map-where (λ k. length (liveSlots t k)) (liveOf t) (bucketsOf (orderOf t)) sizes))
+      ∙ sym (length-flatten (liveSlots t) (bucketsOf (orderOf t)))
+      ∙ sym (length-map (liveItems t (bucketsOf (orderOf t))) itemOf)
+      ∙ perm-length (matches .same)

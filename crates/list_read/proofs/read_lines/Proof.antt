@@ -1,0 +1,125 @@
+-- `list_read::read_lines` meets its contract: the list so far, line by line.
+use Prim.Native.Nat.{_-_}
+use mathlib.Core.Path.{sym, ap, _∙_}
+use native.Mathlib.Omega.{arith}
+use lib.ListN.{length}
+use borrow.Author.Needs.{needs}
+use borrow.Author.Tests.{not-true, not-false}
+use Rattle.list_line.proofs.Grammar.{item-here, broken-here}
+use Rattle.list_read.proofs.SoFar.{reply-refusal, SoFar, at-first, read-to-end, line-broken-here, add-refused, sums-fit, one-line-more}
+use Rattle.list_read.proofs.read_lines.Statement.{statement}
+use Rattle.list_read.proofs.read_lines.Tie as tie
+
+abbrev Inv-loop : tie.InvT-loop
+Inv-loop table₀ work₀ list at₀ added₀ distances₀ table work at added distances = SoFar table₀ work₀ list table work at added distances
+
+abbrev μ-loop : tie.MeasureT-loop
+μ-loop table₀ work₀ list at₀ added₀ distances₀ table work at added distances = length list - at
+
+loop-holds : tie.Need-loop-holds Inv-loop μ-loop
+loop-holds c = at-first _ _ _ (c .before .pre)
+
+add-number : tie.Need-add-number Inv-loop μ-loop
+add-number c = omega (arith, c .before .loop .inv .most)
+
+same-length : tie.Need-same-length Inv-loop μ-loop
+same-length c = c .before .before .before .before .before .loop .inv .table-long
+
+same-length-2 : tie.Need-same-length-2 Inv-loop μ-loop
+same-length-2 c = c .before .before .before .before .before .loop .inv .work-long
+
+returns : tie.Need-returns Inv-loop μ-loop
+returns c =
+    let l = c .before .before .before .before .before .loop in
+    let f = c .before .before .before .line in
+    let end = line-broken-here (l .inv) (broken-here _ (l .at) (f .result) (f .ensures) (not-true _ (c .before .if1 .taken)) (c .before .before .before .before .loop-test .taken)) in
+    (c .replied .ensures ∙ end .0, end .1)
+
+same-length-3 : tie.Need-same-length-3 Inv-loop μ-loop
+same-length-3 c = c .before .before .before .before .before .add .kept .0 ∙ c .before .before .before .before .before .before .before .before .before .before .before .before .before .loop .inv .table-long
+
+same-length-4 : tie.Need-same-length-4 Inv-loop μ-loop
+same-length-4 c = c .before .before .before .before .before .add .kept .1 .0 ∙ c .before .before .before .before .before .before .before .before .before .before .before .before .before .loop .inv .work-long
+
+returns-2 : tie.Need-returns-2 Inv-loop μ-loop
+returns-2 c =
+    let l = c .before .before .before .before .before .before .before .before .before .before .before .before .before .loop in
+    let f = c .before .before .before .before .before .before .before .before .before .before .before .line in
+    let list = c .before .before .before .before .before .before .before .before .before .before .before .before .before .before .before .args .list .now in
+    let here = item-here list (l .at) (f .result) (f .ensures) (not-false _ (c .before .before .before .before .before .before .before .before .before .if1 .left)) in
+    let a = c .before .before .before .before .before .add in
+    let known = ap (λ r. r .refusal) (a .ensures .0) ∙ reply-refusal _ _ _ _ in
+    let end = add-refused (l .inv) (f .result .next) (here .0) (a .result .refusal) known (c .before .if2 .taken) (a .ensures .1 .0) (a .ensures .1 .1) in
+    (c .replied2 .ensures ∙ end .0, end .1)
+
+add-added : tie.Need-add-added Inv-loop μ-loop
+add-added c =
+    let l = c .before .before .before .before .before .before .before .before .before .before .before .before .loop in
+    let f = c .before .before .before .before .before .before .before .before .before .before .line in
+    let list = c .before .before .before .before .before .before .before .before .before .before .before .before .before .before .args .list .now in
+    let here = item-here list (l .at) (f .result) (f .ensures) (not-false _ (c .before .before .before .before .before .before .before .before .if1 .left)) in
+    let a = c .before .before .before .before .add in
+    let known = ap (λ r. r .refusal) (a .ensures .0) ∙ reply-refusal _ _ _ _ in
+    omega (arith, sums-fit (l .inv) (f .result .next) (here .0) (sym known ∙ c .if2 .left) (ap (λ r. r .distances) (a .ensures .0)))
+
+add-distances : tie.Need-add-distances Inv-loop μ-loop
+add-distances c =
+    let l = c .before .before .before .before .before .before .before .before .before .before .before .before .before .loop in
+    let f = c .before .before .before .before .before .before .before .before .before .before .before .line in
+    let list = c .before .before .before .before .before .before .before .before .before .before .before .before .before .before .before .args .list .now in
+    let here = item-here list (l .at) (f .result) (f .ensures) (not-false _ (c .before .before .before .before .before .before .before .before .before .if1 .left)) in
+    let a = c .before .before .before .before .before .add in
+    let known = ap (λ r. r .refusal) (a .ensures .0) ∙ reply-refusal _ _ _ _ in
+    omega (arith, l .inv .sum, sums-fit (l .inv) (f .result .next) (here .0) (sym known ∙ c .before .if2 .left) (ap (λ r. r .distances) (a .ensures .0)))
+
+loop-less : tie.Need-loop-less Inv-loop μ-loop
+loop-less c =
+    let l = c .before .before .before .before .before .before .before .before .before .before .before .before .before .loop in
+    let f = c .before .before .before .before .before .before .before .before .before .before .before .line in
+    let list = c .before .before .before .before .before .before .before .before .before .before .before .before .before .before .before .args .list .now in
+    let here = item-here list (l .at) (f .result) (f .ensures) (not-false _ (c .before .before .before .before .before .before .before .before .before .if1 .left)) in
+    omega (arith, here .1 .later, here .1 .within)
+
+loop-again : tie.Need-loop-again Inv-loop μ-loop
+loop-again c =
+    let l = c .before .before .before .before .before .before .before .before .before .before .before .before .before .loop in
+    let f = c .before .before .before .before .before .before .before .before .before .before .before .line in
+    let list = c .before .before .before .before .before .before .before .before .before .before .before .before .before .before .before .args .list .now in
+    let here = item-here list (l .at) (f .result) (f .ensures) (not-false _ (c .before .before .before .before .before .before .before .before .before .if1 .left)) in
+    let a = c .before .before .before .before .before .add in
+    let known = ap (λ r. r .refusal) (a .ensures .0) ∙ reply-refusal _ _ _ _ in
+    one-line-more (l .inv) (f .result .next) (here .0) (sym known ∙ c .before .if2 .left) (here .1 .within) (a .ensures .1 .0) (a .ensures .1 .1) (a .kept .0) (a .kept .1 .0) (ap (λ r. r .distances) (a .ensures .0))
+
+same-length-5 : tie.Need-same-length-5 Inv-loop μ-loop
+same-length-5 c = c .before .before .loop .inv .table-long
+
+same-length-6 : tie.Need-same-length-6 Inv-loop μ-loop
+same-length-6 c = c .before .before .loop .inv .work-long
+
+returns-3 : tie.Need-returns-3 Inv-loop μ-loop
+returns-3 c = let end = read-to-end (c .before .before .loop .inv) (omega arith) in (c .replied3 .ensures ∙ end .0, end .1)
+
+pub read-lines-spec : {M : Type 1} → statement M
+read-lines-spec =
+    tie.close
+    (tie.spec
+    Inv-loop
+    μ-loop
+    loop-holds
+    add-number
+    (λ c κs. search needs) (λ c κs. search needs)
+    same-length
+    same-length-2
+    returns
+    (λ c κs. search needs) (λ c κs. search needs)
+    same-length-3
+    same-length-4
+    returns-2
+    add-added
+    add-distances
+    loop-less
+    loop-again
+    (λ c κs. search needs)
+    same-length-5
+    same-length-6
+    returns-3)

@@ -1,0 +1,16 @@
+-- `table_fresh::header_row` meets its contract: two words written over zeros.
+-- Assumes nothing.
+use mathlib.Core.Path.{refl}
+use Rattle.metric_rules.specs.Row.{zeroRow}
+use Rattle.metric_rules.specs.Distance.{metricAt}
+use Rattle.table_rules.specs.Table.{headerOf}
+use borrow.Author.Needs.{needs}
+use Rattle.table_fresh.proofs.header_row.Statement.{statement}
+use Rattle.table_fresh.proofs.header_row.Tie as tie
+
+returns : tie.Need-returns
+unfolding headerOf zeroRow metricAt
+returns c = refl
+
+pub header-row-spec : {M : Type 1} → statement M
+header-row-spec = tie.close (tie.spec (λ c. search needs) (λ c. search needs) returns)

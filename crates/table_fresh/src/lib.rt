@@ -1,0 +1,59 @@
+// Fresh: a table's order and metric are set, and every bucket is empty.
+ghost use mathlib.Core.Path.{_≡_};
+ghost use mathlib.Core.List.{_∷_, _++_};
+ghost use Prim.Native.Nat.{_-_, _≤_, _<_};
+ghost use lib.ListN.{length, drop, replicate};
+ghost use Rattle.metric_rules.specs.Row.{zeroRow};
+ghost use Rattle.table_rules.specs.Table.{headerOf};
+ghost use Rattle.table_rules.specs.Fresh.{freshRefusal, tableAfterFresh};
+use gather::zero_rows;
+use metric_rules::METRIC_AT;
+use metric_rules::ROW_WIDTH;
+use metric_rules::Row;
+use table_order::Order;
+use table_order::Ordered;
+use table_rules::BAD_METRIC;
+use table_rules::BAD_ORDER;
+use table_rules::SHORT_AREA;
+use table_views::HEADER_ROW;
+use table_views::ORDER_AT;
+use table_views::valid_metric;
+
+pub fn header_row(order: u32, metric: u32) -> Row
+    ensures { λ r. ⌜ r ≡ headerOf order (record { metric = metric }) ⌝ }
+{
+    let mut row = [0u32; ROW_WIDTH];
+    row[ORDER_AT] = order;
+    row[METRIC_AT] = metric;
+    row
+}
+
+// The first rows become the header and zeros.
+fn write_fresh(table: &mut [Row], rows: usize, order: u32, metric: u32)
+    requires { ⌜ (0 < rows) × (rows ≤ length (now table)) ⌝ }
+    ensures { λ _. ⌜ now (table .exit) ≡ headerOf order (record { metric = metric }) ∷ replicate (rows - 1) zeroRow ++ drop rows (now (table .entry)) ⌝ }
+{
+    zero_rows(&mut table[..rows]);
+    table[HEADER_ROW] = header_row(order, metric);
+}
+
+// The refusal, 0 if accepted: 3, 4, 23. Nothing of the table is read but its length.
+pub fn fresh(table: &mut [Row], order: u32, metric: u32) -> u32
+    ensures reply { λ r. ⌜ r ≡ freshRefusal (length (now (table .entry))) order (record { metric = metric }) ⌝ }
+    ensures area { λ _. ⌜ now (table .exit) ≡ tableAfterFresh order (record { metric = metric }) (now (table .entry)) ⌝ }
+{
+    match Order::new(order) {
+        Ordered::TooLarge => BAD_ORDER,
+        Ordered::Is(valid) => {
+            if !valid_metric(metric) {
+                return BAD_METRIC;
+            }
+            let rows = valid.table_rows();
+            if table.len() < rows {
+                return SHORT_AREA;
+            }
+            write_fresh(table, rows, order, metric);
+            0
+        }
+    }
+}

@@ -1,0 +1,123 @@
+-- `table_look_up::look_up` meets its contract: the table's refusal, the tag's, and then the place found.
+-- Assumes nothing.
+use native.Mathlib.Omega.{arith}
+use Prim.Native.Nat.{_<_}
+use borrow.Author.Tests.{not-true, not-false}
+use mathlib.Core.Path.{_≡_, sym, _∙_, ap}
+use mathlib.Core.Bool.{true}
+use mathlib.Core.List.{List, []}
+use mathlib.Core.Option.{some}
+use lib.ListN.{length, getD}
+use Rattle.metric_rules.specs.declared.Profile.{Profile}
+use Rattle.metric_rules.specs.Row.{Row, profileOf}
+use Rattle.metric_rules.specs.Validity.{validTag}
+use Rattle.table_rules.specs.Table.{slotsOf}
+use Rattle.table_rules.specs.Checks.{readRefusal}
+use Rattle.table_rules.specs.LookUp.{find}
+use Rattle.table_rules.proofs.Passing.{read-passed, framed-rows, slots-asked}
+use Rattle.table_rules.proofs.Finding.{Found, found}
+use Rattle.table_look_up.specs.Spots.{placeOf}
+use Rattle.table_look_up.proofs.Seeking.{place}
+use Rattle.table_look_up.proofs.Replying.{table-refused, tag-refused, missing-refused, looked-up}
+use borrow.Author.Needs.{needs}
+use Rattle.table_look_up.proofs.look_up.Statement.{statement}
+use Rattle.table_look_up.proofs.look_up.Tie as tie
+
+unrefused : (c : tie.Else1) → readRefusal (c .before .before .args .table .now) ≡ 0
+unrefused c = sym (c .before .read-refusal .ensures) ∙ c .if1 .left
+
+valid : (c : tie.Else2) → validTag (c .before .before .before .before .args .tag) ≡ true
+valid c = sym (c .before .valid-tag .ensures) ∙ not-false (c .before .valid-tag .result) (c .if2 .left)
+
+-- the place found, and that a live item stands there
+located :
+    (c : tie.After-bucket)
+    → let a = c .before .before .before .before .before .before .before .args in
+    let k = c .bucket .given .0 .0 in
+    let i = c .bucket .given .0 .1 .0 in
+    some (place k i (getD (slotsOf (a .table .now) k) i [])) ≡ find (a .table .now) (a .tag)
+unfolding placeOf
+located c =
+    ap (placeOf (c .before .before .before .before .before .before .before .args .table .now)) (sym (c .bucket .given .1)) ∙ c .before .before .find .ensures
+
+stands :
+    (c : tie.After-bucket)
+    → let a = c .before .before .before .before .before .before .before .args in
+    let k = c .bucket .given .0 .0 in
+    let i = c .bucket .given .0 .1 .0 in
+    Found (a .table .now) (a .tag) (place k i (getD (slotsOf (a .table .now) k) i []))
+stands c =
+    let a = c .before .before .before .before .before .before .before .args in
+    let k = c .bucket .given .0 .0 in
+    let i = c .bucket .given .0 .1 .0 in
+    found (a .table .now) (a .tag) (place k i (getD (slotsOf (a .table .now) k) i [])) (sym (located c))
+
+inside : (c : tie.After-slots-of) → c .before .before .before .bucket .given .0 .1 .0 < length (c .slots-of .result .now)
+inside c = omega (arith, stands (c .before .before .before) .within, ap length (c .slots-of .ensures))
+
+returns : tie.Need-returns
+returns c =
+    let a = c .before .before .before .args in
+    let r = c .before .before .read-refusal in
+    c .not-found .ensures ∙ table-refused (a .table .now) (a .tag) (r .result) (r .ensures) (c .before .if1 .taken)
+
+returns-2 : tie.Need-returns-2
+returns-2 c =
+    let a = c .before .before .before .before .before .args in
+    let v = c .before .before .valid-tag in
+    c .not-found2 .ensures ∙ tag-refused (a .table .now) (a .tag) (unrefused (c .before .before .before)) (sym (v .ensures) ∙ not-true (v .result) (c .before .if2 .taken))
+
+find-requires : tie.Need-find-requires
+find-requires c κs = read-passed (c .before .before .before .before .args .table .now) (unrefused (c .before .before))
+
+order-in-requires : tie.Need-order-in-requires
+order-in-requires c κs = framed-rows (read-passed (c .before .before .before .before .before .before .before .before .args .table .now) (unrefused (c .before .before .before .before .before .before)) .framed)
+
+slots-of-requires : tie.Need-slots-of-requires
+slots-of-requires c κs =
+    let at = c .before .before in
+    let t = c .before .before .before .before .before .before .before .before .before .args .table .now in
+    slots-asked (read-passed t (unrefused (c .before .before .before .before .before .before .before))) (c .order-in .result .t) (at .bucket .given .0 .0) (c .order-in .ensures)
+    (omega (arith, c .order-in .ensures, stands at .inOrder))
+
+mul-profile-of : tie.Need-mul-profile-of
+mul-profile-of c = omega (arith, inside c)
+
+shared-slice-copy-out-profile-of : tie.Need-shared-slice-copy-out-profile-of
+shared-slice-copy-out-profile-of c = inside c
+
+returns-3 : tie.Need-returns-3
+unfolding placeOf
+returns-3 c =
+    let a = c .before .before .before .before .before .before .before .before .args in
+    c .not-found3 .ensures
+    ∙ missing-refused (a .table .now) (a .tag) (unrefused (c .before .before .before .before .before .before)) (valid (c .before .before .before .before)) (ap (placeOf (a .table .now)) (sym (c .before .enum-told .given .1)) ∙ c .before .before .before .find .ensures)
+
+returns-4 : tie.Need-returns-4
+returns-4 c =
+    let at = c .before .before .before .before .before in
+    let a = c .before .before .before .before .before .before .before .before .before .before .before .before .args in
+    let k = at .bucket .given .0 .0 in
+    let i = at .bucket .given .0 .1 .0 in
+    let p : c .profile-of .result ≡ profileOf (getD (slotsOf (a .table .now) k) i []) =
+    c .profile-of .ensures ∙ ap (λ (xs : List Row). profileOf (getD xs i [])) (c .before .before .slots-of .ensures) in
+    ap (λ (q : Profile). record { refusal = 0; bucket = k; profile = q }) p
+    ∙ looked-up (a .table .now) (a .tag) (unrefused (at .before .before .before .before .before)) (valid (at .before .before .before)) (place k i (getD (slotsOf (a .table .now) k) i [])) (located at)
+
+pub look-up-spec : {M : Type 1} → statement M
+look-up-spec =
+    tie.close
+    (tie.spec
+    (λ c κs. search needs) (λ c κs. search needs)
+    returns
+    (λ c κs. search needs) (λ c κs. search needs)
+    returns-2
+    find-requires
+    (λ c. search needs) (λ c κs. search needs) (λ c. search needs)
+    order-in-requires
+    slots-of-requires
+    mul-profile-of
+    shared-slice-copy-out-profile-of
+    (λ c κs. search needs)
+    returns-3
+    returns-4)

@@ -1,0 +1,3 @@
+-- The buckets' turns, one after the other, are the table's search, and what they leave is the reply.
+mod Steps
+mod Replying

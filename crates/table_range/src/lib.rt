@@ -1,0 +1,80 @@
+// Range over a table: buckets from the top down, hits collected over all of them, one sort at the end.
+ghost use mathlib.Core.Path.{_≡_};
+ghost use mathlib.Core.List.{_++_};
+ghost use Prim.Native.Nat.{_-_, _≤_, _<_, _^_, suc};
+ghost use lib.ListN.{length, take, replicate};
+ghost use Rattle.lists.specs.Lists.{All};
+ghost use Rattle.search_rules.specs.Range.{Pair, ordered};
+ghost use Rattle.tree_range.specs.Collected.{foundAfter, collected};
+ghost use Rattle.table_rules.specs.Refusals.{noRoom};
+ghost use Rattle.table_rules.specs.Table.{orderOf};
+ghost use Rattle.table_rules.specs.Passed.{Passed};
+ghost use Rattle.table_rules.specs.Search.{zeroEntry, rangeReply, resultAfterRange};
+ghost use Rattle.table_range.specs.Below.{metBelow, noneFound};
+use entry_sort::sort_entries;
+use metric::valid_measures;
+use metric_rules::Profile;
+use metric_rules::Row;
+use rows::row_of;
+use search_reply::accepted;
+use search_reply::refused;
+use search_reply::too_short;
+use search_rules::Entry;
+use table_checks::read_refusal;
+use table_order::Order;
+use table_rules::BAD_MEASURE;
+use table_rules::Searched;
+use table_views::HEADER_ROW;
+use table_views::order_in;
+use table_views::slots_of;
+use tree_range::Asked;
+use tree_range::Found;
+use tree_range::range_tree;
+
+// What all buckets meet, the highest first.
+fn range_buckets(table: &[Row], order: Order, area: &mut [Entry], asked: &Asked) -> Found
+    requires { ⌜ (order .t ≡ orderOf (now table)) × Passed (now table) ⌝ }
+    ensures reply { λ r. ⌜ r ≡ foundAfter noneFound (metBelow (now (asked .entry)) (now (table .entry)) (suc (order .t))) ⌝ }
+    ensures area { λ _. ⌜ now (area .exit) ≡ collected (now (area .entry)) noneFound (metBelow (now (asked .entry)) (now (table .entry)) (suc (order .t))) ⌝ }
+    ensures few { λ r. ⌜ (r .hits < 2 ^ 32) × (r .count < 2 ^ 32) ⌝ }
+{
+    let mut found = Found { hits: 0, count: 0 };
+    let mut k = order.t + 1;
+    while 0 < k {
+        k -= 1;
+        found = range_tree(found, slots_of(table, order, k), area, asked);
+    }
+    found
+}
+
+// The reply of a range search that found these hits: in order, with zeros after them, where the area holds them all.
+fn reply_with(area: &mut [Entry], found: Found) -> Searched
+    requires { ⌜ (found .hits < 2 ^ 32) × (found .count < 2 ^ 32) ⌝ }
+    ensures held { λ r. ⌜ (found .hits ≤ length (now (area .entry)) → r ≡ record { refusal = 0; found = found .hits; distances = found .count }) ⌝ }
+    ensures sorted { λ _. ⌜ (found .hits ≤ length (now (area .entry)) → All Pair (take (found .hits) (now (area .entry))) → now (area .exit) ≡ ordered (take (found .hits) (now (area .entry))) ++ replicate (length (now (area .entry)) - found .hits) zeroEntry) ⌝ }
+    ensures short { λ r. ⌜ (length (now (area .entry)) < found .hits → (r ≡ record { refusal = noRoom; found = 0; distances = 0 }) × (now (area .exit) ≡ replicate (length (now (area .entry))) zeroEntry)) ⌝ }
+{
+    let n = found.hits;
+    if area.len() < n {
+        return too_short(area);
+    }
+    sort_entries(&mut area[..n]);
+    accepted(area, n, found.count)
+}
+
+// 01's range over a table: every value of every argument, a table and an area of any length and content.
+pub fn range(table: &[Row], result: &mut [Entry], query: Profile, radius: u32) -> Searched
+    ensures reply { λ r. ⌜ r ≡ rangeReply (now (table .entry)) (now (result .entry)) query radius ⌝ }
+    ensures area { λ _. ⌜ now (result .exit) ≡ resultAfterRange (now (table .entry)) (now (result .entry)) query radius ⌝ }
+{
+    let refusal = read_refusal(table);
+    if refusal != 0 {
+        return refused(refusal);
+    }
+    if !valid_measures(query) {
+        return refused(BAD_MEASURE);
+    }
+    let asked = [table[HEADER_ROW], row_of(0, query, radius, 0)];
+    let found = range_buckets(table, order_in(table), result, &asked);
+    reply_with(result, found)
+}

@@ -1,0 +1,134 @@
+-- The reply and the result area of a search, refusal by refusal: what a refused one returns and leaves, and which refusal comes after which test.
+use Prim.Native.Nat.{ℕ, zero, suc, _-_, _≤_, _<_}
+use native.Mathlib.Omega.{arith}
+use mathlib.Core.Path.{_≡_, refl, sym, ap, _∙_}
+use mathlib.Core.Bool.{Bool, true, false}
+use mathlib.Core.List.{List, [], _∷_, _++_}
+use lib.ListN.{length, replicate}
+use borrow.Author.Tests.{le-leb, lt-leb, ne-eqb}
+use Rattle.metric_rules.specs.declared.Profile.{Profile}
+use Rattle.metric_rules.specs.Validity.{validMeasures}
+use Rattle.search_rules.specs.Range.{Entry}
+use Rattle.table_rules.specs.Refusals.{badMeasure, noCount, noRoom, shortArea}
+use Rattle.table_rules.specs.Table.{Table}
+use Rattle.table_rules.specs.Checks.{readRefusal}
+use Rattle.table_rules.specs.Search.{Answer, fitRefusal, rangeAnswer, nearestAnswer, rangeRefusal, nearestRefusal, searchReply, resultAfter, zeroEntry}
+use Rattle.table_rules.proofs.Passing.{stopBy, table-stop, none-stop}
+
+-- a refused search returns its number and zeros, and leaves its area as it was unless the area was too short
+pub refused-reply : (n : ℕ) → (n ≡ 0 → ⊥) → (a : Answer) → searchReply n a ≡ record { refusal = n; found = 0; distances = 0 }
+unfolding searchReply
+refused-reply zero some a = absurd (some refl)
+refused-reply (suc n) some a = refl
+
+pub refused-area : (n : ℕ) → (n ≡ 0 → ⊥) → (n ≡ noRoom → ⊥) → (area : List Entry) (a : Answer) → resultAfter n area a ≡ area
+unfolding resultAfter
+refused-area zero some other area a = absurd (some refl)
+refused-area (suc n) some other area a = ap (λ (b : Bool). elim b [ true ↦ replicate (length area) zeroEntry | false ↦ area ]) (ne-eqb (suc n) noRoom other)
+
+pub short-area : (area : List Entry) (a : Answer) → resultAfter noRoom area a ≡ replicate (length area) zeroEntry
+unfolding resultAfter
+short-area area a = refl
+
+pub accepted-area : (area : List Entry) (a : Answer) → resultAfter 0 area a ≡ a .entries ++ replicate (length area - length (a .entries)) zeroEntry
+unfolding resultAfter
+accepted-area area a = refl
+
+pub accepted-reply : (a : Answer) → searchReply 0 a ≡ record { refusal = 0; found = length (a .entries); distances = a .count }
+unfolding searchReply
+accepted-reply a = refl
+
+-- the tests of a table never say 6
+stops : (a b c : Bool) → stopBy a b c ≡ noRoom → ⊥
+unfolding stopBy
+stops false b c e = omega arith
+stops true false c e = omega arith
+stops true true false e = omega arith
+stops true true true e = omega arith
+
+pub not-short : (t : Table) → readRefusal t ≡ noRoom → ⊥
+unfolding readRefusal
+not-short [] e = let z : shortArea ≡ noRoom = sym (none-stop (λ v. true) (λ v. true) [] refl) ∙ e in omega arith
+not-short (r ∷ rs) e = stops _ _ _ (sym (table-stop (λ v. true) (λ v. true) (r ∷ rs) (omega arith)) ∙ e)
+
+-- 6 or none, by the entries and the area
+pub fit-held : (area : List Entry) (a : Answer) → length (a .entries) ≤ length area → fitRefusal area a ≡ 0
+unfolding fitRefusal
+fit-held area a h = ap (λ (b : Bool). elim b [ true ↦ 0 | false ↦ noRoom ]) (le-leb (length (a .entries)) (length area) h)
+
+pub fit-short : (area : List Entry) (a : Answer) → length area < length (a .entries) → fitRefusal area a ≡ noRoom
+unfolding fitRefusal
+fit-short area a h = ap (λ (b : Bool). elim b [ true ↦ 0 | false ↦ noRoom ]) (lt-leb (length (a .entries)) (length area) h)
+
+-- the reply and the area of a search with this answer at once, m being what stops it: a refusal other than 6, an area that holds the entries, and 6
+module _ (area : List Entry) (a : Answer) (m : ℕ) where
+  pub refused-search : (n : ℕ) → m ≡ n → (n ≡ 0 → ⊥) → (n ≡ noRoom → ⊥) → (record { refusal = n; found = 0; distances = 0 } ≡ searchReply m a) × (area ≡ resultAfter m area a)
+  refused-search n e some other = (
+    sym (ap (λ (i : ℕ). searchReply i a) e ∙ refused-reply n some a),
+    sym (ap (λ (i : ℕ). resultAfter i area a) e ∙ refused-area n some other area a),
+  )
+
+  pub held-search : m ≡ fitRefusal area a → length (a .entries) ≤ length area
+      → (record { refusal = 0; found = length (a .entries); distances = a .count } ≡ searchReply m a) × (a .entries ++ replicate (length area - length (a .entries)) zeroEntry ≡ resultAfter m area a)
+  held-search e h =
+      let none : m ≡ 0 = e ∙ fit-held area a h in
+      (sym (ap (λ (i : ℕ). searchReply i a) none ∙ accepted-reply a), sym (ap (λ (i : ℕ). resultAfter i area a) none ∙ accepted-area area a))
+
+  pub short-search : m ≡ fitRefusal area a → length area < length (a .entries)
+      → (record { refusal = noRoom; found = 0; distances = 0 } ≡ searchReply m a) × (replicate (length area) zeroEntry ≡ resultAfter m area a)
+  short-search e h =
+      let six : m ≡ noRoom = e ∙ fit-short area a h in (
+        sym (ap (λ (i : ℕ). searchReply i a) six ∙ refused-reply noRoom (λ z. omega arith) a),
+        sym (ap (λ (i : ℕ). resultAfter i area a) six ∙ short-area area a),
+      )
+
+-- which test stops a search
+stopped : (n : ℕ) (rest : ℕ) → (n ≡ 0 → ⊥) → elim n as (λ _. ℕ) [ suc m ↦ suc m | zero ↦ rest ] ≡ n
+stopped zero rest some = absurd (some refl)
+stopped (suc n) rest some = refl
+
+module _ (t : Table) (area : List Entry) (query : Profile) where
+  module _ (radius : ℕ) where
+    pub range-stopped : (readRefusal t ≡ 0 → ⊥) → rangeRefusal t area query radius ≡ readRefusal t
+    unfolding rangeRefusal
+    range-stopped some = stopped (readRefusal t) _ some
+
+    range-goes : readRefusal t ≡ 0 → rangeRefusal t area query radius ≡ elim (validMeasures query) [ false ↦ badMeasure | true ↦ fitRefusal area (rangeAnswer t query radius) ]
+    unfolding rangeRefusal
+    range-goes e =
+        ap (λ (n : ℕ). elim n as (λ _. ℕ) [ suc m ↦ suc m | zero ↦ elim (validMeasures query) [ false ↦ badMeasure | true ↦ fitRefusal area (rangeAnswer t query radius) ] ]) e
+
+    pub range-measure : readRefusal t ≡ 0 → validMeasures query ≡ false → rangeRefusal t area query radius ≡ badMeasure
+    range-measure e v = range-goes e ∙ ap (λ (b : Bool). elim b [ false ↦ badMeasure | true ↦ fitRefusal area (rangeAnswer t query radius) ]) v
+
+    pub range-fits : readRefusal t ≡ 0 → validMeasures query ≡ true → rangeRefusal t area query radius ≡ fitRefusal area (rangeAnswer t query radius)
+    range-fits e v = range-goes e ∙ ap (λ (b : Bool). elim b [ false ↦ badMeasure | true ↦ fitRefusal area (rangeAnswer t query radius) ]) v
+
+  module _ (k : ℕ) where
+    pub nearest-stopped : (readRefusal t ≡ 0 → ⊥) → nearestRefusal t area query k ≡ readRefusal t
+    unfolding nearestRefusal
+    nearest-stopped some = stopped (readRefusal t) _ some
+
+    -- with k asked for
+    counted : ℕ → ℕ
+    counted n = elim n [ zero ↦ noCount | suc j ↦ fitRefusal area (nearestAnswer t query (suc j)) ]
+
+    nearest-goes : readRefusal t ≡ 0 → nearestRefusal t area query k ≡ elim (validMeasures query) [ false ↦ badMeasure | true ↦ counted k ]
+    unfolding nearestRefusal counted
+    nearest-goes e =
+        ap (λ (n : ℕ). elim n as (λ _. ℕ) [ suc m ↦ suc m | zero ↦ elim (validMeasures query) [ false ↦ badMeasure | true ↦ counted k ] ]) e
+
+    pub nearest-measure : readRefusal t ≡ 0 → validMeasures query ≡ false → nearestRefusal t area query k ≡ badMeasure
+    nearest-measure e v = nearest-goes e ∙ ap (λ (b : Bool). elim b [ false ↦ badMeasure | true ↦ counted k ]) v
+
+    pub nearest-none : readRefusal t ≡ 0 → validMeasures query ≡ true → k ≡ 0 → nearestRefusal t area query k ≡ noCount
+    unfolding counted
+    nearest-none e v z = nearest-goes e ∙ ap (λ (b : Bool). elim b [ false ↦ badMeasure | true ↦ counted k ]) v ∙ ap counted z
+
+    pub nearest-fits : readRefusal t ≡ 0 → validMeasures query ≡ true → (k ≡ 0 → ⊥) → nearestRefusal t area query k ≡ fitRefusal area (nearestAnswer t query k)
+    unfolding counted
+    nearest-fits e v some = nearest-goes e ∙ ap (λ (b : Bool). elim b [ false ↦ badMeasure | true ↦ counted k ]) v ∙ asked k some
+      where
+        asked : (n : ℕ) → (n ≡ 0 → ⊥) → counted n ≡ fitRefusal area (nearestAnswer t query n)
+        asked zero none = absurd (none refl)
+        asked (suc n) none = refl

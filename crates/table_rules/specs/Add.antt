@@ -1,0 +1,76 @@
+-- 01, "Add": the refusals, the bucket built, and every area after the call.
+use Prim.Native.Nat.{ℕ, zero, suc, _-_, _*_}
+use mathlib.Core.Bool.{true, false}
+use mathlib.Core.List.{List, _∷_}
+use lib.ListN.{length}
+use lib.Dec.{leb, ltb}
+use Rattle.lists.specs.Lists.{countFrom}
+use Rattle.metric_rules.specs.declared.Profile.{Profile}
+use Rattle.metric_rules.specs.Row.{Row, rowOf, zeroRow}
+use Rattle.metric_rules.specs.Validity.{validTag, validMeasures}
+use Rattle.table_rules.specs.declared.Added.{Added}
+use Rattle.table_rules.specs.Refusals.{badTag, badMeasure, alreadyLive, full}
+use Rattle.table_rules.specs.Geometry.{room, workRows}
+use Rattle.table_rules.specs.Table.{Table, orderOf, inUse, liveTotal, cleared}
+use Rattle.table_rules.specs.Checks.{changeRefusal}
+use Rattle.table_rules.specs.Rebuild.{Rebuilt, liveItems, rebuilt}
+use Rattle.table_rules.specs.LookUp.{isLiveTag}
+
+-- after 23 and 24: 1, 2, 20, 22
+unfoldable pub addRefusal : Table → List Row → ℕ → Profile → ℕ
+addRefusal t work tag p =
+    elim (changeRefusal work t) [
+      | suc n ↦ suc n
+      | zero ↦
+          elim (validTag tag) [
+            | false ↦ badTag
+            | true ↦
+                elim (validMeasures p) [
+                  | false ↦ badMeasure
+                  | true ↦
+                      elim (isLiveTag t tag) [
+                        | true ↦ alreadyLive
+                        | false ↦ elim (leb (room (orderOf t)) (liveTotal t)) [ true ↦ full | false ↦ 0 ]
+                      ]
+                ]
+          ]
+    ]
+
+-- the lowest empty bucket of the n from k on, or the one after them
+unfoldable pub emptyFrom : Table → ℕ → ℕ → ℕ
+emptyFrom t k zero = k
+emptyFrom t k (suc n) = elim (inUse t k) [ true ↦ emptyFrom t (suc k) n | false ↦ k ]
+
+-- the lowest empty bucket, or T + 1 if none is
+unfoldable pub lowestEmpty : Table → ℕ
+lowestEmpty t = emptyFrom t 0 (suc (orderOf t))
+
+-- the new item, then the live items of buckets 0 to k - 1 in slot order
+unfoldable pub gathered : Table → ℕ → Profile → List Row
+gathered t tag p = rowOf tag p 0 0 ∷ liveItems t (countFrom 0 (lowestEmpty t))
+
+-- n items go to bucket k if they are more than 2^(k-1), else to k - 1
+unfoldable pub addBucket : ℕ → ℕ → ℕ
+addBucket k n = elim (ltb (room k) (2 * n)) [ true ↦ k | false ↦ k - 1 ]
+
+-- the bucket that the add of this head builds
+unfoldable pub addTarget : Table → ℕ → Profile → ℕ
+addTarget t tag p = addBucket (lowestEmpty t) (length (gathered t tag p))
+
+-- the head gathered are built there, and the other gathered buckets become empty
+unfoldable pub added : Table → ℕ → Profile → Rebuilt
+added t tag p = rebuilt t (countFrom 0 (lowestEmpty t)) (addTarget t tag p) (gathered t tag p)
+
+-- the reply and the areas after the call
+unfoldable pub addReply : Table → List Row → ℕ → Profile → Added
+addReply t work tag p =
+    elim (addRefusal t work tag p) [
+      | zero ↦ record { refusal = 0; bucket = addTarget t tag p; distances = added t tag p .distances }
+      | suc n ↦ record { refusal = suc n; bucket = 0; distances = 0 }
+    ]
+
+unfoldable pub tableAfterAdd : Table → List Row → ℕ → Profile → Table
+tableAfterAdd t work tag p = elim (addRefusal t work tag p) [ zero ↦ added t tag p .table | suc n ↦ t ]
+
+unfoldable pub workAfterAdd : Table → List Row → ℕ → Profile → List Row
+workAfterAdd t work tag p = elim (addRefusal t work tag p) [ zero ↦ cleared zeroRow (workRows (orderOf t)) work | suc n ↦ work ]

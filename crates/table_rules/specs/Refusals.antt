@@ -1,0 +1,54 @@
+-- 01, "Stopped by the input" and "Stopped by the state": the number of each refusal, written once. 0 is an accepted call.
+use Prim.Native.Nat.{ℕ}
+
+-- tag outside its form (add, remove, look up)
+abbrev pub badTag : ℕ
+badTag = 1
+
+-- a measure outside its range (add, range, nearest)
+abbrev pub badMeasure : ℕ
+badMeasure = 2
+
+-- order above 12 (fresh, load)
+abbrev pub badOrder : ℕ
+badOrder = 3
+
+-- metric above the last one (fresh, load)
+abbrev pub badMetric : ℕ
+badMetric = 4
+
+-- nearest with k = 0
+abbrev pub noCount : ℕ
+noCount = 5
+
+-- result area too short: fewer entries than the reply, or fewer bytes than the image
+abbrev pub noRoom : ℕ
+noRoom = 6
+
+-- image length wrong
+abbrev pub badLength : ℕ
+badLength = 7
+
+-- image sound in sizes, but its fields or trees break a rule
+abbrev pub badImage : ℕ
+badImage = 8
+
+-- tag already live (add)
+abbrev pub alreadyLive : ℕ
+alreadyLive = 20
+
+-- tag not live (remove, look up)
+abbrev pub notLive : ℕ
+notLive = 21
+
+-- 2^T head live (add)
+abbrev pub full : ℕ
+full = 22
+
+-- a lent table or work area shorter than its order needs, or a table too short to hold an order
+abbrev pub shortArea : ℕ
+shortArea = 23
+
+-- sizes, order or metric in a lent table, or sizes in an image, break the rules; in add and remove also the marks of a lent bucket
+abbrev pub badTable : ℕ
+badTable = 24

@@ -1,0 +1,13 @@
+-- `table_views::valid_metric` meets its contract: the test is the definition's.
+-- Assumes nothing.
+use mathlib.Core.Path.{refl}
+use Rattle.metric_rules.specs.Distance.{validSpace, lastMetric}
+use Rattle.table_views.proofs.valid_metric.Statement.{statement}
+use Rattle.table_views.proofs.valid_metric.Tie as tie
+
+returns : tie.Need-returns
+unfolding validSpace lastMetric
+returns c = refl
+
+pub valid-metric-spec : {M : Type 1} → statement M
+valid-metric-spec = tie.close (tie.spec returns)

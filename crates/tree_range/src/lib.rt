@@ -1,0 +1,87 @@
+// Range over one tree: the slots are visited, hits are collected in the area as far as it goes, and both are counted.
+ghost use mathlib.Core.Path.{_≡_};
+ghost use Prim.Native.Nat.{_+_, _<_, _^_};
+ghost use lib.ListN.{length};
+ghost use Rattle.metric_rules.specs.Row.{isLive};
+ghost use Rattle.tree_range.specs.Collected.{foundAfter, collected, metAlone, metInHalves};
+ghost use Rattle.tree_range.specs.Asked.{distanceAsked, queryAsked, radiusAsked, rangeAsked};
+use metric::distance_between;
+use metric_rules::Row;
+use rows::threshold_of;
+use search_rules::Entry;
+
+// What a range search goes by: the table's header row, and the query as a row whose threshold word is the radius.
+pub type Asked = [Row; 2];
+
+// What a range search hands on: how many hits it found, and how many slots it visited.
+pub struct Found {
+    pub hits: usize,
+    pub count: usize,
+}
+
+// A slot alone, at distance d from the query: a hit is put behind those found before, where the area has room.
+fn meet(found: Found, row: Row, d: u32, radius: u32, area: &mut [Entry]) -> Found
+    requires { ⌜ (found .hits < 2 ^ 32) × (found .count < 2 ^ 32) ⌝ }
+    ensures reply { λ r. ⌜ r ≡ foundAfter found (metAlone isLive row d radius) ⌝ }
+    ensures area { λ _. ⌜ now (area .exit) ≡ collected (now (area .entry)) found (metAlone isLive row d radius) ⌝ }
+{
+    let at = found.hits;
+    let count = found.count + 1;
+    if !rows::is_live(row) {
+        return Found { hits: at, count };
+    }
+    if radius < d {
+        return Found {
+            hits: found.hits,
+            count,
+        };
+    }
+    if at < area.len() {
+        area[at] = [rows::tag_of(row), d as u64];
+    }
+    Found {
+        hits: at + 1,
+        count,
+    }
+}
+
+// The slots of one tree: the first slot, and then its halves. The counts go first and what never changes goes behind one reference, so that a call
+// passes nearly all in registers.
+pub fn range_tree(found: Found, slots: &[Row], area: &mut [Entry], asked: &Asked) -> Found
+    requires { ⌜ (found .hits + length (now slots) < 2 ^ 32) × (found .count + length (now slots) < 2 ^ 32) ⌝ }
+    ensures reply { λ r. ⌜ r ≡ foundAfter found (rangeAsked (now (asked .entry)) (now (slots .entry))) ⌝ }
+    ensures area { λ _. ⌜ now (area .exit) ≡ collected (now (area .entry)) found (rangeAsked (now (asked .entry)) (now (slots .entry))) ⌝ }
+{
+    if slots.len() == 0 {
+        return found;
+    }
+    let row = slots[0];
+    let d = distance_between(&asked[0], row, asked[1]);
+    let met = meet(found, row, d, threshold_of(asked[1]), area);
+    range_halves(met, &slots[1..], d, threshold_of(row), area, asked)
+}
+
+// The halves below a slot at distance d from the query and of threshold m, each where it has slots and its test lets it be entered. Both sums are exact.
+fn range_halves(
+    found: Found,
+    rest: &[Row],
+    d: u32,
+    m: u32,
+    area: &mut [Entry],
+    asked: &Asked,
+) -> Found
+    requires { ⌜ (found .hits + length (now rest) < 2 ^ 32) × (found .count + length (now rest) < 2 ^ 32) ⌝ }
+    ensures reply { λ r. ⌜ r ≡ foundAfter found (metInHalves (distanceAsked (now (asked .entry))) (queryAsked (now (asked .entry))) isLive (radiusAsked (now (asked .entry))) d m (now (rest .entry))) ⌝ }
+    ensures area { λ _. ⌜ now (area .exit) ≡ collected (now (area .entry)) found (metInHalves (distanceAsked (now (asked .entry))) (queryAsked (now (asked .entry))) isLive (radiusAsked (now (asked .entry))) d m (now (rest .entry))) ⌝ }
+{
+    let l = rest.len() - rest.len() / 2;
+    let radius = threshold_of(asked[1]);
+    let mut met = found;
+    if (0 < l) & (d as u64 <= m as u64 + radius as u64) {
+        met = range_tree(met, &rest[..l], area, asked);
+    }
+    if (l < rest.len()) & (m as u64 <= d as u64 + radius as u64) {
+        met = range_tree(met, &rest[l..], area, asked);
+    }
+    met
+}

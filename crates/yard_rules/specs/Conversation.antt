@@ -1,0 +1,143 @@
+-- 01, "The program": the whole conversation. A line and what stands before it give what stands after it and the bytes to print, by the calls' own
+-- definitions.
+use Prim.Native.Nat.{ℕ, zero, suc, _≤_}
+use mathlib.Core.Bool.{true, false}
+use mathlib.Core.List.{List, [], _∷_, _++_}
+use lib.ListN.{length}
+use lib.Dec.{leb}
+use Rattle.metric_rules.specs.declared.Profile.{Profile}
+use Rattle.metric_rules.specs.Row.{Row}
+use Rattle.search_rules.specs.Range.{Entry}
+use Rattle.table_rules.specs.Refusals.{badOrder}
+use Rattle.table_rules.specs.Geometry.{room, tableRows, workRows}
+use Rattle.table_rules.specs.Table.{Table}
+use Rattle.table_rules.specs.Fresh.{freshRefusal, tableAfterFresh}
+use Rattle.table_rules.specs.Add.{addReply, tableAfterAdd, workAfterAdd}
+use Rattle.table_rules.specs.Remove.{removeReply, tableAfterRemove, workAfterRemove}
+use Rattle.table_rules.specs.Search.{rangeReply, resultAfterRange, nearestReply, resultAfterNearest}
+use Rattle.yard_rules.specs.declared.Header.{Header}
+use Rattle.yard_rules.specs.declared.Header.the-variants as header
+use Rattle.yard_rules.specs.declared.Command.{Command}
+use Rattle.yard_rules.specs.declared.Command.the-variants as command
+use Rattle.yard_rules.specs.declared.Stage.{Stage}
+use Rattle.yard_rules.specs.declared.Stage.the-variants as stage
+use Rattle.text_rules.specs.Text.{lineFeed, parted}
+use Rattle.yard_rules.specs.Line.{letterF, letterN, letterW, questionMark, headerIn, commandIn, profileIn}
+use Rattle.yard_rules.specs.Reply.{replyLine, addText, removeText, searchText}
+
+-- the areas that the calls are lent
+pub record Areas : Type 0 where
+  pub table : Table
+  pub work : List Row
+  pub result : List Entry
+
+-- the areas, how far the conversation is, and the lines read
+pub record Yard : Type 0 where
+  pub areas : Areas
+  pub stage : Stage
+  pub lines : ℕ
+
+-- what a line leads to: the areas, the stage, and the bytes to print
+pub record LineOutcome : Type 0 where
+  pub areas : Areas
+  pub stage : Stage
+  pub text : List ℕ
+
+-- "Any other line prints `?` and its number"
+unfoldable pub otherText : ℕ → List ℕ
+otherText number = replyLine questionMark (number ∷ [])
+
+-- "T at most 8 (else it prints `F 3`..)"
+unfoldable pub mostYardOrder : ℕ
+mostYardOrder = 8
+
+-- areas that are long enough for it: a header is then refused by 3 or 4 alone, and no later line for its areas (`proofs/Ample`)
+pub record Ample (a : Areas) : Type 0 where
+  pub table : tableRows mostYardOrder ≤ length (a .table)
+  pub work : workRows mostYardOrder ≤ length (a .work)
+  pub result : room mostYardOrder ≤ length (a .result)
+
+unfoldable pub headerRefusal : Table → ℕ → ℕ → ℕ
+headerRefusal t order metric =
+    elim (leb order mostYardOrder) [ false ↦ badOrder | true ↦ freshRefusal (length t) order (record { metric = metric }) ]
+
+-- an accepted header prints nothing; `F 3`, `F 4` and `? 1` end the program
+unfoldable pub headerOutcome : Areas → ℕ → Header → LineOutcome
+headerOutcome a number (header.Of order metric) =
+    elim (headerRefusal (a .table) order metric) [
+      | zero ↦
+          record {
+            areas = record { table = tableAfterFresh order (record { metric = metric }) (a .table); work = a .work; result = a .result };
+            stage = stage.Serving;
+            text = [];
+          }
+      | suc n ↦ record { areas = a; stage = stage.Ended; text = replyLine letterF (suc n ∷ []) }
+    ]
+headerOutcome a number header.Other = record { areas = a; stage = stage.Ended; text = otherText number }
+
+-- what the calls leave of the areas
+unfoldable pub areasAfter : Areas → Command → Profile → Areas
+areasAfter a (command.Add tag) p =
+    record {
+      table = tableAfterAdd (a .table) (a .work) tag p;
+      work = workAfterAdd (a .table) (a .work) tag p;
+      result = a .result;
+    }
+areasAfter a (command.Remove tag) p =
+    record {
+      table = tableAfterRemove (a .table) (a .work) tag;
+      work = workAfterRemove (a .table) (a .work) tag;
+      result = a .result;
+    }
+areasAfter a (command.Within radius) p =
+    record { table = a .table; work = a .work; result = resultAfterRange (a .table) (a .result) p radius }
+areasAfter a (command.Nearest k) p = record { table = a .table; work = a .work; result = resultAfterNearest (a .table) (a .result) p k }
+areasAfter a command.Other p = a
+
+-- and what is printed: a search's entries are those of the result area after it
+unfoldable pub textAfter : Areas → ℕ → Command → Profile → List ℕ
+textAfter a number (command.Add tag) p = addText (addReply (a .table) (a .work) tag p)
+textAfter a number (command.Remove tag) p = removeText (removeReply (a .table) (a .work) tag)
+textAfter a number (command.Within radius) p =
+    searchText letterW (rangeReply (a .table) (a .result) p radius) (resultAfterRange (a .table) (a .result) p radius)
+textAfter a number (command.Nearest k) p =
+    searchText letterN (nearestReply (a .table) (a .result) p k) (resultAfterNearest (a .table) (a .result) p k)
+textAfter a number command.Other p = otherText number
+
+unfoldable pub commandOutcome : Areas → ℕ → Command → Profile → LineOutcome
+commandOutcome a number c p = record { areas = areasAfter a c p; stage = stage.Serving; text = textAfter a number c p }
+
+-- a line by its number: one that is `?` counts, and the header is line 1
+unfoldable pub lineOutcome : Areas → ℕ → Stage → List ℕ → LineOutcome
+lineOutcome a number stage.Waiting line = headerOutcome a number (headerIn line)
+lineOutcome a number stage.Serving line = commandOutcome a number (commandIn line) (profileIn line)
+lineOutcome a number stage.Ended line = record { areas = a; stage = stage.Ended; text = [] }
+
+unfoldable pub after : Yard → List ℕ → Yard
+after y line =
+    let outcome = lineOutcome (y .areas) (suc (y .lines)) (y .stage) line in
+    record { areas = outcome .areas; stage = outcome .stage; lines = suc (y .lines) }
+
+-- what some lines print
+unfoldable pub printed : Yard → List (List ℕ) → List ℕ
+printed y [] = []
+printed y (line ∷ lines) = lineOutcome (y .areas) (suc (y .lines)) (y .stage) line .text ++ printed (after y line) lines
+
+-- "each line ends in a line feed, which the last may lack": after the last line feed there is a line where there is a byte
+unfoldable pub lastKept : List (List ℕ) → List (List ℕ)
+lastKept [] = []
+lastKept ([] ∷ []) = []
+lastKept ((b ∷ bs) ∷ []) = (b ∷ bs) ∷ []
+lastKept (line ∷ next ∷ lines) = line ∷ lastKept (next ∷ lines)
+
+-- no line at all is an empty first line: "`? 1` for a line of another form or no line"
+unfoldable pub firstKept : List (List ℕ) → List (List ℕ)
+firstKept [] = []
+firstKept (line ∷ lines) = line ∷ lastKept lines
+
+unfoldable pub linesIn : List ℕ → List (List ℕ)
+linesIn input = firstKept (parted lineFeed input)
+
+-- all that the program prints
+unfoldable pub conversation : Areas → List ℕ → List ℕ
+conversation a input = printed (record { areas = a; stage = stage.Waiting; lines = 0 }) (linesIn input)
