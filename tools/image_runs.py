@@ -1,5 +1,5 @@
 #!/usr/bin/env python3
-"""What load replies to a damaged image, worked out apart from the code by document 01's rules.
+"""What load replies to a damaged image, worked out apart from the code by docs/RULES.md (12).
 
 Writes crates/image_runs/src/bytes.rt (a sound image, with one byte behind it) and crates/image_runs/stdout (what the program must print).
 With --check it writes nothing and fails where a file differs from what it would write.

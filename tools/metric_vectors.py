@@ -1,5 +1,5 @@
 #!/usr/bin/env python3
-"""Vectors for the metric crate, worked out apart from it by document 01's rules.
+"""Vectors for the metric crate, worked out apart from it by docs/RULES.md (2 and 3).
 
 Writes crates/metric_vectors/src/vectors.rt (the table) and crates/metric_vectors/stdout (what the program must print).
 With --check it writes nothing and fails where a file differs from what it would write.

@@ -1,5 +1,5 @@
 #!/usr/bin/env python3
-"""Runs of the calls on a table, worked out apart from the code by document 01's rules.
+"""Runs of the calls on a table, worked out apart from the code by docs/RULES.md (8 to 11).
 
 Writes crates/table_runs/src/steps.rt (the steps) and crates/table_runs/stdout (what the program must print).
 With --check it writes nothing and fails where a file differs from what it would write.

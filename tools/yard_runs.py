@@ -1,5 +1,5 @@
 #!/usr/bin/env python3
-"""Conversations with the program yard, worked out apart from the code by document 01's rules.
+"""Conversations with the program yard, worked out apart from the code by docs/RULES.md (18).
 
 Writes tests/yard/NAME.in and NAME.out: what the program is given, and what it must print.
 With --check it writes nothing and fails where a file differs from what it would write, or where README.md shows another exchange.

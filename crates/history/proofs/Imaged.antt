@@ -1,4 +1,4 @@
--- Images worked by hand from 01's "The image": order 0 with one item, and order 2 with a dead slot, written, loaded back, and spoiled.
+-- Images worked by hand from RULES 12: order 0 with one item, and order 2 with a dead slot, written, loaded back, and spoiled.
 -- Each is a run that antt computes.
 use Prim.Native.Nat.{ℕ}
 use mathlib.Core.Path.{_≡_, refl}

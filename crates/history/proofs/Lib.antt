@@ -1,4 +1,4 @@
--- The theorems of `specs/Demands`, and the definitions of 01's rules run on small herds.
+-- The theorems of `specs/Demands`, and the definitions of the rules run on small herds.
 pub mod Theorems
 pub mod Computing
 pub mod Running

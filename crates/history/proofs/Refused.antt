@@ -1,4 +1,4 @@
--- Every refusal number of 01 and of herd lists at least once, with what the areas then hold: a refusal replies its number and zeros and leaves every area as it
+-- Every refusal number of RULES 14.1 at least once, with what the areas then hold: a refusal replies its number and zeros and leaves every area as it
 -- was, but 6 on range and nearest leaves the result area all zero. Each is a run that antt computes.
 use Prim.Native.Nat.{ℕ, _+_, _^_}
 use mathlib.Core.Path.{_≡_, refl}

@@ -1,4 +1,4 @@
--- Removals worked by hand from 01's "Remove": each case at k = 2 and at k = 3, and the buckets after it. Each is a run that antt computes.
+-- Removals worked by hand from RULES 9: each case at k = 2 and at k = 3, and the buckets after it. Each is a run that antt computes.
 -- A reply is refusal, distances; a bucket's contents are its sizes and then each slot's tag, threshold and mark.
 use Prim.Native.Nat.{ℕ}
 use mathlib.Core.Path.{_≡_, refl}

@@ -86,7 +86,7 @@ itemLine n v =
     let none : List ℕ = semicolon ∷ digits 1 0 ++ comma ∷ digits 2 0 in
     digits 15 (tag n) ++ semicolon ∷ digits 5 (v / 100) ++ comma ∷ digits 2 (v % 100) ++ none ++ none ++ none ++ lineFeed ∷ []
 
--- 01's four items: order 2, metric 0, nationals 1 to 4 with 10, 13, 13, 20
+-- RULES A's four items: order 2, metric 0, nationals 1 to 4 with 10, 13, 13, 20
 unfoldable pub fourItems : List Call
 unfolding tag valued
 fourItems = fresh 2 (by 0) ∷ add (tag 1) (valued 10) ∷ add (tag 2) (valued 13) ∷ add (tag 3) (valued 13) ∷ add (tag 4) (valued 20) ∷ []

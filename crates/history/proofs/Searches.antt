@@ -1,4 +1,4 @@
--- Searches worked by hand from 01's "Searching": equal bounds, dead and foreign slots, the three metrics, ties of rank, and the largest distance.
+-- Searches worked by hand from RULES 11: equal bounds, dead and foreign slots, the three metrics, ties of rank, and the largest distance.
 -- Each is a run that antt computes. A reply is refusal, found, distances and then each entry's tag and distance.
 use Prim.Native.Nat.{ℕ, _+_, _-_, _^_}
 use mathlib.Core.Path.{_≡_, refl}
@@ -73,9 +73,9 @@ worked :
     ∷ [])
     -- an empty table: found 0, count 0
     ∷ ((0 ∷ 0 ∷ 0 ∷ []) ∷ (0 ∷ 0 ∷ 0 ∷ []) ∷ [])
-    -- d = 6 from head 1, threshold 3: left at r 3 (6 ≤ 6), not at r 2
+    -- d = 6 from item 1, threshold 3: left at r 3 (6 ≤ 6), not at r 2
     ∷ ((0 ∷ 2 ∷ 4 ∷ tag 2 ∷ 3 ∷ tag 3 ∷ 3 ∷ []) ∷ (0 ∷ 0 ∷ 2 ∷ []) ∷ [])
-    -- 2, 3 and 4 all at 3 from head 1, 4 on the right: d = 1, right at r 2 (1 + 2 ≥ 3), not at r 1
+    -- 2, 3 and 4 all at 3 from item 1, 4 on the right: d = 1, right at r 2 (1 + 2 ≥ 3), not at r 1
     ∷ ((0 ∷ 4 ∷ 4 ∷ tag 1 ∷ 1 ∷ tag 2 ∷ 2 ∷ tag 3 ∷ 2 ∷ tag 4 ∷ 2 ∷ []) ∷ (0 ∷ 1 ∷ 2 ∷ tag 1 ∷ 1 ∷ []) ∷ [])
     -- d = 12 > 10, right first: 3 at 2; then left at the equal bound 12 ≤ 10 + 2: the lower tag 2 at 2
     ∷ ((0 ∷ 1 ∷ 4 ∷ tag 2 ∷ 2 ∷ []) ∷ [])

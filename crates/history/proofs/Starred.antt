@@ -1,4 +1,4 @@
--- The starred lines of 01's "Small herds, worked", of the definitions, together as one list. Each line is a run that antt computes.
+-- The starred lines of RULES A, of the definitions, together as one list. Each line is a run that antt computes.
 use Prim.Native.Nat.{ℕ}
 use mathlib.Core.Path.{_≡_, refl}
 use mathlib.Core.List.{List, [], _∷_, _++_, map}
@@ -48,12 +48,12 @@ starred :
     ∷ ((4 ∷ 4 ∷ []) ∷ (tag 1 ∷ 3 ∷ 0 ∷ []) ∷ (tag 2 ∷ 0 ∷ 0 ∷ []) ∷ (tag 3 ∷ 0 ∷ 0 ∷ []) ∷ (tag 4 ∷ 0 ∷ 0 ∷ []) ∷ [])
     -- a fifth add: 22; adding 4 again: 20
     ∷ ((22 ∷ 0 ∷ 0 ∷ []) ∷ (20 ∷ 0 ∷ 0 ∷ []) ∷ [])
-    -- range 13, r 0: head 2, 3, count 4; range 30, r 5: none, count 2; nearest 13, k 1: head 2 at 0, count 4; nearest 30, k 1: head 4 at 10, count 2
+    -- range 13, r 0: items 2, 3, count 4; range 30, r 5: none, count 2; nearest 13, k 1: item 2 at 0, count 4; nearest 30, k 1: item 4 at 10, count 2
     ∷ ((0 ∷ 2 ∷ 4 ∷ tag 2 ∷ 0 ∷ tag 3 ∷ 0 ∷ []) ∷ (0 ∷ 0 ∷ 2 ∷ []) ∷ (0 ∷ 1 ∷ 4 ∷ tag 2 ∷ 0 ∷ []) ∷ (0 ∷ 1 ∷ 2 ∷ tag 4 ∷ 10 ∷ []) ∷ [])
-    -- removing 4, 3, 2 reports 0, 0, 0; head 1 ends in bucket 0
+    -- removing 4, 3, 2 reports 0, 0, 0; item 1 ends in bucket 0
     ∷ ((0 ∷ 0 ∷ []) ∷ (0 ∷ 0 ∷ []) ∷ (0 ∷ 0 ∷ []) ∷ [])
     ∷ ((1 ∷ 1 ∷ []) ∷ (tag 1 ∷ 0 ∷ 0 ∷ []) ∷ [])
-    -- instead: remove 4, add 5, remove 3, 2: head 1, 5 in bucket 1, last report 1
+    -- instead: remove 4, add 5, remove 3, 2: items 1, 5 in bucket 1, last report 1
     ∷ ((0 ∷ 0 ∷ []) ∷ (0 ∷ 0 ∷ 0 ∷ []) ∷ (0 ∷ 0 ∷ []) ∷ (0 ∷ 1 ∷ []) ∷ [])
     ∷ ((2 ∷ 2 ∷ []) ∷ (tag 1 ∷ 1 ∷ 0 ∷ []) ∷ (tag 5 ∷ 0 ∷ 0 ∷ []) ∷ [])
     -- order 3, live sizes 1, 1, 2, 3 (built 1, 2, 4, 8): an add builds 8 in bucket 3, report 13

@@ -1,4 +1,4 @@
--- A call on a table with the areas lent to it, and what it leaves: its reply and every area. Each case is the definition that the call's own
+-- RULES 17.1, a call on a table with the areas lent to it, and what it leaves: its reply and every area. Each case is the definition that the call's own
 -- contract cites.
 use Prim.Native.Nat.{ℕ}
 use mathlib.Core.List.{List}
@@ -23,7 +23,7 @@ use Rattle.image_rules.specs.Load.{loadRefusal, tableAfterLoad}
 use Rattle.list_rules.specs.declared.ListRead.{ListRead}
 use Rattle.list_rules.specs.ReadList.{readListReply, tableAfterReadList, workAfterReadList}
 
--- the nine calls with their arguments, a load's image and a herd list's bytes among them
+-- RULES 1.1: the nine calls with their arguments, a load's image and a herd list's bytes among them
 pub data Call : Type 0 where
   fresh : (order : ℕ) (space : Space) → Call
   load : (image : List ℕ) → Call
@@ -35,7 +35,7 @@ pub data Call : Type 0 where
   write : Call
   readList : (list : List ℕ) → Call
 
--- the areas lent to a call: the table, the work area, the result area and the bytes that an image is written to
+-- RULES 4.1, the areas lent to a call: the table, the work area, the result area and the bytes that an image is written to
 pub record Lent : Type 0 where
   pub table : Table
   pub work : List Row

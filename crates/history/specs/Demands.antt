@@ -1,9 +1,9 @@
--- START HERE. What is claimed of the index, one demand after the other; the theorem that proves a claim stands in proofs/Theorems under the
+-- START HERE. What is claimed of the index (RULES 17), one demand after the other; the theorem that proves a claim stands in proofs/Theorems under the
 -- name given.
 --
--- Demand 1. Every call, for every input and every lent area, replies and leaves what the rules say: the refusal that comes first in their order
--- and only under its condition, and every reply, count and area. It is the contract of each public call, which has no `requires` and cites
--- the definitions that `specs/Calls` joins: `replyTo` and `areasAfter`.
+-- Demand 1 (RULES 17.1). Every call, for every input and every lent area, replies and leaves what the rules say: the refusal that comes first in
+-- their order and only under its condition, and every reply, count and area. It is the contract of each public call, which has no `requires` and
+-- cites the definitions that `specs/Calls` joins: `replyTo` and `areasAfter`.
 use Prim.Native.Nat.{ℕ, _^_, _≤_, _<_, min}
 use mathlib.Core.Path.{_≡_}
 use mathlib.Core.List.{List, map}
@@ -24,43 +24,44 @@ use Rattle.history.specs.Images.{imageSize, LoadsBack, GivesBack}
 use Rattle.history.specs.Represents.{Holds}
 use Rattle.history.specs.Reports.{ReportsBuilds}
 
--- Of those answers, two numbers that the rules also give in words, for every table, foreign ones too. The count of range is the number of slots all of
--- whose ancestors let their side be entered.
+-- Of those answers, two numbers that the rules also give in words, for every table, foreign ones too. RULES 11.6: the count of range is the number
+-- of slots all of whose ancestors let their side be entered.
 -- Theorem: `counts-visits`
 abbrev pub CountsVisits : Type 0
 CountsVisits =
     (t : Table) (query : Profile) (radius : ℕ)
     → rangeAnswer t query radius .count ≡ total (map (λ k. length (reached (distance (tableSpace t)) query radius (slotsOf t k))) (bucketsDown t))
 
--- Nearest replies with k items, or with all of the built slots of mark 0 where these are fewer.
+-- RULES 15.3: nearest replies with k items, or with all of the built slots of mark 0 where these are fewer.
 -- Theorem: `keeps-enough`
 abbrev pub KeepsEnough : Type 0
 KeepsEnough =
     (t : Table) (query : Profile) (k : ℕ) → length (nearestAnswer t query k .entries) ≡ min k (total (map (λ b. length (liveSlots t b)) (bucketsDown t)))
 
--- Demands 2 and 3, one claim over every list of calls on one table, refused ones and herd lists read too, that an accepted fresh or load began (`History`):
--- at each call table and reference model show the same; after the list the table is a valid one of the published method (which buckets a call builds is
--- settled by the definitions that `areasAfter` joins), it holds the model's items, range and nearest answer as a scan of them, and all rebuilds together
--- keep within 4·T·(T+1)·A + 11·T·R distances.
+-- Demands 2 and 3 (RULES 17.2 to 17.4, 17.6 to 17.8), one claim over every list of calls on one table, refused ones and herd lists read too, that an
+-- accepted fresh or load began (`History`): at each call table and reference model show the same; after the list the table is a valid one of the
+-- published method (which buckets a call builds is settled by the definitions that `areasAfter` joins), it holds the model's items, range and nearest
+-- answer as a scan of them, and all rebuilds together keep within 4·T·(T+1)·A + 11·T·R distances.
 -- Theorem: `every-list`
 abbrev pub EveryList : Type 0
 EveryList = (h : History) → Holds h
 
--- Demand 3, the numbers that are added up: whatever they are lent, accepted or refused, add and remove report c(n) for the n items that they built, and
--- 0 where they built none. The reading of a herd list reports the sum of its adds' by definition (`reading`).
+-- Demand 3 (RULES 17.7), the numbers that are added up: whatever they are lent, accepted or refused, add and remove report c(n) for the n items that
+-- they built, and 0 where they built none. The reading of a herd list reports the sum of its adds' by definition (`reading`).
 -- Theorem: `every-report`
 abbrev pub EveryReport : Type 0
 EveryReport = (lent : Lent) → ReportsBuilds (lent .table) (lent .work)
 
--- Demand 2, images. After every such list, writing is accepted wherever table area and byte area are long enough, and what it wrote loads, into any
--- table area that is long enough, as the table it came from.
+-- Demand 2 (RULES 17.5), images. After every such list, writing is accepted wherever table area and byte area are long enough, and what it wrote
+-- loads, into any table area that is long enough, as the table it came from.
 -- Theorem: `written-loads`
 abbrev pub WrittenLoads : Type 0
 WrittenLoads =
     (h : History) (lent area : Lent) → tableRows (finalModel h .order) ≤ length (lent .table) → imageSize (finalState h .table) ≤ length (lent .image)
     → tableRows (finalModel h .order) ≤ length (area .table) → LoadsBack (finalState h .table) lent area
 
--- And whatever bytes are handed to load: they are accepted only if writing the loaded table, into any areas that are long enough, gives them back.
+-- RULES 17.5, and whatever bytes are handed to load: they are accepted only if writing the loaded table, into any areas that are long enough, gives
+-- them back.
 -- Theorem: `accepted-gives-back`
 abbrev pub AcceptedGivesBack : Type 0
 AcceptedGivesBack =

@@ -1,4 +1,4 @@
--- The lists of calls that demands 2 and 3 speak of: "a table from fresh or load, changed since by these calls only" (01, "Stopped by the state").
+-- RULES 17.2: the lists of calls that demands 2 and 3 speak of, on a table that fresh or load began and these calls alone changed since.
 use Prim.Native.Nat.{_^_, _<_}
 use mathlib.Core.Path.{_≡_}
 use mathlib.Core.List.{List, [], _∷_}
@@ -22,7 +22,7 @@ IsCall (nearest q k) = IsProfile q × (k < 2 ^ 32)
 IsCall write = Unit {0}
 IsCall (readList list) = All (λ b. b < 2 ^ 8) list
 
--- fresh and load can begin a table
+-- RULES 17.2: fresh and load can begin a table
 abbrev pub CanBegin : Call → Type 0
 CanBegin (fresh order space) = Unit {0}
 CanBegin (load image) = Unit {0}
@@ -41,7 +41,7 @@ before t = record { table = t; sums = noSums }
 unfoldable pub blankModel : Model
 blankModel = record { order = 0; space = record { metric = 0 }; items = [] }
 
--- a list of calls on one table: an accepted fresh or load on an area that may hold anything, then any calls, refused ones too
+-- RULES 17.2, a list of calls on one table: an accepted fresh or load on an area that may hold anything, then any calls, refused ones too
 pub record History : Type 0 where
   pub initial : Table
   pub first : Step

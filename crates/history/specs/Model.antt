@@ -1,5 +1,5 @@
--- The reference model, 01's plain book: an order, a metric and a list of items (01's head). It is "fed the calls' arguments (a load's image too)
--- and the lengths of the lent areas, .. but never an answer or what the table holds".
+-- RULES 16, the reference model: an order, a metric and a list of items. It is fed the calls' arguments, a load's image and a herd list too, and the
+-- lengths of the lent areas, but never an answer or what the table holds.
 use Prim.Native.Nat.{ℕ, zero, suc}
 use mathlib.Core.Bool.{Bool, true, false, not, _&&_}
 use mathlib.Core.List.{List, [], _∷_, map}
@@ -25,7 +25,7 @@ use Rattle.history.specs.Calls.{Call, Lent}
 use Rattle.history.specs.Calls.Call.{fresh, load, add, remove, lookUp, range, nearest, write, readList}
 use Rattle.history.specs.Trace.{Step, Shown, showsRefusal, showsProfile, showsEntries, showsList}
 
--- an item is 01's head, as handed over; and the item of a slot's row
+-- RULES 2.7: an item as handed over; and the item of a slot's row
 pub record Item : Type 0 where
   pub tag : ℕ
   pub profile : Profile
@@ -33,12 +33,13 @@ pub record Item : Type 0 where
 unfoldable pub itemOf : Row → Item
 itemOf row = record { tag = tagOf row; profile = profileOf row }
 
+-- RULES 16.1: an order, a metric and a list of items
 pub record Model : Type 0 where
   pub order : ℕ
   pub space : Space
   pub items : List Item
 
--- the lengths of the lent areas
+-- RULES 16.2: the lengths of the lent areas
 pub record Lengths : Type 0 where
   pub table : ℕ
   pub work : ℕ
@@ -47,11 +48,11 @@ pub record Lengths : Type 0 where
 unfoldable pub lengthsOf : Lent → Lengths
 lengthsOf lent = record { table = length (lent .table); work = length (lent .work); result = length (lent .result) }
 
--- the items with a tag: "live meaning in its list of head"
+-- RULES 16.3, the items with a tag: live means in the list
 unfoldable pub withTag : ℕ → List Item → List Item
 withTag tag items = select (λ i. eqb (i .tag) tag) items
 
--- "add puts the head in", "remove strikes it out", "look up gives its profile"
+-- RULES 16.4: add puts the item in, remove strikes it out, look up gives its profile
 unfoldable pub with : Item → Model → Model
 with item m = record { order = m .order; space = m .space; items = item ∷ m .items }
 
@@ -62,7 +63,7 @@ unfoldable pub profileIn : List Item → Profile
 profileIn [] = noProfile
 profileIn (i ∷ is) = i .profile
 
--- the scan: the entry of every item, "all head with d ≤ r", "the first k of all, or all if fewer", by distance, then tag
+-- RULES 16.5, the scan: the entry of every item; all with d ≤ r; the first k of all, or all if fewer; by distance, then tag
 unfoldable pub scanned : Model → Profile → List Entry
 scanned m q = map (λ i. entry (i .tag) (distance (m .space) (i .profile) q)) (m .items)
 
@@ -72,7 +73,7 @@ modelRange m q r = ordered (select (λ e. leb (entryDistance e) r) (scanned m q)
 unfoldable pub modelNearest : Model → Profile → ℕ → List Entry
 modelNearest m q k = keep k (scanned m q)
 
--- 23 for a short table area, in add and remove for a short work area too; then what comes after it
+-- RULES 16.3, 14.5: 23 for a short table area, in add and remove for a short work area too; then what comes after it
 unfoldable pub canRead : Model → Lengths → Bool
 canRead m n = leb (tableRows (m .order)) (n .table)
 
@@ -83,11 +84,11 @@ unfoldable pub enough : Bool → ℕ → ℕ
 enough false rest = shortArea
 enough true rest = rest
 
--- remove and look up: 1, then 21
+-- RULES 14.4, remove and look up: 1, then 21
 unfoldable pub tagRefusal : Model → ℕ → ℕ
 tagRefusal m tag = elim (validTag tag) [ false ↦ badTag | true ↦ elim (withTag tag (m .items)) [ [] ↦ notLive | i ∷ is ↦ 0 ] ]
 
--- add: 1, 2, 20, 22
+-- RULES 14.4, add: 1, 2, 20, 22
 unfoldable pub itemRefusal : Model → ℕ → Profile → ℕ
 itemRefusal m tag p =
     elim (validTag tag) [
@@ -103,11 +104,11 @@ itemRefusal m tag p =
           ]
     ]
 
--- 6: fewer entries in the area than in the reply
+-- RULES 11.11, refusal 6: fewer entries in the area than in the reply
 unfoldable pub fits : ℕ → List Entry → ℕ
 fits area entries = elim (leb (length entries) area) [ true ↦ 0 | false ↦ noRoom ]
 
--- range: 2, 6; nearest: 2, 5, 6
+-- RULES 14.4, range: 2, 6; nearest: 2, 5, 6
 unfoldable pub scanRefusal : Profile → ℕ → ℕ
 scanRefusal q rest = elim (validMeasures q) [ false ↦ badMeasure | true ↦ rest ]
 
@@ -115,7 +116,7 @@ unfoldable pub countRefusal : ℕ → ℕ → ℕ
 countRefusal zero rest = noCount
 countRefusal (suc k) rest = rest
 
--- the model's answer to a call: the model after it, and what it shows
+-- RULES 16, the model's answer to a call: the model after it, and what it shows
 pub record Answered : Type 0 where
   pub model : Model
   pub shows : Shown
@@ -126,16 +127,16 @@ becomes m = record { model = m; shows = showsRefusal 0 }
 unfoldable pub finds : Model → List Entry → Answered
 finds m entries = record { model = m; shows = showsEntries 0 (length entries) entries }
 
--- "it refuses by the numbers above .. and then stays as it was"
+-- RULES 16.3: refused, it stays as it was
 unfoldable pub unless : ℕ → Model → Answered → Answered
 unless zero m a = a
 unless (suc n) m a = record { model = m; shows = showsRefusal (suc n) }
 
--- an add's refusal: 23 for a short area, then 1, 2, 20, 22
+-- RULES 14.4, an add's refusal: 23 for a short area, then 1, 2, 20, 22
 unfoldable pub addRefusalOf : Model → Lengths → ℕ → Profile → ℕ
 addRefusalOf m n tag p = enough (canChange m n) (itemRefusal m tag p)
 
--- a herd list (W4): the model after it, the refusal and its line, and the number added
+-- RULES 16.4, a herd list: the model after it, the refusal and its line, and the number added
 pub record ListAnswered : Type 0 where
   pub model : Model
   pub refusal : ℕ
@@ -148,7 +149,7 @@ stopsAt m refusal line = record { model = m; refusal = refusal; line = line; add
 unfoldable pub oneMoreAdded : ListAnswered → ListAnswered
 oneMoreAdded a = record { model = a .model; refusal = a .refusal; line = a .line; added = suc (a .added) }
 
--- its lines from number i on: "each line accepted .. stays in the plain book, also where a later line is refused"
+-- RULES 16.4, its lines from number i on: those accepted stay, also where a later line is refused
 unfoldable pub linesAnswered : Model → Lengths → ℕ → List ListLine → ListAnswered
 linesAnswered m n i [] = stopsAt m 0 0
 linesAnswered m n i (malformed ∷ lines) = stopsAt m badListLine i
@@ -161,6 +162,7 @@ linesAnswered m n i (anItem tag p ∷ lines) =
 unfoldable pub listAnswered : Model → Lengths → List ℕ → ListAnswered
 listAnswered m n list = elim (hasHeader list) [ false ↦ stopsAt m badListHeader 1 | true ↦ linesAnswered m n 2 (itemLines list) ]
 
+-- RULES 16.3 to 16.5: the answer to each call
 unfoldable pub answer : Model → Call → Lengths → Answered
 answer m (fresh order space) n = unless (freshRefusal (n .table) order space) m (becomes (record { order = order; space = space; items = [] }))
 answer m (load image) n =

@@ -1,4 +1,4 @@
--- 01, "The plain book": "Add and remove report c(n) for the n head they built, 0 where none". What a call built is read off the table before and after it.
+-- RULES 17.7: add and remove report c(n) for the n items that they built, 0 where none. What a call built is read off the table before and after it.
 use Prim.Native.Nat.{ℕ}
 use mathlib.Core.Path.{_≡_}
 use mathlib.Core.Bool.{Bool, true, false, not, _&&_}
@@ -17,16 +17,16 @@ use Rattle.table_rules.specs.Remove.{removeReply, tableAfterRemove}
 unfoldable pub sizesKept : Table → Table → ℕ → Bool
 sizesKept t u k = eqb (builtOf u k) (builtOf t k) && eqb (liveOf u k) (liveOf t k)
 
--- the number of items that a call from table t to table u built in bucket k: its sizes are others than before, and all that it holds is live. An emptied
--- bucket holds nothing, and a removal that builds nothing leaves a dead slot
+-- RULES 17.7, the number of items that a call from table t to table u built in bucket k: its sizes are others than before, and all that it holds is
+-- live. An emptied bucket holds nothing, and a removal that builds nothing leaves a dead slot
 unfoldable pub builtIn : Table → Table → ℕ → ℕ
 builtIn t u k = elim (not (sizesKept t u k) && eqb (builtOf u k) (liveOf u k)) [ true ↦ builtOf u k | false ↦ 0 ]
 
--- c(n) for the n that were built in each bucket
+-- RULES 6.7: c(n) for the n that were built in each bucket
 unfoldable pub buildCost : Table → Table → ℕ
 buildCost t u = total (map (λ k. cost (builtIn t u k)) (bucketsOf (orderOf t)))
 
--- what add and remove report, accepted or refused
+-- RULES 17.7: what add and remove report, accepted or refused
 pub record ReportsBuilds (t : Table) (work : List Row) : Type 0 where
   pub adds : (tag : ℕ) (p : Profile) → addReply t work tag p .distances ≡ buildCost t (tableAfterAdd t work tag p)
   pub removes : (tag : ℕ) → removeReply t work tag .distances ≡ buildCost t (tableAfterRemove t work tag)

@@ -1,4 +1,4 @@
--- What holds of a table after a list of calls: demand 2 on buckets, trees and searches, and demand 3.
+-- RULES 17.3, 17.4, 17.6, 17.7, what holds of a table after a list of calls: demand 2 on buckets, trees and searches, and demand 3.
 use Prim.Native.Nat.{ℕ, _+_, _*_, _≤_}
 use mathlib.Core.Path.{_≡_}
 use mathlib.Core.Bool.{Bool, true, not, _||_}
@@ -19,19 +19,19 @@ use Rattle.history.specs.Trace.{Sums, trace}
 use Rattle.history.specs.Model.{Model, Item, itemOf, modelRange, modelNearest, modelTrace}
 use Rattle.history.specs.History.{History, before, blankModel, steps, finalState, finalModel}
 
--- the items in the table's built slots of mark 0
+-- RULES 17.6: the items in the table's built slots of mark 0
 unfoldable pub itemsIn : Table → List Item
 itemsIn t = map itemOf (liveItems t (bucketsOf (orderOf t)))
 
--- every bucket in use was built more than half full
+-- RULES 17.3: every bucket in use was built more than half full
 unfoldable pub moreThanHalfFull : Table → Bool
 moreThanHalfFull t = every (λ k. not (inUse t k) || ltb (room k) (2 * builtOf t k)) (bucketsOf (orderOf t))
 
--- the buckets in which a live slot has the tag
+-- RULES 17.3: the buckets in which a live slot has the tag
 unfoldable pub bucketsWith : Table → ℕ → List ℕ
 bucketsWith t tag = select (λ k. not (every (λ row. not (eqb (tagOf row) tag)) (liveSlots t k))) (bucketsOf (orderOf t))
 
--- demand 2: the table is one of the published method (1 to 4), and it is the model's (5 to 9)
+-- RULES 17.3, 17.4, 17.6, demand 2: the table is one of the published method (1 to 4), and it is the model's (5 to 9)
 pub record Represents (t : Table) (m : Model) : Type 0 where
   -- 1. a valid order and metric, and as many rows as the order needs
   pub valid : validOrder (orderOf t) ≡ true × validSpace (tableSpace t) ≡ true
@@ -56,12 +56,12 @@ pub record Represents (t : Table) (m : Model) : Type 0 where
   -- 9. nearest likewise, for every query and k
   pub nearest : (q : Profile) (k : ℕ) → IsProfile q → nearestAnswer t q k .entries ≡ modelNearest m q k
 
--- the bound on all rebuilds together, with A adds, a herd list's accepted lines among them, and R removals at order T: 4·T·(T+1)·A + 11·T·R
+-- RULES 17.7, the bound on all rebuilds together, with A adds, a herd list's accepted lines among them, and R removals at order T: 4·T·(T+1)·A + 11·T·R
 unfoldable pub rebuildBound : ℕ → Sums → ℕ
 rebuildBound order sums = 4 * order * (order + 1) * sums .adds + 11 * order * sums .removals
 
--- demand 3: at each call table and model show the same; after the list the table represents the model, and all rebuilds since the last fresh or load
--- keep within the bound, of the order that the calls set
+-- RULES 17.6, 17.7, demand 3: at each call table and model show the same; after the list the table represents the model, and all rebuilds since the
+-- last fresh or load keep within the bound, of the order that the calls set
 pub record Holds (h : History) : Type 0 where
   pub traces : trace (before (h .initial)) (steps h) ≡ modelTrace blankModel (steps h)
   pub represents : Represents (finalState h .table) (finalModel h)

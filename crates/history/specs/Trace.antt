@@ -1,4 +1,4 @@
--- A list of calls on one table: what each shows, and the table with its sums between calls (01, "The plain book").
+-- RULES 17.2, 17.6, 17.7, a list of calls on one table: what each shows, and the table with its sums between calls.
 use Prim.Native.Nat.{ℕ, zero, suc, _+_, _-_}
 use mathlib.Core.Bool.{Bool, true, false}
 use mathlib.Core.List.{List, [], _∷_, _++_}
@@ -13,23 +13,23 @@ use Rattle.history.specs.Calls.{Call, Lent, Reply, Outcome, outcome, wit
 use Rattle.history.specs.Calls.Call.{fresh, load, add, remove, lookUp, range, nearest, write, readList}
 use Rattle.history.specs.Calls.Reply.{number, added, removed, lookedUp, searched, written, listRead}
 
--- one call of a list: "each call may be lent other areas of any length and content"
+-- RULES 17.2, one call of a list: each may be lent other areas of any length and content
 pub record Step : Type 0 where
   pub call : Call
   pub lent : Lent
 
--- the table as a call is lent it: what the call before left, as far as both reach, and the lent area's own rows after that
+-- RULES 17.2, the table as a call is lent it: what the call before left, as far as both reach, and the lent area's own rows after that
 unfoldable pub overlaid : Table → Table → Table
 overlaid left area = take (length area) left ++ drop (length left) area
 
--- what is left after a call: the area's rows, and the rows that it did not reach
+-- RULES 17.2, what is left after a call: the area's rows, and the rows that it did not reach
 unfoldable pub leftBy : Table → Table → Table
 leftBy left area = area ++ drop (length area) left
 
 unfoldable pub stepOutcome : Table → Step → Outcome
 stepOutcome left s = outcome (s .call) (withTable (overlaid left (s .lent .table)) (s .lent))
 
--- what table and model are "alike in" at a call: the refusal, look up's profile, the number found and the entries, a herd list's line and the number
+-- RULES 17.6, what table and model are alike in at a call: the refusal, look up's profile, the number found and the entries, a herd list's line and the number
 -- added; zeros where a call has none of these. Writing's refusal is excepted
 pub record Shown : Type 0 where
   pub refusal : ℕ
@@ -51,7 +51,7 @@ showsEntries n found entries = record { refusal = n; profile = noProfile; found 
 unfoldable pub showsList : ℕ → ℕ → ℕ → Shown
 showsList n line more = record { refusal = n; profile = noProfile; found = 0; entries = []; line = line; added = more }
 
--- of a reply, with the result area after the call
+-- RULES 17.6: of a reply, with the result area after the call
 unfoldable pub shown : Reply → List Entry → Shown
 shown (number n) area = showsRefusal n
 shown (added a) area = showsRefusal (a .refusal)
@@ -61,7 +61,7 @@ shown (searched s) area = showsEntries (s .refusal) (s .found) (take (s .found) 
 shown (written w) area = showsRefusal 0
 shown (listRead r) area = showsList (r .refusal) (r .line) (r .added)
 
--- demand 3's A, R and "these numbers", the distances that add, remove and the reading of a herd list report, since the last fresh or load
+-- RULES 17.7: A, R, and the distances that add, remove and the reading of a herd list report, since the last fresh or load
 pub record Sums : Type 0 where
   pub adds : ℕ
   pub removals : ℕ
@@ -78,12 +78,12 @@ pub record Increment : Type 0 where
 unfoldable pub counts : ℕ → ℕ → ℕ → Increment
 counts adds removals distances = record { afresh = false; more = record { adds = adds; removals = removals; distances = distances } }
 
--- a refused call is in no sum; a herd list's accepted lines are, also where a later line is refused
+-- RULES 17.7: a refused call is in no sum; a herd list's accepted lines are, also where a later line is refused
 unfoldable pub ifAccepted : ℕ → Increment → Increment
 ifAccepted zero i = i
 ifAccepted (suc n) i = counts 0 0 0
 
--- fresh and load start the sums afresh, a load with its live items as adds and its dead ones as removals
+-- RULES 17.7: fresh and load start the sums afresh, a load with its live items as adds and its dead ones as removals
 unfoldable pub starting : Call → Sums
 starting (fresh order space) = noSums
 starting (load image) = let live = length (liveRows image) in record { adds = live; removals = slotsIn image - live; distances = 0 }

@@ -1,4 +1,4 @@
--- 01, "The image": little-endian numbers, the fields with their bytes, and the lengths of the image's parts.
+-- RULES 12.1: little-endian numbers, the fields with their bytes, and the lengths of the image's parts.
 use Prim.Native.Nat.{ℕ, zero, suc, _+_, _*_, _/_, _%_}
 use mathlib.Core.List.{List, [], _∷_, _++_}
 use lib.ListN.{length}
@@ -14,11 +14,11 @@ numberOf [] = 0
 numberOf (b ∷ bs) = b + 256 * numberOf bs
 
 -- Fields are a list: of each, in their order, its number of bytes. A later form of the image appends to these lists.
--- The header: order, metric, and the two zero bytes
+-- RULES 12.1, the header: order, metric, and the two zero bytes
 unfoldable pub headerFields : List ℕ
 headerFields = 1 ∷ 1 ∷ 2 ∷ []
 
--- a slot is its row's words in their order: the tag's two
+-- RULES 12.1: a slot is its row's words in their order: the tag's two
 unfoldable pub tagFields : List ℕ
 tagFields = 4 ∷ 4 ∷ []
 
@@ -42,7 +42,7 @@ tagBytes = total tagFields
 unfoldable pub recordBytes : ℕ
 recordBytes = total recordFields
 
--- a pair of 16-bit sizes for each bucket comes after the header
+-- RULES 12.1: a pair of 16-bit sizes for each bucket comes after the header
 unfoldable pub sizeBytes : ℕ
 sizeBytes = 2
 
@@ -56,6 +56,6 @@ sizesEnd order = headerBytes + pairBytes * suc order
 unfoldable pub tagWords : ℕ
 tagWords = length tagFields
 
--- the whole image, of n built slots in all
+-- RULES 12.1: the whole image, of n built slots in all
 unfoldable pub imageLength : ℕ → ℕ → ℕ
 imageLength order n = sizesEnd order + (tagBytes + recordBytes) * n

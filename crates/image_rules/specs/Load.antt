@@ -1,4 +1,4 @@
--- 01, "The image", load: the checks in their order, each with its number, and the table after the call.
+-- RULES 12.3 to 12.5, load: the checks in their order, each with its number, and the table after the call.
 use Prim.Native.Nat.{ℕ, zero, suc}
 use mathlib.Core.Bool.{Bool, true, false, _&&_}
 use mathlib.Core.List.{List, map, foldl, flatten}
@@ -17,26 +17,26 @@ use Rattle.table_rules.specs.Fresh.{freshTable}
 use Rattle.image_rules.specs.Bytes.{headerBytes, sizesEnd, imageLength}
 use Rattle.image_rules.specs.Read.{orderIn, spaceIn, zerosIn, builtIn, liveIn, slotsIn, bucketIn}
 
--- a slot's own fields: tag, measures, and a mark that is 0 or 1
+-- RULES 12.5, a slot's own fields: tag, measures, and a mark that is 0 or 1
 unfoldable pub fieldsPass : Row → Bool
 fieldsPass row = validTag (tagOf row) && validMeasures (profileOf row) && leb (markOf row) 1
 
--- a bucket: its slots' fields, its 0 marks number its live size, no tag twice, and its slots are a tree's layout, marks aside
+-- RULES 12.5, a bucket: its slots' fields, its 0 marks number its live size, no tag twice, and its slots are a tree's layout, marks aside
 unfoldable pub bucketPasses : Space → ℕ → List Row → Bool
 bucketPasses space live slots =
     every fieldsPass slots && eqb (length (select isLive slots)) live && distinct (map tagOf slots) && isLayout (distance space) slots
 
--- the live items of the whole image, bucket by bucket
+-- RULES 12.5: the live items of the whole image, bucket by bucket
 unfoldable pub liveRows : List ℕ → List Row
 liveRows image = flatten (map (λ k. select isLive (bucketIn image k)) (bucketsOf (orderIn image)))
 
--- every bucket passes, and no live tag occurs twice at all
+-- RULES 12.5: every bucket passes, and no live tag occurs twice at all
 unfoldable pub slotsPass : List ℕ → Bool
 slotsPass image =
     every (λ k. bucketPasses (spaceIn image) (liveIn image k) (bucketIn image k)) (bucketsOf (orderIn image))
     && distinct (map tagOf (liveRows image))
 
--- once the order is known: size pairs cut 7, sizes 24, total length 7, the table's room 23, then 8
+-- RULES 12.4, once the order is known: size pairs cut 7, sizes 24, total length 7, the table's room 23, then 8
 unfoldable pub bodyRefusal : ℕ → List ℕ → ℕ
 bodyRefusal rows image =
     elim (leb (sizesEnd (orderIn image)) (length image)) [
@@ -56,7 +56,7 @@ bodyRefusal rows image =
           ]
     ]
 
--- under 4 bytes 7; order 3; metric 4; the two zero bytes 8; then the body. Of the table only its number of rows is read
+-- RULES 12.4: under 4 bytes 7; order 3; metric 4; the two zero bytes 8; then the body. Of the table only its number of rows is read
 unfoldable pub loadRefusal : ℕ → List ℕ → ℕ
 loadRefusal rows image =
     elim (ltb (length image) headerBytes) [
@@ -73,10 +73,11 @@ loadRefusal rows image =
           ]
     ]
 
--- a fresh table of the image's order and metric, with each bucket put in its place
+-- RULES 12.3: a fresh table of the image's order and metric, with each bucket put in its place
 unfoldable pub loadedTable : List ℕ → Table → Table
 loadedTable image t =
     foldl (λ u k. putBucket k (bucketIn image k) (liveIn image k) u) (freshTable (orderIn image) (spaceIn image) t) (bucketsOf (orderIn image))
 
+-- RULES 14.2: a refused load changes nothing
 unfoldable pub tableAfterLoad : List ℕ → Table → Table
 tableAfterLoad image t = elim (loadRefusal (length t) image) [ zero ↦ loadedTable image t | suc n ↦ t ]

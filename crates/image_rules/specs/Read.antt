@@ -1,4 +1,4 @@
--- 01, "The image", read: the fields at their places, whatever the bytes are.
+-- RULES 12.1, read: the fields at their places, whatever the bytes are.
 use Prim.Native.Nat.{ℕ, suc, _+_, _*_}
 use mathlib.Core.List.{List, [], _∷_, _++_, map}
 use lib.ListN.{getD, take, drop}
@@ -15,7 +15,7 @@ unfoldable pub fieldsAt : List ℕ → List ℕ → ℕ → List ℕ
 fieldsAt image [] at = []
 fieldsAt image (w ∷ ws) at = numberAt image w at ∷ fieldsAt image ws (at + w)
 
--- order, metric, and the number of the two zero bytes
+-- RULES 12.1: order, metric, and the number of the two zero bytes
 unfoldable pub headerNumbers : List ℕ → List ℕ
 headerNumbers image = fieldsAt image headerFields 0
 
@@ -38,11 +38,11 @@ liveIn image k = numberAt image sizeBytes (headerBytes + pairBytes * k + sizeByt
 unfoldable pub slotsBefore : List ℕ → ℕ → ℕ
 slotsBefore image k = total (map (builtIn image) (countFrom 0 k))
 
--- N, the built slots of all buckets
+-- RULES 12.1: N, the built slots of all buckets
 unfoldable pub slotsIn : List ℕ → ℕ
 slotsIn image = slotsBefore image (suc (orderIn image))
 
--- slot i of the image: its tag among the tags, then the rest of its row among the records
+-- RULES 12.1, slot i of the image: its tag among the tags, then the rest of its row among the records
 unfoldable pub rowIn : List ℕ → ℕ → Row
 rowIn image i =
     let tags = sizesEnd (orderIn image) in

@@ -1,4 +1,4 @@
--- 01, "The image": the bytes of a table, and the call that writes them.
+-- RULES 12.1, 12.2: the bytes of a table, and the call that writes them.
 use Prim.Native.Nat.{ℕ, zero, suc}
 use mathlib.Core.Bool.{true, false}
 use mathlib.Core.List.{List, [], _∷_, _++_, map, flatten}
@@ -13,33 +13,35 @@ use Rattle.table_rules.specs.Checks.{readRefusal}
 use Rattle.image_rules.specs.declared.Written.{Written}
 use Rattle.image_rules.specs.Bytes.{bytesOf, bytesOfFields, headerFields, sizeBytes, tagFields, recordFields, tagWords}
 
--- order, metric, two zero bytes
+-- RULES 12.1: order, metric, two zero bytes
 unfoldable pub headerBytesOf : ℕ → Space → List ℕ
 headerBytesOf order space = bytesOfFields headerFields (order ∷ space .metric ∷ 0 ∷ [])
 
--- built and live of each bucket from 0 up
+-- RULES 12.1: built and live of each bucket from 0 up
 unfoldable pub sizesOf : ℕ → (ℕ → ℕ) → (ℕ → ℕ) → List ℕ
 sizesOf order built live = flatten (map (λ k. bytesOf sizeBytes (built k) ++ bytesOf sizeBytes (live k)) (bucketsOf order))
 
--- the tags of some rows, and their records
+-- RULES 12.1: the tags of some rows, and their records
 unfoldable pub tagsOf : List Row → List ℕ
 tagsOf rows = flatten (map (λ row. bytesOfFields tagFields (take tagWords row)) rows)
 
 unfoldable pub recordsOf : List Row → List ℕ
 recordsOf rows = flatten (map (λ row. bytesOfFields recordFields (drop tagWords row)) rows)
 
--- the built slots of all buckets, from bucket 0 up
+-- RULES 12.1: the built slots of all buckets, from bucket 0 up
 unfoldable pub allSlots : Table → List Row
 allSlots t = flatten (map (slotsOf t) (bucketsOf (orderOf t)))
 
+-- RULES 12.1: header, sizes, tags, records
 unfoldable pub imageOf : Table → List ℕ
 imageOf t = headerBytesOf (orderOf t) (tableSpace t) ++ sizesOf (orderOf t) (builtOf t) (liveOf t) ++ tagsOf (allSlots t) ++ recordsOf (allSlots t)
 
--- after 23 and 24: 6, fewer bytes in the area than in the image
+-- RULES 14.4, after 23 and 24: 6, fewer bytes in the area than in the image
 unfoldable pub writeRefusal : Table → List ℕ → ℕ
 writeRefusal t area =
     elim (readRefusal t) [ suc n ↦ suc n | zero ↦ elim (leb (length (imageOf t)) (length area)) [ true ↦ 0 | false ↦ noRoom ] ]
 
+-- RULES 12.2: the image's length
 unfoldable pub writeReply : Table → List ℕ → Written
 writeReply t area =
     elim (writeRefusal t area) [
@@ -47,6 +49,6 @@ writeReply t area =
       | suc n ↦ record { refusal = suc n; length = 0 }
     ]
 
--- the bytes after the image are unchanged
+-- RULES 12.2: the bytes after the image are unchanged
 unfoldable pub imageAfterWrite : Table → List ℕ → List ℕ
 imageAfterWrite t area = elim (writeRefusal t area) [ zero ↦ imageOf t ++ drop (length (imageOf t)) area | suc n ↦ area ]

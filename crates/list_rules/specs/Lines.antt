@@ -1,4 +1,4 @@
--- Request W4: the lines of a herd list. Every string of bytes has the header or not, and its lines are items or malformed.
+-- RULES 13.1: the lines of a herd list. Every string of bytes has the header or not, and its lines are items or malformed.
 use Prim.Native.Nat.{ℕ}
 use mathlib.Core.Bool.{Bool, true, false, _&&_}
 use mathlib.Core.List.{List, [], _∷_}
@@ -15,7 +15,7 @@ semicolon = 59
 abbrev pub comma : ℕ
 comma = 44
 
--- "a header line `tag;kg;hip;girth;gain`", with its line feed
+-- RULES 13.1: the header line `tag;kg;hip;girth;gain` with its line feed
 unfoldable pub listHeader : List ℕ
 listHeader =
     116 ∷ 97 ∷ 103 ∷ semicolon
@@ -27,7 +27,7 @@ listHeader =
 unfoldable pub hasHeader : List ℕ → Bool
 hasHeader list = sameNumbers (take (length listHeader) list) listHeader
 
--- "a 15-digit tag and four values, parted by single semicolons, each 1 to 5 digits, decimal comma, two digits, one optional minus covering all digits"
+-- RULES 13.1: a tag of 15 digits and four values, parted by single semicolons, with a decimal comma
 abbrev pub field : List ℕ → ℕ → List ℕ
 field line n = partAt semicolon line n
 
@@ -43,7 +43,7 @@ isItemLine line =
 unfoldable pub itemTag : List ℕ → ℕ
 itemTag line = numeral 10 (field line 0)
 
--- "The coat code is zero"
+-- RULES 13.1: the code is zero
 unfoldable pub itemProfile : List ℕ → Profile
 itemProfile line =
     record {
@@ -56,7 +56,7 @@ itemProfile line =
       code = 0 ∷ 0 ∷ [];
     }
 
--- a line, without its line feed: an item to add, or a line not of the form
+-- RULES 13.4, a line, without its line feed: an item to add, or a line not of the form
 pub data ListLine : Type 0 where
   anItem : (tag : ℕ) (profile : Profile) → ListLine
   malformed : ListLine
@@ -64,7 +64,7 @@ pub data ListLine : Type 0 where
 unfoldable pub lineOf : List ℕ → ListLine
 lineOf line = elim (isItemLine line) [ true ↦ anItem (itemTag line) (itemProfile line) | false ↦ malformed ]
 
--- "Each line ends in one line feed": bytes behind the last line feed are a line not of the form, and where there are none there is no line
+-- RULES 13.4: bytes behind the last line feed are a line not of the form, and where there are none there is no line
 unfoldable pub linesFrom : List (List ℕ) → List ListLine
 linesFrom [] = []
 linesFrom ([] ∷ []) = []

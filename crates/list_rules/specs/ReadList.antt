@@ -1,4 +1,4 @@
--- Request W4: the reading of a herd list, "each line is an add". The reply and both areas, by the definitions of an add.
+-- RULES 13: the reading of a herd list, each line an add. The reply and both areas, by the definitions of an add.
 use Prim.Native.Nat.{ℕ, zero, suc, _+_}
 use mathlib.Core.Bool.{true, false}
 use mathlib.Core.List.{List, [], _∷_}
@@ -9,24 +9,24 @@ use Rattle.list_rules.specs.declared.ListRead.{ListRead}
 use Rattle.list_rules.specs.Lines.{ListLine, hasHeader, itemLines}
 use Rattle.list_rules.specs.Lines.ListLine.{anItem, malformed}
 
--- "30 for a header that differs or lacks its line feed", "31 for a line not of the form"
+-- RULES 14.1: 30 for a list without its header, 31 for a line not of the form
 abbrev pub badListHeader : ℕ
 badListHeader = 30
 
 abbrev pub badListLine : ℕ
 badListLine = 31
 
--- the reply and the areas after a reading
+-- RULES 13.5: the reply and the areas after a reading
 pub record Reading : Type 0 where
   pub reply : ListRead
   pub table : Table
   pub work : List Row
 
--- "the reply has the refusal, the line number" (0 and 0 where no line was refused); nothing was added
+-- RULES 13.5: the refusal and its line, 0 and 0 where no line was refused; nothing was added
 unfoldable pub stopped : ℕ → ℕ → Table → List Row → Reading
 stopped refusal line t work = record { reply = record { refusal = refusal; line = line; added = 0; distances = 0 }; table = t; work = work }
 
--- an accepted line before what the later lines lead to: "the count added and the sum of those adds' distances"
+-- RULES 13.5, an accepted line before what the later lines lead to: one more added, and its distances
 unfoldable pub oneMore : ℕ → Reading → Reading
 oneMore distances r =
     record {
@@ -41,7 +41,7 @@ oneMore distances r =
       work = r .work;
     }
 
--- the lines from number n on: the form first, then the add's own refusals; "at the first line refused the reading stops; earlier lines remain added"
+-- RULES 13.4, 13.5, the lines from number n on: the form first, then the add's own refusals; the first line refused ends the reading
 unfoldable pub reading : Table → List Row → ℕ → List ListLine → Reading
 reading t work n [] = stopped 0 0 t work
 reading t work n (malformed ∷ lines) = stopped badListLine n t work
@@ -51,7 +51,7 @@ reading t work n (anItem tag p ∷ lines) =
       | zero ↦ oneMore (addReply t work tag p .distances) (reading (tableAfterAdd t work tag p) (workAfterAdd t work tag p) (suc n) lines)
     ]
 
--- the header is line 1, and 30 comes first of all; "where no line follows the header nothing more is checked and the reply is all zeros"
+-- RULES 13.2, 13.3: the header is line 1, and 30 comes first of all; with no line behind it nothing more is checked
 unfoldable pub listReading : Table → List Row → List ℕ → Reading
 listReading t work list = elim (hasHeader list) [ false ↦ stopped badListHeader 1 t work | true ↦ reading t work 2 (itemLines list) ]
 

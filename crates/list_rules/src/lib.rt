@@ -1,6 +1,6 @@
 // Herd lists: what the reading of one replies. No function.
 
-// The numbers of the list's own refusals.
+// RULES 14.1: the numbers of the list's own refusals.
 pub const BAD_LIST_HEADER: u32 = 30;
 
 pub const BAD_LIST_LINE: u32 = 31;

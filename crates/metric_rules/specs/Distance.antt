@@ -1,4 +1,4 @@
--- 01, "A head and its distance", and W1: the three metrics, and the laws that trees, searches and costs are shown from.
+-- RULES 3: the three metrics, and the laws that trees, searches and costs are shown from.
 use Prim.Native.Nat.{ℕ, zero, suc, _+_, _-_, _/_, _%_, _^_, _≤_, _<_, min, max}
 use mathlib.Core.Path.{_≡_}
 use lib.IntN.{_-ℤ_, natAbs}
@@ -8,7 +8,7 @@ use mathlib.Core.Bool.{Bool}
 use Rattle.metric_rules.specs.declared.Profile.{Profile}
 use Rattle.metric_rules.specs.Row.{Row, word, measure, codeWord}
 
--- a distance is an unsigned number of 32 bits, and a larger sum is taken as the largest of them
+-- RULES 3.1, 3.2: a distance is an unsigned number of 32 bits, and a larger sum is taken as the largest of them
 unfoldable pub mostDistance : ℕ
 mostDistance = 2 ^ 32 - 1
 
@@ -21,7 +21,7 @@ unfoldable pub gap : Profile → Profile → ℕ → ℕ
 unfolding measure
 gap p q i = natAbs (measure p i -ℤ measure q i)
 
--- metric 0: the sum of the absolute differences of the four measures, at most 8,000,000 for valid ones (`measure-most`)
+-- RULES 3.2, metric 0: the sum of the absolute differences of the four measures, at most 8,000,000 for valid ones (`measure-most`)
 unfoldable pub measureDistance : Profile → Profile → ℕ
 unfolding gap saturated
 measureDistance p q = saturated (gap p q 0 + gap p q 1 + gap p q 2 + gap p q 3)
@@ -31,26 +31,26 @@ unfoldable pub differing : ℕ → ℕ → ℕ → ℕ
 differing zero a b = 0
 differing (suc n) a b = differ (a % 2) (b % 2) + differing n (a / 2) (b / 2)
 
--- metric 1: the number of bit positions in which the two codes, of two 64-bit words each, differ, at most 128 (`code-most`)
+-- RULES 3.3, metric 1: the number of bit positions in which the two codes, of two 64-bit words each, differ, at most 128 (`code-most`)
 unfoldable pub codeDistance : Profile → Profile → ℕ
 unfolding differing codeWord
 codeDistance p q = differing 64 (codeWord p 0) (codeWord q 0) + differing 64 (codeWord p 1) (codeWord q 1)
 
--- metric 2 (W1): the largest of the absolute differences of the four measures. Measures of 32 bits never saturate it (`worst-exact`)
+-- RULES 3.4, metric 2: the largest of the absolute differences of the four measures. Measures of 32 bits never saturate it (`worst-exact`)
 unfoldable pub largest : (ℕ → ℕ) → ℕ
 largest f = max (max (f 0) (f 1)) (max (f 2) (f 3))
 
 unfoldable pub worstDistance : Profile → Profile → ℕ
 worstDistance p q = saturated (largest (gap p q))
 
--- the distance by a metric's number. A number above 2 is no metric and every call refuses it; here it reads as 2
+-- RULES 3.1, the distance by a metric's number. A number above 2 is no metric and every call refuses it; here it reads as 2
 unfoldable pub distanceBy : ℕ → Profile → Profile → ℕ
 unfolding measureDistance codeDistance
 distanceBy zero = measureDistance
 distanceBy (suc zero) = codeDistance
 distanceBy (suc (suc metric)) = worstDistance
 
--- what a distance depends on, in one value: a table's metric ("A table has one metric, set when fresh")
+-- RULES 3.1: what a distance depends on, in one value: a table's metric
 pub record Space : Type 0 where
   pub metric : ℕ
 
@@ -58,7 +58,7 @@ unfoldable pub distance : Space → Profile → Profile → ℕ
 unfolding distanceBy
 distance space = distanceBy (space .metric)
 
--- the place of the metric in a table's header row
+-- RULES 4.3: the place of the metric in a table's header row
 unfoldable pub metricAt : ℕ
 metricAt = 1
 
@@ -67,7 +67,7 @@ unfoldable pub spaceOf : Row → Space
 unfolding word metricAt
 spaceOf header = record { metric = word header metricAt }
 
--- a metric is 0, 1 or 2 (refusal 4 is for a number above the last)
+-- RULES 3.1: a metric is 0, 1 or 2 (refusal 4 is for a number above the last)
 unfoldable pub lastMetric : ℕ
 lastMetric = 2
 
@@ -75,7 +75,7 @@ unfoldable pub validSpace : Space → Bool
 unfolding lastMetric
 validSpace space = leb (space .metric) lastMetric
 
--- what trees, searches and costs rest on: an unsigned 32-bit distance with the three laws
+-- RULES 3.6, what trees, searches and costs rest on: an unsigned 32-bit distance with the three laws
 pub record Metric (dist : Profile → Profile → ℕ) : Type 0 where
   pub fits : (p q : Profile) → dist p q < 2 ^ 32
   pub equal : (p : Profile) → dist p p ≡ 0

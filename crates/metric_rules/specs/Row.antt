@@ -1,6 +1,5 @@
 -- A slot's row: the twelve words of 32 bits, the fields that they hold, and the row of given fields.
--- Tag, profile, threshold and mark are 01's terms ("A head and its distance", "Order, buckets, trees", "Remove"); the places of the words are
--- the interface's ("A slot's row": the image's fields in the image's order, each number's low word first). Decoding and encoding are inverse to each other:
+-- RULES 4.2: they are the image's fields in the image's order, each number's low word first. Decoding and encoding are inverse to each other:
 -- every row is the row of its fields (`row-of-fields`), and a row of given fields has those fields (`tag-of-row`, `profile-of-row`, `threshold-of-row`,
 -- `mark-of-row`).
 use Prim.Native.Nat.{ℕ, _+_, _*_, _/_, _%_, _^_, _<_}
@@ -14,14 +13,14 @@ use mir.Syntax.{w32}
 use mir.Val.{toZ, ofZ, SFits}
 use Rattle.metric_rules.specs.declared.Profile.{Profile}
 
--- a row is the list of its words
+-- RULES 4.1: a row is the list of its words
 abbrev pub Row : Type 0
 Row = List ℕ
 
 unfoldable pub rowWidth : ℕ
 rowWidth = 12
 
--- the places of the tag's two words, of the four measures, of the code's four words, of the threshold and of the mark
+-- RULES 4.2: the places of the tag's two words, of the four measures, of the code's four words, of the threshold and of the mark
 unfoldable pub tagAt : ℕ
 tagAt = 0
 
@@ -52,7 +51,7 @@ wide low high = low + high * 2 ^ 32
 unfoldable pub words : ℕ → List ℕ
 words n = n % 2 ^ 32 ∷ n / 2 ^ 32 ∷ []
 
--- the fields of a row. `toZ w32` reads a word as a signed number in two's complement, and `ofZ w32` writes one
+-- RULES 4.2, the fields of a row. `toZ w32` reads a word as a signed number in two's complement, and `ofZ w32` writes one
 unfoldable pub tagOf : Row → ℕ
 unfolding word wide tagAt
 tagOf row = wide (word row tagAt) (word row (tagAt + 1))
@@ -75,7 +74,7 @@ unfoldable pub markOf : Row → ℕ
 unfolding word markAt
 markOf row = word row markAt
 
--- a head is live where its mark is 0; any other mark is dead ("Remove", and the end of "Stopped by the state")
+-- RULES 5.5, 15.2: an item is live where its mark is 0; any other mark is dead
 unfoldable pub isLive : Row → Bool
 unfolding markOf
 isLive row = eqb (markOf row) 0
@@ -87,7 +86,7 @@ measure p i = getD (p .measures) i (pos 0)
 unfoldable pub codeWord : Profile → ℕ → ℕ
 codeWord p i = getD (p .code) i 0
 
--- the row of a tag, a profile, a threshold and a mark
+-- RULES 4.2: the row of a tag, a profile, a threshold and a mark
 unfoldable pub rowOf : ℕ → Profile → ℕ → ℕ → Row
 unfolding words measure codeWord
 rowOf tag p threshold mark =
@@ -106,7 +105,7 @@ unfoldable pub withMark : ℕ → Row → Row
 unfolding markAt
 withMark mark row = set row markAt mark
 
--- the values that `[u32; 12]` and `Profile` have
+-- RULES 4.1, 2.4, 2.5: the values that `[u32; 12]` and `Profile` have
 pub record IsRow (row : Row) : Type 0 where
   pub width : length row ≡ rowWidth
   pub fits : (i : ℕ) → word row i < 2 ^ 32

@@ -1,4 +1,4 @@
--- 01, "A head and its distance", and W2: which tags and which measures are valid.
+-- RULES 2: which tags and which measures are valid.
 use Prim.Native.Nat.{ℕ, _/_, _%_, _^_}
 use mathlib.Core.Bool.{Bool, _&&_}
 use lib.IntN.{ℤ, natAbs}
@@ -6,7 +6,7 @@ use lib.Dec.{leb}
 use Rattle.lists.specs.Lists.{every}
 use Rattle.metric_rules.specs.declared.Profile.{Profile}
 
--- a tag is country × 10^12 + national
+-- RULES 2.1: a tag is country × 10^12 + national
 unfoldable pub nationals : ℕ
 nationals = 10 ^ 12
 
@@ -18,7 +18,7 @@ unfoldable pub nationalOf : ℕ → ℕ
 unfolding nationals
 nationalOf tag = tag % nationals
 
--- the country is 1 to 999, the national at most what 38 bits hold (W2)
+-- RULES 2.2: the country is 1 to 999, the national at most what 38 bits hold
 unfoldable pub lastCountry : ℕ
 lastCountry = 999
 
@@ -29,7 +29,7 @@ unfoldable pub validTag : ℕ → Bool
 unfolding countryOf nationalOf lastCountry lastNational
 validTag tag = leb 1 (countryOf tag) && leb (countryOf tag) lastCountry && leb (nationalOf tag) lastNational
 
--- a measure is hundredths from -1,000,000 to 1,000,000
+-- RULES 2.4: a measure is hundredths from -1,000,000 to 1,000,000
 unfoldable pub measureLimit : ℕ
 measureLimit = 1_000_000
 

@@ -1,6 +1,6 @@
 // Profiles and rows: what the other crates' definitions and code name them by.
 
-// The words of a slot's row, and the place of each: the tag's two, the four measures, the two of each code word, the threshold and the mark.
+// RULES 4.2: the words of a slot's row, and the place of each: the tag's two, the four measures, the two of each code word, the threshold and the mark.
 pub const ROW_WIDTH: usize = 12;
 
 pub const TAG_LOW: usize = 0;
@@ -27,13 +27,13 @@ pub const THRESHOLD_AT: usize = 10;
 
 pub const MARK_AT: usize = 11;
 
-// The place of the metric in a table's header row.
+// RULES 4.3: the place of the metric in a table's header row.
 pub const METRIC_AT: usize = 1;
 
 // A slot of a table: twelve words of 32 bits. Every twelve words are some slot.
 pub type Row = [u32; ROW_WIDTH];
 
-// 01's profile: four measures in hundredths and the coat code, handed over as one value.
+// RULES 2.6: four measures in hundredths and the coat code, handed over as one value.
 #[repr(C)]
 pub struct Profile {
     pub measures: [i32; 4],

@@ -1,4 +1,4 @@
--- 01, "Searching", nearest: the visit of one tree's slots with the k best so far passed through every step.
+-- RULES 11, nearest: the visit of one tree's slots with the k best so far passed through every step.
 use Prim.Native.Nat.{ℕ, zero, suc}
 use mathlib.Core.Bool.{Bool, true, false, _||_}
 use mathlib.Core.List.{List, [], _∷_, foldl}
@@ -9,40 +9,40 @@ use Rattle.metric_rules.specs.Row.{Row, thresholdOf}
 use Rattle.tree_rules.specs.Layout.{leftSize}
 use Rattle.search_rules.specs.Range.{Entry, entryDistance, ordered, toQuery, entryOf, entersLeft, entersRight}
 
--- the first k of some entries by distance, then tag
+-- RULES 11.9: the first k of some entries by distance, then tag
 unfoldable pub keep : ℕ → List Entry → List Entry
 unfolding ordered
 keep k es = take k (ordered es)
 
--- what a nearest search carries: the entries kept, in their order, and the number of slots visited
+-- RULES 11.8, what a nearest search carries: the entries kept, in their order, and the number of slots visited
 pub record Tally : Type 0 where
   pub kept : List Entry
   pub count : ℕ
 
--- the distance of the worst entry kept
+-- RULES 11.7: the distance of the worst entry kept
 unfoldable pub worst : List Entry → ℕ
 unfolding entryDistance
 worst kept = foldl (λ d e. entryDistance e) 0 kept
 
--- with fewer than k head found both tests pass; after that r is the worst distance kept. `enters` is a side's test
+-- RULES 11.7: with fewer than k items found both tests pass; after that r is the worst distance kept. `enters` is a side's test
 unfoldable pub opens : ℕ → (ℕ → Bool) → List Entry → Bool
 unfolding worst
 opens k enters kept = ltb (length kept) k || enters (worst kept)
 
--- `reports` tells which slots' head may be reported: those that are live
+-- `reports` tells which slots' items may be reported: those that are live
 module _ (dist : Profile → Profile → ℕ) (query : Profile) (reports : Row → Bool) (k : ℕ) where
-  -- the slot's own head is taken in where it may be reported, and its distance is counted, dead or not
+  -- RULES 11.2: the slot's own item is taken in where it may be reported, and its distance is counted, dead or not
   unfoldable pub taken : Tally → Row → Tally
   unfolding keep entryOf
   taken t row =
       record { kept = elim (reports row) [ true ↦ keep k (entryOf dist query row ∷ t .kept) | false ↦ t .kept ]; count = suc (t .count) }
 
-  -- a half whose turn has come: its test is made on what is kept by then
+  -- RULES 11.8, a half whose turn has come: its test is made on what is kept by then
   unfoldable pub enterHalf : (ℕ → Bool) → (Tally → Tally) → Tally → Tally
   unfolding opens
   enterHalf enters search t = elim (opens k enters (t .kept)) [ true ↦ search t | false ↦ t ]
 
-  -- the half on the query's side goes first: left if d ≤ m
+  -- RULES 11.8: the half on the query's side goes first: left if d ≤ m
   unfoldable pub enterHalves : ℕ → ℕ → (Tally → Tally) → (Tally → Tally) → Tally → Tally
   unfolding enterHalf entersLeft entersRight
   enterHalves d m left right t =
@@ -51,7 +51,8 @@ module _ (dist : Profile → Profile → ℕ) (query : Profile) (reports : Row �
         | false ↦ enterHalf (entersLeft d m) left (enterHalf (entersRight d m) right t)
       ]
 
-  -- the first slot, taken in before its halves are tested, and then its halves. The first argument bounds the depth, and the number of slots is enough
+  -- RULES 11.4, 11.8: the first slot, taken in before its halves are tested, and then its halves. The first argument bounds the depth, and the
+  -- number of slots is enough
   unfoldable pub nearestWithin : ℕ → Tally → List Row → Tally
   unfolding taken enterHalves toQuery thresholdOf leftSize
   nearestWithin zero t slots = t
@@ -63,7 +64,7 @@ module _ (dist : Profile → Profile → ℕ) (query : Profile) (reports : Row �
       (λ u. nearestWithin depth u (drop l rest))
       (taken t s)
 
-  -- nearest over one tree's slots, whatever they hold, from what is kept and counted before
+  -- RULES 11.4: nearest over one tree's slots, whatever they hold, from what is kept and counted before
   unfoldable pub nearestTree : Tally → List Row → Tally
   unfolding nearestWithin
   nearestTree t slots = nearestWithin (length slots) t slots

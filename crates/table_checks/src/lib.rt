@@ -1,4 +1,4 @@
-// What stops a call on a lent table, by 01's numbers in their order: 23 and 24. The table's content and length are any.
+// RULES 14.5: what stops a call on a lent table, 23 and 24 in their order. The table's content and length are any.
 ghost use mathlib.Core.Path.{_≡_};
 ghost use mathlib.Core.Bool.{true};
 ghost use Prim.Native.Nat.{_<_};

@@ -86,7 +86,7 @@ fn reply_with(area: &mut [Entry], near: Nearby) -> Searched
     accepted(area, near.kept, near.count)
 }
 
-// 01's nearest over a table: every value of every argument, a table and an area of any length and content.
+// RULES 11, nearest over a table: every value of every argument, a table and an area of any length and content.
 pub fn nearest(table: &[Row], result: &mut [Entry], query: Profile, k: u32) -> Searched
     ensures reply { λ r. ⌜ r ≡ nearestReply (now (table .entry)) (now (result .entry)) query k ⌝ }
     ensures area { λ _. ⌜ now (result .exit) ≡ resultAfterNearest (now (table .entry)) (now (result .entry)) query k ⌝ }

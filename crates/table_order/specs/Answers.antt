@@ -1,4 +1,4 @@
--- What asking for an order answers: 01's number and the order, for each case of `Ordered`. The refusal is 01's 3, "order above 12".
+-- RULES 5.1, what asking for an order answers: the number and the order, for each case of `Ordered`. The refusal is 3 (RULES 14.1).
 use Prim.Native.Nat.{ℕ}
 use mathlib.Core.Bool.{true, false}
 use Rattle.table_rules.specs.Refusals.{badOrder}

@@ -1,4 +1,4 @@
-// 01's order T of a table. Every place in a table or a work area is worked out here and nowhere else.
+// RULES 5.1, the order T of a table. Every place in a table or a work area is worked out here and nowhere else.
 ghost use mathlib.Core.Path.{_≡_};
 ghost use Prim.Native.Nat.{_<_};
 ghost use Rattle.table_rules.specs.Geometry.{room, sizesRow, firstSlot, tableRows, workRows};

@@ -62,7 +62,7 @@ fn reply_with(area: &mut [Entry], found: Found) -> Searched
     accepted(area, n, found.count)
 }
 
-// 01's range over a table: every value of every argument, a table and an area of any length and content.
+// RULES 11, range over a table: every value of every argument, a table and an area of any length and content.
 pub fn range(table: &[Row], result: &mut [Entry], query: Profile, radius: u32) -> Searched
     ensures reply { λ r. ⌜ r ≡ rangeReply (now (table .entry)) (now (result .entry)) query radius ⌝ }
     ensures area { λ _. ⌜ now (result .exit) ≡ resultAfterRange (now (table .entry)) (now (result .entry)) query radius ⌝ }

@@ -1,4 +1,4 @@
--- 01, "Add": the refusals, the bucket built, and every area after the call.
+-- RULES 8: the refusals, the bucket built, and every area after the call.
 use Prim.Native.Nat.{ℕ, zero, suc, _-_, _*_}
 use mathlib.Core.Bool.{true, false}
 use mathlib.Core.List.{List, _∷_}
@@ -16,7 +16,7 @@ use Rattle.table_rules.specs.Checks.{changeRefusal}
 use Rattle.table_rules.specs.Rebuild.{Rebuilt, liveItems, rebuilt}
 use Rattle.table_rules.specs.LookUp.{isLiveTag}
 
--- after 23 and 24: 1, 2, 20, 22
+-- RULES 14.4, after 23 and 24: 1, 2, 20, 22
 unfoldable pub addRefusal : Table → List Row → ℕ → Profile → ℕ
 addRefusal t work tag p =
     elim (changeRefusal work t) [
@@ -41,27 +41,27 @@ unfoldable pub emptyFrom : Table → ℕ → ℕ → ℕ
 emptyFrom t k zero = k
 emptyFrom t k (suc n) = elim (inUse t k) [ true ↦ emptyFrom t (suc k) n | false ↦ k ]
 
--- the lowest empty bucket, or T + 1 if none is
+-- RULES 8.1: the lowest empty bucket, or T + 1 if none is
 unfoldable pub lowestEmpty : Table → ℕ
 lowestEmpty t = emptyFrom t 0 (suc (orderOf t))
 
--- the new item, then the live items of buckets 0 to k - 1 in slot order
+-- RULES 8.2: the new item, then the live items of buckets 0 to k - 1 in slot order
 unfoldable pub gathered : Table → ℕ → Profile → List Row
 gathered t tag p = rowOf tag p 0 0 ∷ liveItems t (countFrom 0 (lowestEmpty t))
 
--- n items go to bucket k if they are more than 2^(k-1), else to k - 1
+-- RULES 8.3: n items go to bucket k if they are more than 2^(k-1), else to k - 1
 unfoldable pub addBucket : ℕ → ℕ → ℕ
 addBucket k n = elim (ltb (room k) (2 * n)) [ true ↦ k | false ↦ k - 1 ]
 
--- the bucket that the add of this head builds
+-- RULES 8.5: the bucket that the add of this item builds
 unfoldable pub addTarget : Table → ℕ → Profile → ℕ
 addTarget t tag p = addBucket (lowestEmpty t) (length (gathered t tag p))
 
--- the head gathered are built there, and the other gathered buckets become empty
+-- RULES 8.3: the items gathered are built there, and the other gathered buckets become empty
 unfoldable pub added : Table → ℕ → Profile → Rebuilt
 added t tag p = rebuilt t (countFrom 0 (lowestEmpty t)) (addTarget t tag p) (gathered t tag p)
 
--- the reply and the areas after the call
+-- RULES 8.5, 4.5: the reply and the areas after the call
 unfoldable pub addReply : Table → List Row → ℕ → Profile → Added
 addReply t work tag p =
     elim (addRefusal t work tag p) [

@@ -1,4 +1,4 @@
--- 01, "Order, buckets, trees" and "Stopped by the input", fresh: an order and a metric set, and every bucket empty.
+-- RULES 7: an order and a metric set, and every bucket empty.
 use Prim.Native.Nat.{ℕ, zero, suc, _-_}
 use mathlib.Core.Bool.{true, false}
 use mathlib.Core.List.{_∷_, _++_}
@@ -10,7 +10,7 @@ use Rattle.table_rules.specs.Refusals.{badOrder, badMetric, shortArea}
 use Rattle.table_rules.specs.Geometry.{validOrder, tableRows}
 use Rattle.table_rules.specs.Table.{Table, headerOf}
 
--- 3, 4, 23; nothing of the table is read but its length
+-- RULES 7.2: 3, 4, 23; nothing of the table is read but its length
 unfoldable pub freshRefusal : ℕ → ℕ → Space → ℕ
 freshRefusal rows order space =
     elim (validOrder order) [
@@ -22,9 +22,10 @@ freshRefusal rows order space =
           ]
     ]
 
--- the header, then zeros in every size and slot; rows past the table keep their content
+-- RULES 7.1: the header, then zeros in every size and slot; rows past the table keep their content
 unfoldable pub freshTable : ℕ → Space → Table → Table
 freshTable order space t = headerOf order space ∷ replicate (tableRows order - 1) zeroRow ++ drop (tableRows order) t
 
+-- RULES 14.2: a refused fresh changes nothing
 unfoldable pub tableAfterFresh : ℕ → Space → Table → Table
 tableAfterFresh order space t = elim (freshRefusal (length t) order space) [ zero ↦ freshTable order space t | suc n ↦ t ]

@@ -1,4 +1,4 @@
--- 01, "Remove" (the finding of a live item by its tag) and look up: its refusals and its reply.
+-- RULES 9.1, the finding of a live item by its tag, and RULES 10, look up: its refusals and its reply.
 use Prim.Native.Nat.{ℕ, zero, suc}
 use mathlib.Core.Bool.{Bool, true, false, _&&_}
 use mathlib.Core.List.{List, [], _∷_}
@@ -20,7 +20,7 @@ pub record Place : Type 0 where
   pub slot : ℕ
   pub row : Row
 
--- the first live slot with the tag among the slots of bucket k from slot i on
+-- RULES 9.1: the first live slot with the tag among the slots of bucket k from slot i on
 unfoldable pub placeFrom : ℕ → ℕ → ℕ → List Row → Option Place
 placeFrom tag k i [] = none
 placeFrom tag k i (r ∷ rs) =
@@ -31,14 +31,14 @@ unfoldable pub placeIn : Table → ℕ → List ℕ → Option Place
 placeIn t tag [] = none
 placeIn t tag (k ∷ ks) = elim (placeFrom tag k 0 (slotsOf t k)) [ some place ↦ some place | none ↦ placeIn t tag ks ]
 
--- the live item with a tag: lowest bucket first, then lowest slot
+-- RULES 9.1, the live item with a tag: lowest bucket first, then lowest slot
 unfoldable pub find : Table → ℕ → Option Place
 find t tag = placeIn t tag (bucketsOf (orderOf t))
 
 unfoldable pub isLiveTag : Table → ℕ → Bool
 isLiveTag t tag = elim (find t tag) [ some place ↦ true | none ↦ false ]
 
--- after 23 and 24: 1, 21
+-- RULES 14.4, after 23 and 24: 1, 21
 unfoldable pub lookUpRefusal : Table → ℕ → ℕ
 lookUpRefusal t tag =
     elim (readRefusal t) [
@@ -50,13 +50,14 @@ lookUpRefusal t tag =
           ]
     ]
 
--- a refusal has zeros in every other field
+-- RULES 14.2: a refusal has zeros in every other field
 unfoldable pub noProfile : Profile
 noProfile = record { measures = pos 0 ∷ pos 0 ∷ pos 0 ∷ pos 0 ∷ []; code = 0 ∷ 0 ∷ [] }
 
 unfoldable pub notFound : ℕ → LookedUp
 notFound n = record { refusal = n; bucket = 0; profile = noProfile }
 
+-- RULES 10.2: the bucket and the profile
 unfoldable pub lookUpReply : Table → ℕ → LookedUp
 lookUpReply t tag =
     elim (lookUpRefusal t tag) [

@@ -1,4 +1,4 @@
--- What the tests of a lent table show where it is not refused: what the steps behind them rest on.
+-- RULES 14.5: what the tests of a lent table show where it is not refused, on which the steps behind them rest.
 use Prim.Native.Nat.{_≤_}
 use mathlib.Core.Path.{_≡_}
 use mathlib.Core.Bool.{true}

@@ -1,11 +1,11 @@
--- 01, "Stopped by the input" and "Stopped by the state": the number of each refusal, written once. 0 is an accepted call.
+-- RULES 14.1: the number of each refusal, written once. 0 is an accepted call.
 use Prim.Native.Nat.{ℕ}
 
--- tag outside its form (add, remove, look up)
+-- the tag is not valid (add, remove, look up)
 abbrev pub badTag : ℕ
 badTag = 1
 
--- a measure outside its range (add, range, nearest)
+-- a measure is not valid (add, range, nearest)
 abbrev pub badMeasure : ℕ
 badMeasure = 2
 
@@ -41,7 +41,7 @@ alreadyLive = 20
 abbrev pub notLive : ℕ
 notLive = 21
 
--- 2^T head live (add)
+-- 2^T items live (add)
 abbrev pub full : ℕ
 full = 22
 
@@ -49,6 +49,6 @@ full = 22
 abbrev pub shortArea : ℕ
 shortArea = 23
 
--- sizes, order or metric in a lent table, or sizes in an image, break the rules; in add and remove also the marks of a lent bucket
+-- order, metric or sizes of a lent table, or sizes of an image, break the rules; in add and remove also the marks of a lent bucket
 abbrev pub badTable : ℕ
 badTable = 24

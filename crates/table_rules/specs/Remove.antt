@@ -1,4 +1,4 @@
--- 01, "Remove": the refusals, the four cases in their order, and every area after the call.
+-- RULES 9: the refusals, the four cases in their order, and every area after the call.
 use Prim.Native.Nat.{ℕ, zero, suc, _+_, _-_, _*_}
 use mathlib.Core.Bool.{true, false}
 use mathlib.Core.List.{List, [], _∷_}
@@ -15,7 +15,7 @@ use Rattle.table_rules.specs.Checks.{changeRefusal}
 use Rattle.table_rules.specs.Rebuild.{Rebuilt, liveItems, rebuilt}
 use Rattle.table_rules.specs.LookUp.{Place, find, isLiveTag}
 
--- after 23 and 24: 1, 21
+-- RULES 14.4, after 23 and 24: 1, 21
 unfoldable pub removeRefusal : Table → List Row → ℕ → ℕ
 removeRefusal t work tag =
     elim (changeRefusal work t) [
@@ -27,17 +27,17 @@ removeRefusal t work tag =
           ]
     ]
 
--- the slot marked dead, and its bucket's live size one less
+-- RULES 9.2: the slot marked dead, and its bucket's live size one less
 unfoldable pub marked : Table → Place → Table
 marked t place =
     let k = place .bucket in
     putSizes k (builtOf t k) (liveOf t k - 1) (set t (firstSlot (orderOf t) k + place .slot) (withMark 1 (place .row)))
 
--- the items of the buckets listed, bucket k's first, built in one bucket
+-- RULES 9.4: the items of the buckets listed, bucket k's first, built in one bucket
 unfoldable pub united : Table → List ℕ → ℕ → Rebuilt
 united t ks k = rebuilt t ks k (liveItems t ks)
 
--- bucket k has 2^(k-2) live, k ≥ 2: with k - 1 in use the two unite, in k if k - 1 had more than 2^(k-2) live, else in k - 1;
+-- RULES 9.4, bucket k has 2^(k-2) live, k ≥ 2: with k - 1 in use the two unite, in k if k - 1 had more than 2^(k-2) live, else in k - 1;
 -- else with k - 2 in use those two, in k - 1; else bucket k alone, in k - 2
 unfoldable pub rebuiltLower : Table → ℕ → Rebuilt
 rebuiltLower t k =
@@ -46,7 +46,7 @@ rebuiltLower t k =
       | false ↦ elim (inUse t (k - 2)) [ true ↦ united t (k ∷ (k - 2) ∷ []) (k - 1) | false ↦ united t (k ∷ []) (k - 2) ]
     ]
 
--- after the marking: no live item empties the bucket, enough of them is the end, else it is too thin
+-- RULES 9.3, after the marking: no live item empties the bucket, enough of them is the end, else it is too thin
 unfoldable pub shrunk : Table → ℕ → Rebuilt
 shrunk t k =
     elim (eqb (liveOf t k) 0) [
@@ -54,11 +54,11 @@ shrunk t k =
       | false ↦ elim (ltb (room k) (4 * liveOf t k)) [ true ↦ record { table = t; distances = 0 } | false ↦ rebuiltLower t k ]
     ]
 
--- the live head with the tag is marked dead and its bucket settled; without one nothing changes, and the call is refused (21)
+-- RULES 9: the live item with the tag is marked dead and its bucket settled; without one nothing changes, and the call is refused (21)
 unfoldable pub removed : Table → ℕ → Rebuilt
 removed t tag = elim (find t tag) [ some place ↦ shrunk (marked t place) (place .bucket) | none ↦ record { table = t; distances = 0 } ]
 
--- the reply and the areas after the call
+-- RULES 9.5, 4.5: the reply and the areas after the call
 unfoldable pub removeReply : Table → List Row → ℕ → Removed
 removeReply t work tag =
     elim (removeRefusal t work tag) [

@@ -1,4 +1,4 @@
--- 01, "Searching", over a table: buckets from T down to 0, the reply, the refusals and the result area after the call.
+-- RULES 11, over a table: buckets from T down to 0, the reply, the refusals and the result area after the call.
 use Prim.Native.Nat.{ℕ, zero, suc, _-_}
 use mathlib.Core.Bool.{true, false}
 use mathlib.Core.List.{List, [], _++_, foldl, foldr, reverse}
@@ -16,38 +16,38 @@ use Rattle.table_rules.specs.Geometry.{bucketsOf}
 use Rattle.table_rules.specs.Table.{Table, orderOf, tableSpace, slotsOf}
 use Rattle.table_rules.specs.Checks.{readRefusal}
 
--- what a search of a table answers: its entries by distance, then tag, and the slots visited
+-- RULES 11.10, what a search of a table answers: its entries by distance, then tag, and the slots visited
 pub record Answer : Type 0 where
   pub entries : List Entry
   pub count : ℕ
 
--- "Buckets are searched from T down to 0"
+-- RULES 11.1: buckets are searched from T down to 0
 unfoldable pub bucketsDown : Table → List ℕ
 bucketsDown t = reverse (bucketsOf (orderOf t))
 
--- range with one radius over all buckets: what each meets, joined
+-- RULES 11.5: range with one radius over all buckets: what each meets, joined
 unfoldable pub rangeMet : Table → Profile → ℕ → Met
 rangeMet t query radius =
     foldr (λ k met. both (rangeTree (distance (tableSpace t)) query isLive radius (slotsOf t k)) met) nothing (bucketsDown t)
 
--- the hits by distance, then tag. The count is the number of slots all of whose ancestors let their side be entered (`range-visits`)
+-- RULES 11.6, 11.10: the hits by distance, then tag. The count is the number of slots all of whose ancestors let their side be entered (`range-visits`)
 unfoldable pub rangeAnswer : Table → Profile → ℕ → Answer
 rangeAnswer t query radius = let met = rangeMet t query radius in record { entries = ordered (met .hits); count = met .count }
 
--- the kept entries and the count pass through every bucket
+-- RULES 11.8: the kept entries and the count pass through every bucket
 unfoldable pub nearestTally : Table → Profile → ℕ → Tally
 nearestTally t query k =
     foldl (λ tally b. nearestTree (distance (tableSpace t)) query isLive k tally (slotsOf t b)) (record { kept = []; count = 0 }) (bucketsDown t)
 
--- the reply is what is kept: over any table min(k, Z) entries, Z being the number of built slots with mark 0 (`nearest-size`; the interface's point 9)
+-- RULES 11.9, 15.3: the reply is what is kept, over any table min(k, Z) entries, Z being the number of built slots with mark 0 (`nearest-size`)
 unfoldable pub nearestAnswer : Table → Profile → ℕ → Answer
 nearestAnswer t query k = let tally = nearestTally t query k in record { entries = tally .kept; count = tally .count }
 
--- 6: fewer entries in the area than in the reply
+-- RULES 11.11, refusal 6: fewer entries in the area than in the reply
 unfoldable pub fitRefusal : List Entry → Answer → ℕ
 fitRefusal area a = elim (leb (length (a .entries)) (length area)) [ true ↦ 0 | false ↦ noRoom ]
 
--- after 23 and 24: 2, 6
+-- RULES 14.4, after 23 and 24: 2, 6
 unfoldable pub rangeRefusal : Table → List Entry → Profile → ℕ → ℕ
 rangeRefusal t area query radius =
     elim (readRefusal t) [
@@ -55,7 +55,7 @@ rangeRefusal t area query radius =
       | zero ↦ elim (validMeasures query) [ false ↦ badMeasure | true ↦ fitRefusal area (rangeAnswer t query radius) ]
     ]
 
--- after 23 and 24: 2, 5, 6
+-- RULES 14.4, after 23 and 24: 2, 5, 6
 unfoldable pub nearestRefusal : Table → List Entry → Profile → ℕ → ℕ
 nearestRefusal t area query k =
     elim (readRefusal t) [
@@ -67,21 +67,21 @@ nearestRefusal t area query k =
           ]
     ]
 
--- the reply by the refusal: number and zeros, or the numbers of the answer
+-- RULES 11.11, 14.2, the reply by the refusal: number and zeros, or the numbers of the answer
 unfoldable pub searchReply : ℕ → Answer → Searched
 searchReply zero a = record { refusal = 0; found = length (a .entries); distances = a .count }
 searchReply (suc n) a = record { refusal = suc n; found = 0; distances = 0 }
 
--- "the rest of the area is zero after an accepted search"
+-- RULES 11.10: the rest of the area is zero after an accepted search
 unfoldable pub zeroEntry : Entry
 zeroEntry = entry 0 0
 
--- the result area by the refusal: the entries and zeros; all zero at 6; else as it was
+-- RULES 11.10, 14.2, the result area by the refusal: the entries and zeros; all zero at 6; else as it was
 unfoldable pub resultAfter : ℕ → List Entry → Answer → List Entry
 resultAfter zero area a = a .entries ++ replicate (length area - length (a .entries)) zeroEntry
 resultAfter (suc n) area a = elim (eqb (suc n) noRoom) [ true ↦ replicate (length area) zeroEntry | false ↦ area ]
 
--- each search's reply, and the result area after the call
+-- RULES 11.11, 14.2: each search's reply, and the result area after the call
 unfoldable pub rangeReply : Table → List Entry → Profile → ℕ → Searched
 rangeReply t area query radius = let a = rangeAnswer t query radius in searchReply (rangeRefusal t area query radius) a
 

@@ -1,5 +1,5 @@
 -- A table as its rows: what the header, the sizes and the slots show, and a bucket put in its place.
--- The table, built and live sizes are 01's terms ("Order, buckets, trees"); where they stand is the interface's "A table of order T".
+-- RULES 4.3 has where they stand, RULES 5.2 what the sizes are.
 use Prim.Native.Nat.{ℕ, _-_}
 use mathlib.Core.Bool.{Bool, not}
 use mathlib.Core.List.{List, [], _++_, map, foldl}
@@ -18,7 +18,7 @@ Table = List Row
 unfoldable pub rowAt : Table → ℕ → Row
 rowAt t i = getD t i []
 
--- the order T, word 0 of the header row
+-- RULES 4.3: the order T, word 0 of the header row
 unfoldable pub orderOf : Table → ℕ
 orderOf t = word (rowAt t headerRow) 0
 
@@ -26,50 +26,50 @@ orderOf t = word (rowAt t headerRow) 0
 unfoldable pub tableSpace : Table → Space
 tableSpace t = spaceOf (rowAt t headerRow)
 
--- the slots filled at the bucket's last build, dead ones included, and those that are live
+-- RULES 5.2: the slots filled at the bucket's last build, dead ones included, and those that are live
 unfoldable pub builtOf : Table → ℕ → ℕ
 builtOf t k = word (rowAt t (sizesRow k)) 0
 
 unfoldable pub liveOf : Table → ℕ → ℕ
 liveOf t k = word (rowAt t (sizesRow k)) 1
 
--- a bucket is in use when its built size is not 0
+-- RULES 5.4: a bucket is in use when its built size is not 0
 unfoldable pub inUse : Table → ℕ → Bool
 inUse t k = not (eqb (builtOf t k) 0)
 
--- the live head in all: "At most 2^T head are live"
+-- RULES 5.1: the live items in all, of which there are at most 2^T
 unfoldable pub liveTotal : Table → ℕ
 liveTotal t = total (map (liveOf t) (bucketsOf (orderOf t)))
 
--- the built slots of bucket k, and those of them that are live
+-- RULES 4.3, 5.2: the built slots of bucket k, and those of them that are live
 unfoldable pub slotsOf : Table → ℕ → List Row
 slotsOf t k = take (builtOf t k) (drop (firstSlot (orderOf t) k) t)
 
 unfoldable pub liveSlots : Table → ℕ → List Row
 liveSlots t k = select isLive (slotsOf t k)
 
--- a sizes row: two words and zeros
+-- RULES 4.4, a sizes row: two words and zeros
 unfoldable pub pairRow : ℕ → ℕ → Row
 pairRow a b = set (set zeroRow 0 a) 1 b
 
--- the header row: the order, what distances depend on, and zeros
+-- RULES 4.3, 4.4, the header row: the order, what distances depend on, and zeros
 unfoldable pub headerOf : ℕ → Space → Row
 headerOf order space = set (set zeroRow 0 order) metricAt (space .metric)
 
--- the sizes of bucket k, their row written whole
+-- RULES 4.4: the sizes of bucket k, their row written whole
 unfoldable pub putSizes : ℕ → ℕ → ℕ → Table → Table
 putSizes k built live t = set t (sizesRow k) (pairRow built live)
 
--- bucket k with these slots, `live` of them live, and zeros in the rest of its room
+-- RULES 4.8: bucket k with these slots, `live` of them live, and zeros in the rest of its room
 unfoldable pub putBucket : ℕ → List Row → ℕ → Table → Table
 putBucket k slots live t =
     putSizes k (length slots) live
     (paste t (firstSlot (orderOf t) k) (slots ++ replicate (room k - length slots) zeroRow) (room k))
 
--- the buckets listed, emptied
+-- RULES 4.8: the buckets listed, emptied
 unfoldable pub emptied : List ℕ → Table → Table
 emptied ks t = foldl (λ u k. putBucket k [] 0 u) t ks
 
--- the first n elements of an area zeroed, and the rest kept
+-- RULES 4.5: the first n elements of an area zeroed, and the rest kept
 unfoldable pub cleared : {A : Type 0} → A → ℕ → List A → List A
 cleared z n area = replicate n z ++ drop n area

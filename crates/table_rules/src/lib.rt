@@ -1,7 +1,7 @@
 // A table of buckets: its order and geometry, and what add, remove, look up, range and nearest reply.
 use metric_rules::Profile;
 
-// The numbers of the refusals; 0 is an accepted call.
+// RULES 14.1: the numbers of the refusals; 0 is an accepted call.
 pub const BAD_TAG: u32 = 1;
 
 pub const BAD_MEASURE: u32 = 2;

@@ -23,7 +23,7 @@ digit-back r h = rw (lt-ltb (48 + r) 58 (omega arith), digitOf) (omega arith)
 tenth : (w n : ℕ) → n < 10 ^ suc w → n / 10 < 10 ^ w
 tenth w n h = omega (arith, div-add-mod n 10)
 
--- "a printed number reads back": the w digits of a number that has no more
+-- a printed number reads back: the w digits of a number that has no more
 pub digits-back : (w n : ℕ) → n < 10 ^ w → numeral 10 (digits w n) ≡ n
 unfolding numeral digits numeralAfter
 digits-back zero n h = omega arith

@@ -1,4 +1,4 @@
--- A tag and a measure as they are written: 01's "The program" and the herd list's lines share these forms. What stands for the point is an argument.
+-- RULES 18.5, 13.1: a tag and a measure as they are written, in `yard` and in herd lists. What stands for the point is an argument.
 use Prim.Native.Nat.{ℕ, _+_, _*_}
 use mathlib.Core.Bool.{Bool, true, false, _&&_}
 use mathlib.Core.List.{List}
@@ -7,11 +7,11 @@ use lib.ListN.{getD, drop}
 use lib.Dec.{eqb}
 use Rattle.text_rules.specs.Text.{minus, partAt, partsIn, isNumeral, numeral}
 
--- "A tag is 15 digits"
+-- RULES 18.5: a tag is 15 digits
 abbrev pub isTag : List ℕ → Bool
 isTag text = isNumeral 10 15 15 text
 
--- "A measure is an optional minus, 1 to 5 digits, a point, 2 digits; one sign covers all digits". What stands for the point is an argument
+-- RULES 18.5: a measure is an optional minus, 1 to 5 digits, a point, 2 digits; one sign covers all digits
 unfoldable pub isNegative : List ℕ → Bool
 isNegative text = eqb (getD text 0 0) minus
 

@@ -1,4 +1,4 @@
--- c(n): any depth of at least n gives it, it is 0 for at most one head and else n - 1 and those of the halves, and it is at most k·n for n ≤ 2^k.
+-- c(n): any depth of at least n gives it, it is 0 for at most one item and else n - 1 and those of the halves, and it is at most k·n for n ≤ 2^k.
 -- Each by induction on the depth or on k, the halves being shorter. Assumes nothing.
 use Prim.Native.Nat.{ℕ, zero, suc, _+_, _-_, _*_, _/_, _^_, _≤_, _<_}
 use native.Mathlib.Omega.{arith}

@@ -1,4 +1,4 @@
--- 01, "Order, buckets, trees": how a tree of n head fills its slots, and how many distances its build works out.
+-- RULES 6: how a tree of n items fills its slots, and how many distances its build works out.
 use Prim.Native.Nat.{ℕ, zero, suc, _+_, _-_, _/_}
 use mathlib.Core.Bool.{Bool, true, false}
 use mathlib.Core.List.{List, [], _∷_, _++_, map, foldl}
@@ -9,11 +9,11 @@ use Rattle.metric_rules.specs.declared.Profile.{Profile}
 use Rattle.metric_rules.specs.Row.{Row, tagOf, profileOf, withThreshold, withMark}
 use Rattle.tree_rules.specs.Sorting.{sortBy}
 
--- the first floor(n/2) of n head's rest make the left half
+-- RULES 6.2: the first floor(n/2) of n items' rest make the left half
 unfoldable pub leftSize : ℕ → ℕ
 leftSize n = n / 2
 
--- c(n): no distance for 0 or 1 head, else n - 1 and those of the two halves. The first argument bounds the depth, and n is enough
+-- RULES 6.7, c(n): no distance for 0 or 1 item, else n - 1 and those of the two halves. The first argument bounds the depth, and n is enough
 unfoldable pub costWithin : ℕ → ℕ → ℕ
 unfolding leftSize
 costWithin zero n = 0
@@ -24,7 +24,7 @@ unfoldable pub cost : ℕ → ℕ
 unfolding costWithin
 cost n = costWithin n n
 
--- a gathered row with its rank, its place in the order gathered, by which equal tags are told apart at every depth
+-- RULES 6.5: a gathered row with its rank, its place in the order gathered, by which equal tags are told apart at every depth
 pub record Ranked : Type 0 where
   pub row : Row
   pub rank : ℕ
@@ -33,12 +33,12 @@ unfoldable pub rankedFrom : ℕ → List Row → List Ranked
 rankedFrom n [] = []
 rankedFrom n (r ∷ rs) = record { row = r; rank = n } ∷ rankedFrom (suc n) rs
 
--- the first slot's order: smallest tag, then rank
+-- RULES 6.1, the first slot's order: smallest tag, then rank
 unfoldable pub tagKey : Ranked → List ℕ
 unfolding tagOf
 tagKey x = tagOf (x .row) ∷ x .rank ∷ []
 
--- a slot as a build leaves it: its threshold, and mark 0
+-- RULES 6.6: a slot as a build leaves it: its threshold, and mark 0
 unfoldable pub placed : ℕ → Row → Row
 unfolding withThreshold withMark
 placed m row = withMark 0 (withThreshold m row)
@@ -49,24 +49,24 @@ module _ (dist : Profile → Profile → ℕ) where
   unfolding profileOf
   fromPivot v x = dist (profileOf (v .row)) (profileOf (x .row))
 
-  -- the order of the rest: distance from the first slot, then tag, then rank
+  -- RULES 6.2, the order of the rest: distance from the first slot, then tag, then rank
   unfoldable pub nearKey : Ranked → Ranked → List ℕ
   unfolding fromPivot tagKey
   nearKey v x = fromPivot v x ∷ tagKey x
 
-  -- the distance of the last of the left half, or 0 where that half is empty
+  -- RULES 6.3: the distance of the last of the left half, or 0 where that half is empty
   unfoldable pub lastDistance : Ranked → List Ranked → ℕ
   unfolding fromPivot
   lastDistance v left = foldl (λ m x. fromPivot v x) 0 left
 
-  -- a first slot v with its rest in order, the halves laid out by `below`
+  -- RULES 6.4: a first slot v with its rest in order, the halves laid out by `below`
   unfoldable pub split : (List Ranked → List Row) → Ranked → List Ranked → List Row
   unfolding leftSize placed lastDistance
   split below v near =
       let l = leftSize (suc (length near)) in
       placed (lastDistance v (take l near)) (v .row) ∷ below (take l near) ++ below (drop l near)
 
-  -- rows of which the first has the smallest tag: it is the first slot, and the rest are sorted by distance from it, then tag
+  -- RULES 6.1, 6.2, rows of which the first has the smallest tag: it is the first slot, and the rest are sorted by distance from it, then tag
   unfoldable pub node : (List Ranked → List Row) → List Ranked → List Row
   unfolding sortBy nearKey split
   node below [] = []
@@ -78,12 +78,12 @@ module _ (dist : Profile → Profile → ℕ) where
   layoutWithin zero xs = []
   layoutWithin (suc depth) xs = node (λ ys. layoutWithin depth ys) (sortBy tagKey xs)
 
-  -- the slots that a tree of these rows fills, the rows' places being their ranks
+  -- RULES 6: the slots that a tree of these rows fills, the rows' places being their ranks
   unfoldable pub layout : List Row → List Row
   unfolding layoutWithin rankedFrom
   layout rows = layoutWithin (length rows) (rankedFrom 0 rows)
 
-  -- slots are a layout, marks aside: they are the layout of themselves but for their marks
+  -- RULES 6.8: slots are a layout, marks aside: they are the layout of themselves but for their marks
   unfoldable pub isLayout : List Row → Bool
   unfolding alike sameNumbers layout withMark
   isLayout slots = alike sameNumbers (layout slots) (map (withMark 0) slots)

@@ -147,7 +147,7 @@ module _ (line : List ℕ) (long : 90 < length line) where
       fails (opens letter form line)
       (λ e. seven-long p (letter-short letter form h e) (short (field line 1) (opens-form line letter form e)))
 
-  -- "a line may be of any length": one of more than 90 bytes is no command, and no header
+  -- RULES 18.7: a line may be of any length; one of more than 90 bytes is no command, and no header
   pub long-command : commandIn line ≡ command.Other
   long-command = by (hasProfile line) refl
     where

@@ -1,4 +1,4 @@
--- "the lines of the pieces put end to end": whatever pieces the input arrives in, the lines gathered from them are those of the whole.
+-- The lines of the pieces put end to end: whatever pieces the input arrives in, the lines gathered from them are those of the whole.
 use Prim.Native.Nat.{ℕ}
 use mathlib.Core.Path.{_≡_, refl, ap, sym, _∙_}
 use mathlib.Core.Bool.{Bool, true, false}

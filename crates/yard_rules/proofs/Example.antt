@@ -1,4 +1,4 @@
--- 01's whole example: the definitions, computed by antt, print 01's output for 01's input.
+-- RULES 18.8: the definitions, computed by antt, print the example's output for its input.
 use Prim.Native.Nat.{ℕ}
 use mathlib.Core.Path.{_≡_, refl}
 use mathlib.Core.List.{List, [], _∷_}

@@ -23,6 +23,6 @@ numbers-back : (ns : List ℕ) → map (numeral 10) (map decimal ns) ≡ ns
 numbers-back [] = refl
 numbers-back (n ∷ ns) = ap₂ _∷_ (decimal-back n) (numbers-back ns)
 
--- "a printed reply reads back as its numbers"
+-- a printed reply reads back as its numbers
 pub reply-back : (letter : ℕ) (ns : List ℕ) → (letter ≡ space → ⊥) → map (numeral 10) (drop 1 (parted space (letter ∷ spaced ns))) ≡ ns
 reply-back letter ns h = ap (λ ps. map (numeral 10) (drop 1 ps)) (fields-after (letter ∷ []) ns (h, tt)) ∙ numbers-back ns

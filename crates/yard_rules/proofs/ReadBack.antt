@@ -1,4 +1,4 @@
--- "a printed reply reads back as its numbers": a whole reply, cut at its line feeds and spaces, is the numbers of its first line and of each entry. No
+-- A printed reply reads back as its numbers: a whole reply, cut at its line feeds and spaces, is the numbers of its first line and of each entry. No
 -- printed number has a line feed or a space in it, so the cuts are where the reply put them.
 use Prim.Native.Nat.{ℕ, _^_, _<_}
 use mathlib.Core.Path.{_≡_, refl, ap, ap₂, sym, _∙_}

@@ -83,7 +83,7 @@ no-metric-worked : computed scratch (49 ∷ 32 ∷ 51 ∷ 10 ∷ []) ≡ 70 ∷ 
 unfolding computed scratch
 no-metric-worked = refl
 
--- W2's edge at countries 1, 36 and 999: national 274,877,906,944 is refused and 274,877,906,943 taken
+-- RULES 2.2's edge at countries 1, 36 and 999: national 274,877,906,944 is refused and 274,877,906,943 taken
 edges : List ℕ
 edges =
     -- 1 0

@@ -1,4 +1,4 @@
--- 01, "The program": the whole conversation. A line and what stands before it give what stands after it and the bytes to print, by the calls' own
+-- RULES 18: the whole conversation. A line and what stands before it give what stands after it and the bytes to print, by the calls' own
 -- definitions.
 use Prim.Native.Nat.{ℕ, zero, suc, _≤_}
 use mathlib.Core.Bool.{true, false}
@@ -43,25 +43,26 @@ pub record LineOutcome : Type 0 where
   pub stage : Stage
   pub text : List ℕ
 
--- "Any other line prints `?` and its number"
+-- RULES 18.7: any other line prints `?` and its number
 unfoldable pub otherText : ℕ → List ℕ
 otherText number = replyLine questionMark (number ∷ [])
 
--- "T at most 8 (else it prints `F 3`..)"
+-- RULES 18.1: T is at most 8
 unfoldable pub mostYardOrder : ℕ
 mostYardOrder = 8
 
--- areas that are long enough for it: a header is then refused by 3 or 4 alone, and no later line for its areas (`proofs/Ample`)
+-- RULES 4.3, 4.5, areas that are long enough for it: a header is then refused by 3 or 4 alone, and no later line for its areas (`proofs/Ample`)
 pub record Ample (a : Areas) : Type 0 where
   pub table : tableRows mostYardOrder ≤ length (a .table)
   pub work : workRows mostYardOrder ≤ length (a .work)
   pub result : room mostYardOrder ≤ length (a .result)
 
+-- RULES 18.2: 3 before 4
 unfoldable pub headerRefusal : Table → ℕ → ℕ → ℕ
 headerRefusal t order metric =
     elim (leb order mostYardOrder) [ false ↦ badOrder | true ↦ freshRefusal (length t) order (record { metric = metric }) ]
 
--- an accepted header prints nothing; `F 3`, `F 4` and `? 1` end the program
+-- RULES 18.1, 18.2: an accepted header prints nothing; `F 3`, `F 4` and `? 1` end the program
 unfoldable pub headerOutcome : Areas → ℕ → Header → LineOutcome
 headerOutcome a number (header.Of order metric) =
     elim (headerRefusal (a .table) order metric) [
@@ -75,7 +76,7 @@ headerOutcome a number (header.Of order metric) =
     ]
 headerOutcome a number header.Other = record { areas = a; stage = stage.Ended; text = otherText number }
 
--- what the calls leave of the areas
+-- RULES 18.3: what the calls leave of the areas
 unfoldable pub areasAfter : Areas → Command → Profile → Areas
 areasAfter a (command.Add tag) p =
     record {
@@ -94,7 +95,7 @@ areasAfter a (command.Within radius) p =
 areasAfter a (command.Nearest k) p = record { table = a .table; work = a .work; result = resultAfterNearest (a .table) (a .result) p k }
 areasAfter a command.Other p = a
 
--- and what is printed: a search's entries are those of the result area after it
+-- RULES 18.3, and what is printed: a search's entries are those of the result area after it
 unfoldable pub textAfter : Areas → ℕ → Command → Profile → List ℕ
 textAfter a number (command.Add tag) p = addText (addReply (a .table) (a .work) tag p)
 textAfter a number (command.Remove tag) p = removeText (removeReply (a .table) (a .work) tag)
@@ -107,7 +108,7 @@ textAfter a number command.Other p = otherText number
 unfoldable pub commandOutcome : Areas → ℕ → Command → Profile → LineOutcome
 commandOutcome a number c p = record { areas = areasAfter a c p; stage = stage.Serving; text = textAfter a number c p }
 
--- a line by its number: one that is `?` counts, and the header is line 1
+-- RULES 18.7, a line by its number: one that is `?` counts, and the header is line 1
 unfoldable pub lineOutcome : Areas → ℕ → Stage → List ℕ → LineOutcome
 lineOutcome a number stage.Waiting line = headerOutcome a number (headerIn line)
 lineOutcome a number stage.Serving line = commandOutcome a number (commandIn line) (profileIn line)
@@ -123,14 +124,14 @@ unfoldable pub printed : Yard → List (List ℕ) → List ℕ
 printed y [] = []
 printed y (line ∷ lines) = lineOutcome (y .areas) (suc (y .lines)) (y .stage) line .text ++ printed (after y line) lines
 
--- "each line ends in a line feed, which the last may lack": after the last line feed there is a line where there is a byte
+-- RULES 18.6: the last line may lack its line feed: after the last line feed there is a line where there is a byte
 unfoldable pub lastKept : List (List ℕ) → List (List ℕ)
 lastKept [] = []
 lastKept ([] ∷ []) = []
 lastKept ((b ∷ bs) ∷ []) = (b ∷ bs) ∷ []
 lastKept (line ∷ next ∷ lines) = line ∷ lastKept (next ∷ lines)
 
--- no line at all is an empty first line: "`? 1` for a line of another form or no line"
+-- RULES 18.2: no line at all is an empty first line, `? 1`
 unfoldable pub firstKept : List (List ℕ) → List (List ℕ)
 firstKept [] = []
 firstKept (line ∷ lines) = line ∷ lastKept lines
@@ -138,6 +139,6 @@ firstKept (line ∷ lines) = line ∷ lastKept lines
 unfoldable pub linesIn : List ℕ → List (List ℕ)
 linesIn input = firstKept (parted lineFeed input)
 
--- all that the program prints
+-- RULES 18: all that the program prints
 unfoldable pub conversation : Areas → List ℕ → List ℕ
 conversation a input = printed (record { areas = a; stage = stage.Waiting; lines = 0 }) (linesIn input)

@@ -1,4 +1,4 @@
--- 01, "The program": the form of a line, and what a line of that form says. Every line of bytes is a header or not, and a command or not.
+-- RULES 18: the form of a line, and what a line of that form says. Every line of bytes is a header or not, and a command or not.
 use Prim.Native.Nat.{ℕ, _^_}
 use mathlib.Core.Bool.{Bool, true, false, _&&_, _||_}
 use mathlib.Core.List.{List, [], _∷_}
@@ -12,7 +12,7 @@ use Rattle.yard_rules.specs.declared.Command.the-variants as command
 use Rattle.text_rules.specs.Text.{space, minus, point, partAt, partsIn, isNumeral, numeral}
 use Rattle.text_rules.specs.Fields.{isTag, isMeasure, measureIn}
 
--- "T, metric, radius and k are 1 to 10 digits within 32 bits"
+-- RULES 18.5: T, metric, radius and k are 1 to 10 digits within 32 bits
 unfoldable pub isNumber : List ℕ → Bool
 isNumber text = isNumeral 10 1 10 text && ltb (numeral 10 text) (2 ^ 32)
 
@@ -20,7 +20,7 @@ isNumber text = isNumeral 10 1 10 text && ltb (numeral 10 text) (2 ^ 32)
 unfoldable pub onlyByte : List ℕ → ℕ
 onlyByte text = elim (eqb (length text) 1) [ true ↦ getD text 0 0 | false ↦ 0 ]
 
--- "A code is 32 lowercase hex digits, or `-` for all zero bits"; the first 16 digits are its first word (the interface, point 13)
+-- RULES 18.5: a code is 32 lowercase hex digits, the first 16 being its first word, or `-` for all zero bits
 unfoldable pub isCode : List ℕ → Bool
 isCode text = eqb (onlyByte text) minus || isNumeral 16 32 32 text
 
@@ -28,7 +28,7 @@ unfoldable pub codeIn : List ℕ → List ℕ
 codeIn text =
     elim (eqb (onlyByte text) minus) [ true ↦ 0 ∷ 0 ∷ [] | false ↦ numeral 16 (take 16 text) ∷ numeral 16 (drop 16 text) ∷ [] ]
 
--- "a profile is `m m m m code`": the last five of a line's seven fields
+-- RULES 18.3: a profile is `m m m m code`, the last five of a line's seven fields
 abbrev pub field : List ℕ → ℕ → List ℕ
 field line n = partAt space line n
 
@@ -53,7 +53,7 @@ profileIn line =
       code = codeIn (field line 6);
     }
 
--- "Line 1 is `T metric`"
+-- RULES 18.1: the first line is `T metric`
 unfoldable pub headerIn : List ℕ → Header
 headerIn line =
     elim (eqb (partsIn space line) 2 && isNumber (field line 0) && isNumber (field line 1)) [
@@ -61,7 +61,7 @@ headerIn line =
       | false ↦ header.Other
     ]
 
--- the letters of the commands and of the replies
+-- RULES 18.3: the letters of the commands and of the replies
 abbrev pub letterA : ℕ
 letterA = 65
 
@@ -84,7 +84,7 @@ questionMark = 63
 unfoldable pub opens : ℕ → (List ℕ → Bool) → List ℕ → Bool
 opens letter form line = eqb (onlyByte (field line 0)) letter && form (field line 1)
 
--- "Then `A tag m m m m code`, `R tag`, `W radius profile`, `N k profile`"
+-- RULES 18.3: `A tag profile`, `R tag`, `W radius profile`, `N k profile`
 unfoldable pub commandIn : List ℕ → Command
 commandIn line =
     let number = numeral 10 (field line 1) in

@@ -1,4 +1,4 @@
--- 01, "The program", "Replies": the bytes of each reply. Every line ends in a line feed.
+-- RULES 18.3, 18.4: the bytes of each reply. Every line ends in a line feed (RULES 18.6).
 use Prim.Native.Nat.{ℕ, zero, suc}
 use mathlib.Core.List.{List, [], _∷_, _++_}
 use lib.ListN.{take, getD}
@@ -18,7 +18,7 @@ spaced (n ∷ ns) = space ∷ decimal n ++ spaced ns
 unfoldable pub replyLine : ℕ → List ℕ → List ℕ
 replyLine letter ns = letter ∷ spaced ns ++ (lineFeed ∷ [])
 
--- a refusal is letter and number; an accepted call 0 and the numbers of its reply
+-- RULES 18.4: a refusal is letter and number; an accepted call 0 and the numbers of its reply
 unfoldable pub replyNumbers : ℕ → List ℕ → List ℕ
 replyNumbers zero ns = 0 ∷ ns
 replyNumbers (suc n) ns = suc n ∷ []
@@ -29,7 +29,7 @@ addText a = replyLine letterA (replyNumbers (a .refusal) (a .bucket ∷ a .dista
 unfoldable pub removeText : Removed → List ℕ
 removeText r = replyLine letterR (replyNumbers (r .refusal) (r .distances ∷ []))
 
--- "one `tag distance` line each": a tag is 15 digits here too
+-- RULES 18.3: a line `tag distance` for each entry; a tag is 15 digits here too
 unfoldable pub entryText : Entry → List ℕ
 entryText e = digits 15 (getD e 0 0) ++ space ∷ decimal (getD e 1 0) ++ (lineFeed ∷ [])
 
@@ -37,6 +37,6 @@ unfoldable pub entriesText : List Entry → List ℕ
 entriesText [] = []
 entriesText (e ∷ es) = entryText e ++ entriesText es
 
--- found is 0 where the search was refused, so no entry is printed then
+-- RULES 18.3: found is 0 where the search was refused, so no entry is printed then
 unfoldable pub searchText : ℕ → Searched → List Entry → List ℕ
 searchText letter s area = replyLine letter (replyNumbers (s .refusal) (s .found ∷ s .distances ∷ [])) ++ entriesText (take (s .found) area)

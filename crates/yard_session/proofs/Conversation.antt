@@ -1,4 +1,4 @@
--- "whatever pieces it arrives in": what is printed for the pieces, one after the other, and for the end is the conversation over the whole input.
+-- Whatever pieces the input arrives in, what is printed for the pieces, one after the other, and for the end is the conversation over the whole input.
 use Prim.Native.Nat.{ℕ, suc, _+_, _-_, _≤_}
 use mathlib.Core.Path.{_≡_, refl, ap, sym, _∙_}
 use mathlib.Core.List.{List, [], _∷_, _++_, append-assoc, append-nil}

@@ -1,4 +1,4 @@
-//! The small herds that the rules work out line by line.
+//! RULES A: the small herds that the rules work out line by line.
 
 use outside::calls::{Areas, Call, Reply, compare};
 use outside::item_lists;

@@ -1,5 +1,5 @@
-//! The plain book: an order, a metric and a list of items, with neither buckets nor trees. It is fed a call's
-//! arguments and the lengths of the lent areas, never an answer or what the table holds.
+//! RULES 16, the reference model: an order, a metric and a list of items, with neither buckets nor trees. It is fed a
+//! call's arguments and the lengths of the lent areas, never an answer or what the table holds.
 
 use crate::image;
 use crate::item::{MAX_METRIC, MAX_ORDER, Profile, check_measures, check_tag, distance};

@@ -1,4 +1,4 @@
-//! The numbers by which a call is refused.
+//! RULES 14.1: the numbers by which a call is refused.
 
 /// Tag outside its form.
 pub const TAG: u32 = 1;
