@@ -1,4 +1,4 @@
--- Of slots the live ones are selected: those of a front are the first of them, and one more slot adds itself or nothing. Assumes nothing.
+-- Of slots the live ones are selected: those of a front are the first of them, and one more slot adds itself or nothing.
 use Prim.Native.Nat.{ℕ, _+_, _≤_, _<_}
 use native.Mathlib.Omega.{arith}
 use native.Mathlib.Numerals.{add-one}

@@ -1,5 +1,5 @@
 -- Sums over the buckets of a table, of numbers that each bucket has: what a change of one bucket does to a sum, and what it does to clear some buckets
--- and put one number in their place. Each by the count of buckets, or by the list of those cleared. Assumes nothing.
+-- and put one number in their place. Each by the count of buckets, or by the list of those cleared.
 use Prim.Native.Nat.{ℕ, zero, suc, _+_, _≤_, _<_}
 use native.Mathlib.Omega.{arith}
 use native.Mathlib.Decide.{ℕ-discrete}

@@ -1,4 +1,4 @@
--- The demands of `specs/Demands`, proved for every list of calls, every lent area and every image. Nothing is assumed.
+-- The demands of `specs/Demands`, proved for every list of calls, every lent area and every image.
 use Rattle.table_rules.proofs.Visits.{range-visits}
 use Rattle.table_rules.proofs.Keeping.{nearest-size}
 use Rattle.history.specs.Demands.{CountsVisits, KeepsEnough, EveryList, EveryReport, WrittenLoads}

@@ -1,5 +1,4 @@
 -- Distinct numbers: every two of a list differ, so their order does not count, and in an ascending list each need only be compared with the next.
--- Assumes nothing.
 use Prim.Native.Nat.{ℕ, zero, suc, _+_, _≤_, _<_}
 use native.Mathlib.Omega.{arith}
 use native.Mathlib.Numerals.{add-one}

@@ -1,5 +1,4 @@
 -- A part's entries while they are arranged: the entry with the least first word is found and brought to the front, and the others follow.
--- Assumes nothing.
 use Prim.Native.Nat.{ℕ, zero, suc, _+_, _-_, _≤_, _<_}
 use native.Mathlib.Nat.{add-comm}
 use native.Mathlib.Numerals.{add-one}

@@ -1,5 +1,5 @@
 -- The entries of a bucket's slots: each is an entry of its slot, their tags are the slots', and in any order they have the layout of the slots.
--- Of the first n places each keeps its own number, since n is at most 2^12. Assumes nothing.
+-- Of the first n places each keeps its own number, since n is at most 2^12.
 use Prim.Native.Nat.{ℕ, zero, suc, _+_, _≤_, _<_}
 use native.Mathlib.Omega.{arith}
 use mathlib.Core.Path.{_≡_, refl, sym, _∙_, ap, ap₂}

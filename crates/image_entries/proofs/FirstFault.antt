@@ -1,5 +1,5 @@
 -- The first difference of two lists: there is none exactly if they are alike, and that of two halves is the left's, or where the left has none
--- the right's behind it. So slots are a layout exactly if none differs from it. Assumes nothing.
+-- the right's behind it. So slots are a layout exactly if none differs from it.
 use Prim.Native.Nat.{ℕ, suc, _+_, _≤_, _<_}
 use native.Mathlib.Omega.{arith}
 use mathlib.Core.Path.{_≡_, refl, sym, _∙_, ap}

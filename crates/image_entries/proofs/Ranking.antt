@@ -1,5 +1,5 @@
 -- Entries in the place of ranked rows: the order of first words is that of tag and place, so that entries sorted by distance are the rows sorted by
--- distance, tag and rank, and a part's entries as the test arranges them hold a node of the layout. Assumes nothing.
+-- distance, tag and rank, and a part's entries as the test arranges them hold a node of the layout.
 use Prim.Native.Nat.{ℕ, suc, _/_, _%_, _≤_}
 use native.Mathlib.Omega.{arith}
 use mathlib.Core.Path.{_≡_, refl, sym, _∙_, ap, ap₂, subst}

@@ -1,4 +1,4 @@
--- Reading a bucket's slots: every row read has all its words. Assumes nothing.
+-- Reading a bucket's slots: every row read has all its words.
 use Prim.Native.Nat.{ℕ}
 use mathlib.Core.Path.{_≡_, refl}
 use mathlib.Core.List.{List}

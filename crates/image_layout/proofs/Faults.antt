@@ -1,5 +1,5 @@
 -- The first fault of a part: at its first slot where another slot's row is laid there or the threshold differs, else the left half's, else the
--- right half's. With distinct tags a row is laid in its own slot exactly if its place is the slot's. Assumes nothing.
+-- right half's. With distinct tags a row is laid in its own slot exactly if its place is the slot's.
 use Prim.Native.Nat.{ℕ, suc, _+_, _≤_, _<_}
 use native.Mathlib.Omega.{arith}
 use native.Mathlib.Numerals.{add-one}

@@ -1,5 +1,4 @@
 -- A part that is arranged, and its halves as they are lent: its first fault is at its first slot, or that of the left half, or that of the right.
--- Assumes nothing.
 use Prim.Native.Nat.{ℕ, suc, _+_, _-_, _/_, _≤_, _<_}
 use native.Mathlib.Omega.{arith}
 use mathlib.Core.Path.{_≡_, sym, _∙_, ap, ap₂, subst}

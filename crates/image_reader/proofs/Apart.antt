@@ -1,5 +1,4 @@
 -- A reader is Copy: what it owns is had twice, and of the one copy its image is taken out, for a callee over a slice and a number.
--- Assumes `Given`.
 use mathlib.Core.Path.{_≡_}
 use mathlib.Core.List.{[], _∷_}
 use lib.ListN.{length}

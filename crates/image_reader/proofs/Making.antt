@@ -1,5 +1,4 @@
 -- The call of `reader_at`, which two walks make: what it is handed, and what its contract says of the reader that comes back.
--- Assumes `Given`.
 use mathlib.Core.Path.{_≡_}
 use Prim.Native.Nat.{ℕ}
 use mathlib.Core.List.{List, [], _∷_}

@@ -1,5 +1,4 @@
 -- A number read at a place is its lowest byte and 256 times the number read from the next place on.
--- Assumes nothing.
 use Prim.Native.Nat.{ℕ, suc, _+_, _*_, _≤_, _<_}
 use mathlib.Core.Path.{_≡_, refl}
 use mathlib.Core.List.{List}

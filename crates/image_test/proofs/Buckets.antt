@@ -1,5 +1,4 @@
 -- An image's buckets stand one after the other: the slots of all of them are the image's slots in their order, and so are the live ones.
--- Assumes nothing.
 use Prim.Native.Nat.{ℕ, zero, suc, _+_, _^_, _≤_, _<_}
 use native.Mathlib.Omega.{arith}
 use native.Mathlib.Decide.{ℕ-discrete}

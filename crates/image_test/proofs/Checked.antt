@@ -1,5 +1,5 @@
 -- What an image shows whose sizes are right and whose slots are valid, one by one: its buckets and its live items fit the array of entries, and its
--- tags leave room for a place. And the test of all slots in its two steps. Assumes nothing.
+-- tags leave room for a place. And the test of all slots in its two steps.
 use Prim.Native.Nat.{ℕ, suc, _+_, _^_, _≤_, _<_}
 use native.Mathlib.Nat.{pow-le-pow-right}
 use native.Mathlib.Omega.{arith}

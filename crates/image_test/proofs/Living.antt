@@ -1,5 +1,4 @@
 -- The live ones of some slots, entered one after the other: the entries in front are those of the live slots passed, and never more than there are.
--- Assumes nothing.
 use Prim.Native.Nat.{ℕ, _+_, _≤_, _<_}
 use native.Mathlib.Omega.{arith}
 use native.Mathlib.Numerals.{add-one}

@@ -1,5 +1,5 @@
 -- Lists: what holds of all elements (`All`), of every element and each that stands after it (`Pairs`), and what a permutation keeps.
--- A relation that reads the same both ways holds of the pairs of a permuted list too. Assumes nothing.
+-- A relation that reads the same both ways holds of the pairs of a permuted list too.
 use Prim.Native.Nat.{ℕ, zero, suc, _<_}
 use native.Mathlib.Omega.{arith}
 use mathlib.Core.Path.{_≡_, refl, _∙_, ap, ap₂, subst}

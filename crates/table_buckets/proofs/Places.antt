@@ -1,5 +1,4 @@
 -- Where a bucket's rows lie in a table long enough for its order, and what a table is after a part of it was lent and given back.
--- Assumes nothing.
 use Prim.Native.Nat.{ℕ, suc, _+_, _-_, _≤_, _<_}
 use native.Mathlib.Omega.{arith}
 use mathlib.Core.Path.{_≡_, sym, _∙_, ap, ap₂, subst⁻¹}

@@ -1,4 +1,4 @@
--- The frame test by its three tests, and the refusal of a table by what comes behind its frame. Assumes nothing.
+-- The frame test by its three tests, and the refusal of a table by what comes behind its frame.
 use Prim.Native.Nat.{ℕ, _<_}
 use native.Mathlib.Omega.{arith}
 use native.Mathlib.Decide.{decLe}

@@ -1,4 +1,4 @@
--- Fresh's refusal by its three tests, the table after a refusal, and the rows that an accepted call writes. Assumes nothing.
+-- Fresh's refusal by its three tests, the table after a refusal, and the rows that an accepted call writes.
 use Prim.Native.Nat.{ℕ, zero, suc, _-_, _≤_, _<_}
 use native.Mathlib.Omega.{arith}
 use borrow.Author.Tests.{le-leb}

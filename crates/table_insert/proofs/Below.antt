@@ -1,5 +1,4 @@
 -- The buckets below another, one after the other: one bucket more gathers its live items behind those before, and is emptied after those before.
--- Assumes nothing.
 use Prim.Native.Nat.{ℕ, zero, suc, _+_, _-_, _≤_, _<_}
 use native.Mathlib.Omega.{arith}
 use native.Mathlib.Numerals.{add-one}

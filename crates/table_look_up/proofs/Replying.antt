@@ -1,4 +1,4 @@
--- Look up's reply by its tests in their order, and whether a tag is live by where it was found. Assumes nothing.
+-- Look up's reply by its tests in their order, and whether a tag is live by where it was found.
 use Prim.Native.Nat.{ℕ, zero, suc}
 use mathlib.Core.Path.{_≡_, refl, sym, _∙_, ap}
 use mathlib.Core.Bool.{Bool, true, false}

@@ -1,5 +1,4 @@
 -- The finding of a tag as a loop makes it: what is found from slot i on, or from bucket k on, by whether the slot or the bucket has it.
--- Assumes nothing.
 use Prim.Native.Nat.{ℕ, suc, _+_, _≤_, _<_}
 use native.Mathlib.Numerals.{add-one}
 use borrow.Author.Tests.{lt-ltb, le-ltb}

@@ -1,5 +1,4 @@
 -- A room whose front is built and whose rest is zeroed, and a work area whose front was used and is zero again.
--- Assumes nothing.
 use Prim.Native.Nat.{ℕ, _+_, _-_, _≤_}
 use native.Mathlib.Omega.{arith}
 use mathlib.Core.Path.{_≡_, sym, _∙_, ap, ap₂}

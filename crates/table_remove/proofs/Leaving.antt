@@ -1,5 +1,5 @@
 -- The item found is marked dead: what holds of the table then, so that the steps after the marking may follow.
--- Its bucket was in use, so that more than a quarter was live before; every other bucket is as it was. Assumes nothing.
+-- Its bucket was in use, so that more than a quarter was live before; every other bucket is as it was.
 use Prim.Native.Nat.{ℕ, _+_, _-_, _≤_, _<_}
 use native.Mathlib.Omega.{arith}
 use native.Mathlib.Decide.{ℕ-discrete}

@@ -1,5 +1,5 @@
 -- The bucket that an add builds: within the order, with room for the items gathered, and more than half full. The buckets below the lowest empty one are all
--- in use, so that with the new item they hold more than a quarter of its room and no more than it. Assumes nothing.
+-- in use, so that with the new item they hold more than a quarter of its room and no more than it.
 use Prim.Native.Nat.{ℕ, zero, suc, _+_, _-_, _*_, _≤_, _<_}
 use mathlib.Core.Path.{_≡_, refl, _∙_, ap}
 use mathlib.Core.Bool.{Bool, true, false}

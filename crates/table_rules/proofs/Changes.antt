@@ -1,5 +1,5 @@
 -- What the views show after a slot is marked dead and after fresh. A mark changes one slot and its bucket's sizes; fresh leaves every bucket empty.
--- From the laws of puts and windows. Assumes nothing.
+-- From the laws of puts and windows.
 use Prim.Native.Nat.{ℕ, zero, suc, _+_, _-_, _≤_, _<_}
 use mathlib.Core.Path.{_≡_, refl, sym, _∙_, ap, ap₂}
 use mathlib.Core.List.{List, [], _∷_, _++_}

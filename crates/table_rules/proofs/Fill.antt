@@ -1,5 +1,4 @@
 -- What an add that is not refused shows of a lent table: its tests one by one, and the bucket that it builds has room.
--- Assumes nothing.
 use Prim.Native.Nat.{ℕ, zero, suc, _≤_, _<_}
 use native.Mathlib.Omega.{arith}
 use borrow.Author.Tests.{leb-true, leb-false, eqb-true}

@@ -1,5 +1,5 @@
 -- Over any table nearest keeps min(k, Z) items, Z being the built slots of mark 0 (RULES 15.3).
--- Each bucket's tree leaves as many of those before and its own live slots as k allows, and buckets add up. Assumes nothing.
+-- Each bucket's tree leaves as many of those before and its own live slots as k allows, and buckets add up.
 use Prim.Native.Nat.{ℕ, _+_, _≤_, min}
 use native.Mathlib.Omega.{arith}
 use mathlib.Core.Path.{_≡_, _∙_}

@@ -1,5 +1,5 @@
 -- A table's own rows as its buckets hold them: a bucket whose rows past the built slots are zero holds its slots, and what holds of the header row, of
--- every sizes row and of every row of every room holds of all rows of the table. By the geometry. Assumes nothing.
+-- every sizes row and of every row of every room holds of all rows of the table. By the geometry.
 use Prim.Native.Nat.{ℕ, zero, suc, _+_, _-_, _≤_, _<_}
 use mathlib.Core.Path.{_≡_, sym, _∙_, ap, ap₂, subst}
 use mathlib.Core.List.{List, [], _∷_, _++_}

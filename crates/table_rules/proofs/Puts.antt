@@ -1,5 +1,5 @@
 -- What the views show after sizes are put, after a bucket is put and after buckets are emptied: at the bucket itself what was put, elsewhere what was
--- there. A change of a sizes row or of a room lies between two places of the table. Assumes nothing.
+-- there. A change of a sizes row or of a room lies between two places of the table.
 use Prim.Native.Nat.{ℕ, suc, _+_, _-_, _≤_, _<_}
 use mathlib.Core.Path.{_≡_, refl, sym, _∙_, ap, ap₂, subst}
 use mathlib.Core.Logic.{_⊎_, inl, inr}

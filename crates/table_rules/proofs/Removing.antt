@@ -1,5 +1,5 @@
 -- The bucket that a removal builds: a bucket of 2^(k-2) live items, k ≥ 2, unites with the next lower one in use, or goes down two by itself. In each of
--- the four cases the items fit the bucket built, more than half full. Plain arithmetic of the live sizes. Assumes nothing.
+-- the four cases the items fit the bucket built, more than half full. Plain arithmetic of the live sizes.
 use Prim.Native.Nat.{ℕ, suc, _+_, _-_, _*_, _≤_, _<_}
 use mathlib.Core.Path.{_≡_, refl, _∙_, ap}
 use mathlib.Core.Bool.{Bool, true, false}

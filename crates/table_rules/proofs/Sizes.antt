@@ -1,5 +1,5 @@
 -- The sizes that pass: of one bucket, of all, and what they say of the buckets below the lowest empty one. Full below means more than a quarter live in
--- each, so that one item more fills half of the next room, and fits it. Plain arithmetic of powers of 2. Assumes nothing.
+-- each, so that one item more fills half of the next room, and fits it. Plain arithmetic of powers of 2.
 use Prim.Native.Nat.{ℕ, zero, suc, _+_, _*_, _≤_, _<_}
 use mathlib.Core.Path.{_≡_, refl, ap}
 use mathlib.Core.Bool.{Bool, true, false, _&&_, _||_}

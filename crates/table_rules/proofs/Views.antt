@@ -1,5 +1,5 @@
 -- What a table's views depend on: the header row, a bucket's sizes row and the rows of its room. A change that keeps these at a bucket keeps what
--- every view shows there. So a table that keeps its own rows shows the same whatever follows them. Assumes nothing.
+-- every view shows there. So a table that keeps its own rows shows the same whatever follows them.
 use Prim.Native.Nat.{ℕ, suc, _+_, _≤_, _<_}
 use mathlib.Core.Path.{_≡_, refl, sym, _∙_, ap, ap₂}
 use mathlib.Core.List.{List, []}

@@ -1,5 +1,5 @@
 -- The count of a range search over a table is the number of slots, over all buckets, all of whose ancestors let their side be entered.
--- Each bucket's tree has its own count, and the counts add up. Assumes nothing.
+-- Each bucket's tree has its own count, and the counts add up.
 use Prim.Native.Nat.{ℕ, _+_}
 use mathlib.Core.Path.{_≡_, refl, ap₂}
 use mathlib.Core.List.{List, [], _∷_, map, foldr}

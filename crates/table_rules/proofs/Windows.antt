@@ -1,5 +1,5 @@
 -- A window of a list: its m elements from place f on. Lists that agree before a place, or from a place on, have the same windows there;
--- an element set or a block pasted inside a window changes that window alone. Each from the laws of `take` and `drop`. Assumes nothing.
+-- an element set or a block pasted inside a window changes that window alone. Each from the laws of `take` and `drop`.
 use Prim.Native.Nat.{ℕ, zero, suc, _+_, _-_, _≤_, _<_}
 use mathlib.Core.Path.{_≡_, sym, _∙_, ap}
 use mathlib.Core.List.{List, [], _∷_, _++_, append-assoc}

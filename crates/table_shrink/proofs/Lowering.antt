@@ -1,5 +1,4 @@
 -- A bucket that has lost an item, case by case: which step the definition takes, and that the bucket built has room for the items united.
--- Assumes nothing.
 use Prim.Native.Nat.{ℕ, _-_, _*_, _≤_, _<_}
 use native.Mathlib.Omega.{arith}
 use borrow.Author.Tests.{eq-eqb, ne-eqb, lt-ltb, le-ltb}

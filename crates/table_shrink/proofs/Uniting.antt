@@ -1,5 +1,4 @@
 -- Buckets united in one, step by step: what stands in the work area are their live items in the order listed, and the steps in turn are the rebuild.
--- Assumes nothing.
 use Prim.Native.Nat.{ℕ, _+_, _≤_}
 use native.Mathlib.Omega.{arith}
 use native.Mathlib.Nat.{le-trans}

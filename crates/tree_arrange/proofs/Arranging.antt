@@ -1,5 +1,5 @@
 -- Working rows and ranked rows: a part's rows as a build arranges them hold a node of their layout, whatever the order in which they stood,
--- since their ranks tell them apart and the words that a build writes do not count. Assumes nothing.
+-- since their ranks tell them apart and the words that a build writes do not count.
 use Prim.Native.Nat.{ℕ, zero, suc, _+_, _≤_, _<_}
 use native.Mathlib.Nat.{add-comm}
 use native.Mathlib.Numerals.{add-one}

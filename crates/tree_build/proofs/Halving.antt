@@ -1,5 +1,5 @@
 -- The halves that a build of a part lends, once its rows are arranged: the halves' rows are whole and ranked apart, and the first slot over the
--- halves' layouts is the layout of the part. Assumes nothing.
+-- halves' layouts is the layout of the part.
 use Prim.Native.Nat.{ℕ, suc, _+_, _-_, _/_, _^_, _≤_, _<_}
 use native.Mathlib.Omega.{arith}
 use mathlib.Core.Path.{_≡_, refl, sym, _∙_, ap, ap₂, subst}

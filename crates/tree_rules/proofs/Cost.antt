@@ -1,5 +1,5 @@
 -- c(n): any depth of at least n gives it, it is 0 for at most one item and else n - 1 and those of the halves, and it is at most k·n for n ≤ 2^k.
--- Each by induction on the depth or on k, the halves being shorter. Assumes nothing.
+-- Each by induction on the depth or on k, the halves being shorter.
 use Prim.Native.Nat.{ℕ, zero, suc, _+_, _-_, _*_, _/_, _^_, _≤_, _<_}
 use native.Mathlib.Omega.{arith}
 use native.Mathlib.Nat.{pow-suc, mul-add, suc-mul, mul-le-mul-left}

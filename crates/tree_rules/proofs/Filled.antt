@@ -1,5 +1,5 @@
 -- A list written over with one element: the first i elements are x, the others still the old, and in the end all are x.
--- What a loop that fills a slice keeps. Assumes nothing.
+-- What a loop that fills a slice keeps.
 use Prim.Native.Nat.{ℕ, _+_, _≤_, _<_}
 use native.Mathlib.Omega.{arith}
 use mathlib.Core.Path.{_≡_, refl, sym, _∙_}

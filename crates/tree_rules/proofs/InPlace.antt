@@ -1,5 +1,5 @@
 -- A test of slots where they lie, slot by slot: every layout passes it, what passes it guides a search, and slots with distinct tags that
--- pass it are their own layout, since sorting the rest sorts each half by itself. Marks play no part. Assumes nothing.
+-- pass it are their own layout, since sorting the rest sorts each half by itself. Marks play no part.
 use Prim.Native.Nat.{ℕ, zero, suc, _+_, _-_, _≤_}
 use native.Mathlib.Omega.{arith}
 use mathlib.Core.Path.{_≡_, refl, sym, _∙_, ap, ap₂, subst}

@@ -1,5 +1,5 @@
 -- The last of some keys: no key is after it, it is not after what none of them is after, and it does not depend on their order.
--- `later` has these laws for two keys, and they pass along the list. Assumes nothing.
+-- `later` has these laws for two keys, and they pass along the list.
 use Prim.Native.Nat.{ℕ, zero, suc}
 use native.Mathlib.Omega.{arith}
 use mathlib.Core.Path.{_≡_, refl, sym, _∙_, ap, ap₂}

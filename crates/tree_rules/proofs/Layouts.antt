@@ -1,5 +1,5 @@
 -- Laws of the layout: any depth of at least the length gives it, a node's equation, and the induction that follows its nodes, by which the
--- layout's length is that of its input and its fields are a permutation of the input's. Where ranks differ, the input's order does not count. Assumes nothing.
+-- layout's length is that of its input and its fields are a permutation of the input's. Where ranks differ, the input's order does not count.
 use Prim.Native.Nat.{ℕ, zero, suc, _+_, _-_, _≤_, _<_}
 use native.Mathlib.Omega.{arith}
 use mathlib.Core.Path.{_≡_, refl, sym, _∙_, ap, ap₂, subst}

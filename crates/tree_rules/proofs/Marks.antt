@@ -1,5 +1,5 @@
 -- Marks aside: slots that differ in marks alone are alike a layout, so marking a slot dead leaves a layout one, and a layout guides (`is-layout-guided`).
--- Lists are compared with every mark cleared, and the layout reads its rows past their marks. Assumes nothing.
+-- Lists are compared with every mark cleared, and the layout reads its rows past their marks.
 use Prim.Native.Nat.{ℕ, suc}
 use mathlib.Core.Path.{_≡_, refl, sym, _∙_, ap, ap₂}
 use mathlib.Core.List.{List, [], _∷_, map}

@@ -1,5 +1,4 @@
 -- `gather::gather_live` meets its contract. The loop's invariant: the live ones of the first i slots stand behind the first n rows.
--- Assumes nothing.
 use borrow.Author.Needs.{needs}
 use native.Mathlib.Omega.{arith}
 use mathlib.Core.Path.{_≡_, refl, sym, _∙_, ap}

@@ -1,5 +1,4 @@
 -- `gather::zero_rows` meets its contract. The loop's invariant: the first i rows are written over with zeros.
--- Assumes nothing.
 use native.Mathlib.Omega.{arith}
 use Prim.Native.Nat.{_-_}
 use lib.ListN.{length}

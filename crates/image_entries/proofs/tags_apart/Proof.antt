@@ -1,4 +1,4 @@
--- Sorted, the tags ascend, and what is left behind place i decides whether they are distinct. The measure is how many are left. Assumes nothing.
+-- Sorted, the tags ascend, and what is left behind place i decides whether they are distinct. The measure is how many are left.
 use borrow.Author.Needs.{needs}
 use native.Mathlib.Omega.{arith}
 use mathlib.Core.Path.{_≡_, refl, sym, _∙_, ap, subst}

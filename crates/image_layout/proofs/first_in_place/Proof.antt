@@ -1,4 +1,4 @@
--- The row is told by its place, and its threshold is the distance of the last of the left half. Assumes nothing.
+-- The row is told by its place, and its threshold is the distance of the last of the left half.
 use borrow.Author.Needs.{needs}
 use borrow.Author.Tests.{ne-eqb, eq-eqb}
 use mathlib.Core.Path.{sym, _∙_, ap, ap₂}

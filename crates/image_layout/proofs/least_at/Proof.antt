@@ -1,4 +1,4 @@
--- Of the entries passed none has a smaller first word than the one kept. The measure is how many are left. Assumes nothing.
+-- Of the entries passed none has a smaller first word than the one kept. The measure is how many are left.
 use borrow.Author.Needs.{needs}
 use native.Mathlib.Omega.{arith}
 use mathlib.Core.Path.{sym, subst}

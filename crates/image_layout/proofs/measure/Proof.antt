@@ -1,4 +1,4 @@
--- The first i entries have their distances, and the others stand as they did. The measure is how many are left. Assumes nothing.
+-- The first i entries have their distances, and the others stand as they did. The measure is how many are left.
 use borrow.Author.Needs.{needs}
 use native.Mathlib.Omega.{arith}
 use mathlib.Core.Path.{_≡_, refl, sym, _∙_, ap, subst}

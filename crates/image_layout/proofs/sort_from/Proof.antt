@@ -1,4 +1,4 @@
--- Entries with their distances are pairs, so that the sort gives their order. Assumes nothing.
+-- Entries with their distances are pairs, so that the sort gives their order.
 use mathlib.Core.Path.{refl, sym, _∙_, ap, subst}
 use Rattle.lists.specs.Lists.{All}
 use Rattle.lists.proofs.Lists.{all-map, all-always}

@@ -1,4 +1,4 @@
--- The slots' entries are put in order by their tags, and where those are distinct the layout's first fault is asked for. Assumes nothing.
+-- The slots' entries are put in order by their tags, and where those are distinct the layout's first fault is asked for.
 use borrow.Author.Tests.{not-true, not-false}
 use native.Mathlib.Omega.{arith}
 use mathlib.Core.Path.{_≡_, sym, _∙_, ap, subst}

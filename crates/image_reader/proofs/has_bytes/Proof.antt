@@ -1,6 +1,5 @@
 -- `image_reader::has_bytes` meets its contract: a walk of its MIR, by hand. A reader is made in a local, and handed on. All that the proof knows of `reader_at` and `left` is that
 -- each meets its contract.
--- Assumes nothing.
 use mathlib.Core.Path.{_≡_, refl, _∙_}
 use Prim.Native.Nat.{ℕ, _<_, _^_, _+_}
 use mathlib.Core.Bool.{Bool}

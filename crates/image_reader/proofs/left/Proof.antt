@@ -1,6 +1,5 @@
 -- `image_reader::left` meets its contract: a walk of its MIR, by hand. The reader is taken apart, and `bytes_left` is called on its image and its position. All that the proof
 -- knows of `bytes_left` is that it meets its contract.
--- Assumes nothing.
 use mathlib.Core.Path.{_≡_, refl}
 use Prim.Native.Nat.{ℕ, _<_, _^_, _+_}
 use mathlib.Core.Bool.{Bool}

@@ -1,6 +1,5 @@
 -- `image_reader::next` meets its contract: a walk of its MIR, by hand. The borrow of the reader is opened; its image and its position go to `number_at`; the position is moved on
 -- beside the image that the reader still holds, and the borrow is closed at the reader moved on. All that the proof knows of `number_at` is that it meets its contract.
--- Assumes nothing.
 use mathlib.Core.Path.{_≡_, refl}
 use Prim.Native.Nat.{ℕ, _<_, _≤_, _^_, _+_}
 use mathlib.Core.List.{List, [], _∷_}

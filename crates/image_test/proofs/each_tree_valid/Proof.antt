@@ -1,5 +1,4 @@
 -- The buckets from k on decide what is left to decide, and `first` is the first slot of bucket k. The measure is how many buckets are left.
--- Assumes nothing.
 use borrow.Author.Needs.{needs}
 use borrow.Author.Tests.{not-true, not-false}
 use native.Mathlib.Omega.{arith}

@@ -1,4 +1,4 @@
--- The entries in front are those of the live slots passed. The measure is how many slots are left. Assumes nothing.
+-- The entries in front are those of the live slots passed. The measure is how many slots are left.
 use borrow.Author.Needs.{needs}
 use native.Mathlib.Omega.{arith}
 use mathlib.Core.Path.{_≡_, refl, sym, _∙_, ap, subst, subst₂}

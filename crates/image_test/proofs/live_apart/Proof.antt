@@ -1,4 +1,4 @@
--- The live slots' entries are put in order by their tags. Assumes nothing.
+-- The live slots' entries are put in order by their tags.
 use native.Mathlib.Omega.{arith}
 use mathlib.Core.Path.{sym, _∙_, ap, subst}
 use mathlib.Core.List.{List, map}

@@ -1,4 +1,4 @@
--- The buckets one by one, and then the live tags of all slots, in the same array. Assumes nothing.
+-- The buckets one by one, and then the live tags of all slots, in the same array.
 use borrow.Author.Tests.{not-true, not-false}
 use native.Mathlib.Omega.{arith}
 use Prim.Native.Nat.{ℕ}

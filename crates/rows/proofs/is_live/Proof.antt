@@ -1,5 +1,4 @@
 -- `rows::is_live` compares the mark that `mark_of` gives with 0, as `isLive` does.
--- Assumes nothing.
 use borrow.Author.Needs.{needs}
 use Prim.Native.Nat.{ℕ}
 use mathlib.Core.Path.{ap}

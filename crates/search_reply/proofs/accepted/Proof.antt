@@ -1,5 +1,4 @@
 -- `search_reply::accepted` zeroes what is behind the reply: the part lent is given back as zeros, and the front stays.
--- Assumes nothing.
 use borrow.Author.Needs.{needs}
 use native.Mathlib.Omega.{arith}
 use Prim.Native.Nat.{ℕ, _-_}

@@ -1,5 +1,4 @@
 -- `search_reply::zero_entries` meets its contract. The loop's invariant: the first i entries are written over with zeros.
--- Assumes nothing.
 use native.Mathlib.Omega.{arith}
 use Prim.Native.Nat.{_-_}
 use lib.ListN.{length}

@@ -1,4 +1,4 @@
--- `table_add::add` meets its contract: a refused call leaves all as it was, and an accepted one is `insert`. Assumes nothing.
+-- `table_add::add` meets its contract: a refused call leaves all as it was, and an accepted one is `insert`.
 use borrow.Author.Needs.{needs}
 use mathlib.Core.Path.{sym, _∙_}
 use Rattle.table_rules.proofs.Passing.{framed-rows}

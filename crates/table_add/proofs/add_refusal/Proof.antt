@@ -1,4 +1,4 @@
--- `table_add::add_refusal` meets its contract: each return is the refusal of the definition, by the tests that led there. Assumes nothing.
+-- `table_add::add_refusal` meets its contract: each return is the refusal of the definition, by the tests that led there.
 use borrow.Author.Needs.{needs}
 use native.Mathlib.Omega.{arith}
 use borrow.Author.Tests.{not-true, not-false}

@@ -1,4 +1,4 @@
--- `table_add::last_refusal` meets its contract: each return is a case of the definition. Assumes nothing.
+-- `table_add::last_refusal` meets its contract: each return is a case of the definition.
 use borrow.Author.Needs.{needs}
 use borrow.Author.Tests.{not-true, not-false}
 use mathlib.Core.Path.{sym, ap₂}

@@ -1,5 +1,4 @@
 -- `table_buckets::empty_bucket` meets its contract: the bucket's room, given back zeroed, is a bucket of no slots.
--- Assumes nothing.
 use borrow.Author.Needs.{needs}
 use native.Mathlib.Omega.{arith}
 use Prim.Native.Nat.{ℕ, _+_, _-_, _≤_}

@@ -1,5 +1,4 @@
 -- `table_buckets::gather_bucket` meets its contract: the part that it lends to `gather_live` is the bucket's slots.
--- Assumes nothing.
 use borrow.Author.Needs.{needs}
 use native.Mathlib.Omega.{arith}
 use Prim.Native.Nat.{_+_, _-_, _≤_}

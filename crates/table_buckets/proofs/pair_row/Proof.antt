@@ -1,4 +1,4 @@
--- `table_buckets::pair_row` meets its contract: two words written over zeros. Assumes nothing.
+-- `table_buckets::pair_row` meets its contract: two words written over zeros.
 use borrow.Author.Needs.{needs}
 use mathlib.Core.Path.{refl}
 use Rattle.metric_rules.specs.Row.{zeroRow}

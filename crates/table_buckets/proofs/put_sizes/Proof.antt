@@ -1,4 +1,4 @@
--- `table_buckets::put_sizes` meets its contract: the row that it writes is the bucket's sizes row. Assumes nothing.
+-- `table_buckets::put_sizes` meets its contract: the row that it writes is the bucket's sizes row.
 use borrow.Author.Needs.{needs}
 use Prim.Native.Nat.{ℕ}
 use mathlib.Core.Path.{ap₂}

@@ -1,5 +1,4 @@
 -- `table_checks::change_refusal` meets its contract: the frame, the work area, the sizes, and then the marks.
--- Assumes nothing.
 use native.Mathlib.Omega.{arith}
 use Prim.Native.Nat.{ℕ}
 use borrow.Author.Tests.{not-true, not-false, lt-leb, le-leb}

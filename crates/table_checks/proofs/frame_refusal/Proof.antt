@@ -1,5 +1,4 @@
 -- `table_checks::frame_refusal` meets its contract: its tests are those of `frameRefusal`, the metric's before the order's.
--- Assumes nothing.
 use native.Mathlib.Omega.{arith}
 use Prim.Native.Nat.{_≤_}
 use borrow.Author.Tests.{not-true, not-false, lt-leb, le-leb}

@@ -1,5 +1,4 @@
 -- `table_checks::read_refusal` meets its contract: the frame, then the sizes.
--- Assumes nothing.
 use Prim.Native.Nat.{ℕ}
 use borrow.Author.Tests.{not-true, not-false}
 use mathlib.Core.Path.{_≡_, refl, sym, _∙_, ap}

@@ -1,5 +1,4 @@
 -- `table_checks::size_passes` meets its contract: its tests are the definition's, on numbers of 64 bits.
--- Assumes nothing.
 use Prim.Native.Nat.{ℕ, _*_}
 use mathlib.Core.Path.{ap}
 use mathlib.Core.Bool.{_&&_, _||_}

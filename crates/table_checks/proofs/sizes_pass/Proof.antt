@@ -1,5 +1,4 @@
 -- `table_checks::sizes_pass` meets its contract: every bucket's sizes, and then the total.
--- Assumes nothing.
 use borrow.Author.Tests.{not-true, not-false}
 use mathlib.Core.Path.{sym, _∙_, ap, ap₂}
 use mathlib.Core.Bool.{Bool, _&&_}

@@ -1,5 +1,5 @@
 -- `table_checks::slots_marked` meets its contract. The loop's invariant: the marks of the slots that are left decide, and the live ones counted so
--- far with those that are left are all. Assumes nothing.
+-- far with those that are left are all.
 use native.Mathlib.Omega.{arith}
 use Prim.Native.Nat.{ℕ, suc, _+_, _-_, _≤_, _<_}
 use native.Mathlib.Decide.{decLe}

@@ -1,5 +1,4 @@
 -- `table_fresh::fresh` meets its contract: the three tests in their order, and then the rows written.
--- Assumes nothing.
 use native.Mathlib.Omega.{arith}
 use Prim.Native.Nat.{_≤_}
 use borrow.Author.Tests.{not-true, not-false, lt-leb}

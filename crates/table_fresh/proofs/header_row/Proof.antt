@@ -1,5 +1,4 @@
 -- `table_fresh::header_row` meets its contract: two words written over zeros.
--- Assumes nothing.
 use mathlib.Core.Path.{refl}
 use Rattle.metric_rules.specs.Row.{zeroRow}
 use Rattle.metric_rules.specs.Distance.{metricAt}

@@ -1,5 +1,4 @@
 -- `table_fresh::write_fresh` meets its contract: the front is zeroed, and the header is put first.
--- Assumes nothing.
 use native.Mathlib.Omega.{arith}
 use Prim.Native.Nat.{_-_}
 use mathlib.Core.Path.{_∙_, ap}

@@ -1,4 +1,4 @@
--- `table_insert::add_bucket` meets its contract: the test is that of the definition, and bucket 0 always passes it. Assumes nothing.
+-- `table_insert::add_bucket` meets its contract: the test is that of the definition, and bucket 0 always passes it.
 use borrow.Author.Needs.{needs}
 use native.Mathlib.Omega.{arith}
 use borrow.Author.Tests.{lt-ltb, le-ltb}

@@ -1,4 +1,4 @@
--- `table_insert::empty_below` meets its contract. The loop's invariant: the buckets below i are emptied. Assumes nothing.
+-- `table_insert::empty_below` meets its contract. The loop's invariant: the buckets below i are emptied.
 use native.Mathlib.Omega.{arith}
 use Prim.Native.Nat.{ℕ, _-_, _≤_}
 use mathlib.Core.Path.{_≡_, refl, sym, _∙_, ap, subst⁻¹}

@@ -1,4 +1,4 @@
--- `table_insert::insert` meets its contract: each step's promise is handed to the laws of an accepted add. Assumes nothing.
+-- `table_insert::insert` meets its contract: each step's promise is handed to the laws of an accepted add.
 use borrow.Author.Needs.{needs}
 use native.Mathlib.Omega.{arith}
 use Prim.Native.Nat.{ℕ}

@@ -1,4 +1,4 @@
--- `table_insert::lowest_empty` meets its contract. The loop's invariant: the lowest empty bucket is the lowest of those from k on. Assumes nothing.
+-- `table_insert::lowest_empty` meets its contract. The loop's invariant: the lowest empty bucket is the lowest of those from k on.
 use native.Mathlib.Omega.{arith}
 use borrow.Author.Tests.{not-true, not-false}
 use Prim.Native.Nat.{_+_, _-_, _≤_}

@@ -1,5 +1,4 @@
 -- `table_look_up::find` meets its contract. The loop's invariant: what is found from bucket k on is what is found of all.
--- Assumes nothing.
 use native.Mathlib.Omega.{arith}
 use Prim.Native.Nat.{ℕ, _+_, _-_, _≤_, _<_}
 use mathlib.Core.Path.{_≡_, sym, _∙_, ap}

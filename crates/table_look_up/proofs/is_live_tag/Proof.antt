@@ -1,5 +1,4 @@
 -- `table_look_up::is_live_tag` meets its contract: a tag is live where it is found.
--- Assumes nothing.
 use mathlib.Core.Path.{sym, _∙_, ap}
 use mathlib.Core.List.{[]}
 use lib.ListN.{getD}

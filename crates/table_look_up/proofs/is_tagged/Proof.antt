@@ -1,5 +1,4 @@
 -- `table_look_up::is_tagged` meets its contract: both tests are the definition's.
--- Assumes nothing.
 use Prim.Native.Nat.{ℕ}
 use mathlib.Core.Path.{ap₂}
 use mathlib.Core.Bool.{Bool, _&&_}

@@ -1,5 +1,4 @@
 -- `table_look_up::look_up` meets its contract: the table's refusal, the tag's, and then the place found.
--- Assumes nothing.
 use native.Mathlib.Omega.{arith}
 use Prim.Native.Nat.{_<_}
 use borrow.Author.Tests.{not-true, not-false}

@@ -1,5 +1,4 @@
 -- `table_look_up::not_found` meets its contract: zeros in every field but the refusal.
--- Assumes nothing.
 use mathlib.Core.Path.{refl}
 use Rattle.table_rules.specs.LookUp.{noProfile, notFound}
 use Rattle.table_look_up.proofs.not_found.Statement.{statement}

@@ -1,5 +1,4 @@
 -- `table_look_up::slot_with` meets its contract. The loop's invariant: what is found from slot i on is what is found of all.
--- Assumes nothing.
 use native.Mathlib.Omega.{arith}
 use Prim.Native.Nat.{ℕ, _-_, _≤_}
 use mathlib.Core.Path.{_≡_, refl, sym, _∙_}

@@ -1,5 +1,4 @@
 -- `table_nearest::nearest_bucket`: the bucket's built slots are inside the table and few, and a tree's search over them is its turn.
--- Assumes nothing.
 use Prim.Native.Nat.{ℕ, _+_, _≤_}
 use native.Mathlib.Omega.{arith}
 use mathlib.Core.Path.{sym, ap, subst}

@@ -1,5 +1,4 @@
 -- `table_nearest::reply_with`: what an area holds stays at its front with zeros after it; one that is too short is zeroed.
--- Assumes nothing.
 use mathlib.Core.Path.{sym, _∙_}
 use mathlib.Core.Bool.{false≢true}
 use borrow.Author.Needs.{needs}

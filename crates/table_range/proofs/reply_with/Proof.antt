@@ -1,5 +1,4 @@
 -- `table_range::reply_with`: an area that is too short is zeroed; else the hits are sorted where they lie and zeros follow.
--- Assumes nothing.
 use borrow.Author.Needs.{needs}
 use native.Mathlib.Omega.{arith}
 use Prim.Native.Nat.{ℕ, _-_}

@@ -1,5 +1,4 @@
 -- `table_rebuild::build_bucket` meets its contract: the room filled and the sizes written are the bucket put, and the work area is cleared as it was lent.
--- Assumes nothing.
 use borrow.Author.Needs.{needs}
 use native.Mathlib.Omega.{arith}
 use native.Mathlib.Nat.{le-trans}

@@ -1,4 +1,4 @@
--- `table_rebuild::clear` meets its contract: what is zero already and what it zeroes make the cleared front. Assumes nothing.
+-- `table_rebuild::clear` meets its contract: what is zero already and what it zeroes make the cleared front.
 use borrow.Author.Needs.{needs}
 use native.Mathlib.Omega.{arith}
 use Prim.Native.Nat.{ℕ}

@@ -1,5 +1,4 @@
 -- `table_rebuild::fill` meets its contract: the front of the room is given back as the layout, the rest as zeros, and the rows used as zeros.
--- Assumes nothing.
 use borrow.Author.Needs.{needs}
 use native.Mathlib.Omega.{arith}
 use Prim.Native.Nat.{ℕ, _-_}

@@ -1,4 +1,4 @@
--- `table_remove::dead` meets its contract: it writes the mark's word. Assumes nothing.
+-- `table_remove::dead` meets its contract: it writes the mark's word.
 use borrow.Author.Needs.{needs}
 use mathlib.Core.Path.{refl}
 use Rattle.metric_rules.specs.Row.{rowWidth, withMark}

@@ -1,4 +1,4 @@
--- `table_remove::mark_dead` meets its contract: sizes are read before the slot is written, and both rows are those of the definition. Assumes nothing.
+-- `table_remove::mark_dead` meets its contract: sizes are read before the slot is written, and both rows are those of the definition.
 use borrow.Author.Needs.{needs}
 use native.Mathlib.Omega.{arith}
 use Prim.Native.Nat.{ℕ, _+_, _-_, _<_}

@@ -1,4 +1,4 @@
--- `table_remove::remove` meets its contract: each refusal is the definition's, and the item found is marked and its bucket settled. Assumes nothing.
+-- `table_remove::remove` meets its contract: each refusal is the definition's, and the item found is marked and its bucket settled.
 use borrow.Author.Needs.{needs}
 use native.Mathlib.Omega.{arith}
 use borrow.Author.Tests.{not-true, not-false}

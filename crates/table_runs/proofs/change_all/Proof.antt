@@ -1,5 +1,4 @@
 -- Each turn is one call; the measure is how many are left, and the areas keep their lengths.
--- Assumes nothing.
 use Prim.Native.Nat.{_-_, _≤_}
 use mathlib.Core.Path.{_≡_}
 use lib.ListN.{length}

@@ -1,5 +1,4 @@
 -- At most thirteen buckets, whose size rows are inside the table.
--- Assumes nothing.
 use Prim.Native.Nat.{_-_, _≤_}
 use native.Mathlib.Omega.{arith}
 use Rattle.metric_rules.specs.Row.{rowWidth}

@@ -1,4 +1,4 @@
--- `table_shrink::move_down` meets its contract: the rebuild of one bucket. Assumes nothing.
+-- `table_shrink::move_down` meets its contract: the rebuild of one bucket.
 use borrow.Author.Needs.{needs}
 use native.Mathlib.Omega.{arith}
 use mathlib.Core.Path.{_∙_, ap, subst⁻¹}

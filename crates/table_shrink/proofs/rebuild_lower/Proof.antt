@@ -1,4 +1,4 @@
--- `table_shrink::sparse` meets its contract: each return is a case of the definition, by the tests that led there. Assumes nothing.
+-- `table_shrink::sparse` meets its contract: each return is a case of the definition, by the tests that led there.
 use borrow.Author.Needs.{needs}
 use native.Mathlib.Omega.{arith}
 use Prim.Native.Nat.{ℕ, _-_, _≤_}

@@ -1,4 +1,4 @@
--- `table_shrink::unite` meets its contract: what two gatherings store and two emptyings leave are what a rebuild of both buckets takes. Assumes nothing.
+-- `table_shrink::unite` meets its contract: what two gatherings store and two emptyings leave are what a rebuild of both buckets takes.
 use borrow.Author.Needs.{needs}
 use native.Mathlib.Omega.{arith}
 use Prim.Native.Nat.{_+_}

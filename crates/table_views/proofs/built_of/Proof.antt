@@ -1,5 +1,4 @@
 -- `table_views::built_of` meets its contract: the built size is the first word of the bucket's size row.
--- Assumes nothing.
 use Prim.Native.Nat.{ℕ}
 use mathlib.Core.Path.{_∙_, ap}
 use borrow.Author.Needs.{needs}

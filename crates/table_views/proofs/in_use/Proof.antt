@@ -1,5 +1,4 @@
 -- `table_views::in_use` meets its contract: a bucket is in use where its built size is not 0, as in the definition.
--- Assumes nothing.
 use Prim.Native.Nat.{ℕ}
 use mathlib.Core.Path.{ap}
 use mathlib.Core.Bool.{not}

@@ -1,5 +1,4 @@
 -- `table_views::live_of` meets its contract: the live size is the second word of the bucket's size row.
--- Assumes nothing.
 use Prim.Native.Nat.{ℕ}
 use mathlib.Core.Path.{_∙_, ap}
 use borrow.Author.Needs.{needs}

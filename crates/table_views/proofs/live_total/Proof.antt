@@ -1,5 +1,5 @@
 -- `table_views::live_total` meets its contract. The loop's invariant: the sum so far and the live sizes from bucket k on are the total.
--- Each size fits 32 bits, so that the sum of fewer than 2^31 of them fits 64. Assumes nothing.
+-- Each size fits 32 bits, so that the sum of fewer than 2^31 of them fits 64.
 use Prim.Native.Nat.{ℕ, _+_, _-_, _*_, _^_, _≤_, _<_}
 use native.Mathlib.Omega.{arith}
 use borrow.Author.Needs.{needs}

@@ -1,5 +1,4 @@
 -- `table_views::order_of` meets its contract: the order is the header row's first word.
--- Assumes nothing.
 use borrow.Author.Needs.{needs}
 use Rattle.metric_rules.specs.Row.{rowWidth}
 use Rattle.table_rules.specs.Geometry.{headerRow}

@@ -1,5 +1,4 @@
 -- `table_views::slots_of` meets its contract: the rows from the bucket's first slot on, as many as it built.
--- Assumes nothing.
 use native.Mathlib.Omega.{arith}
 use Prim.Native.Nat.{ℕ, _+_, _-_}
 use mathlib.Core.Path.{_≡_, _∙_, ap, ap₂}

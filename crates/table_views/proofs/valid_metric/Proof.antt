@@ -1,5 +1,4 @@
 -- `table_views::valid_metric` meets its contract: the test is the definition's.
--- Assumes nothing.
 use mathlib.Core.Path.{refl}
 use Rattle.metric_rules.specs.Distance.{validSpace, lastMetric}
 use Rattle.table_views.proofs.valid_metric.Statement.{statement}

@@ -1,5 +1,4 @@
 -- `table_views::valid_space` meets its contract: the metric is read where `spaceOf` has it.
--- Assumes nothing.
 use Prim.Native.Nat.{ℕ}
 use mathlib.Core.Path.{_∙_, ap}
 use borrow.Author.Needs.{needs}

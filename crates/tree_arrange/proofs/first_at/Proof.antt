@@ -1,5 +1,4 @@
 -- `tree_arrange::first_at` meets its contract. The loop's invariant is `Least`: of the rows passed none comes before the one kept.
--- Assumes nothing.
 use borrow.Author.Needs.{needs}
 use borrow.Author.Tests.{not-true, not-false}
 use native.Mathlib.Omega.{arith}

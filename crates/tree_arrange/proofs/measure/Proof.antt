@@ -1,5 +1,4 @@
 -- `tree_arrange::measure` meets its contract. The loop's invariant: the first i rows of both slices are the new ones, and i distances are worked out.
--- Assumes nothing.
 use borrow.Author.Needs.{needs}
 use native.Mathlib.Omega.{arith}
 use mathlib.Core.Path.{_≡_, refl, sym, _∙_, ap, ap₂}

@@ -1,5 +1,5 @@
 -- `tree_build::build_part` meets its contract: the part is arranged, its first slot is placed, and the halves are parts again, with fewer rows.
--- The measure is the number of rows. Assumes nothing.
+-- The measure is the number of rows.
 use borrow.Author.Needs.{needs}
 use mir.Syntax.{w64}
 use mir.Val.{Fits}

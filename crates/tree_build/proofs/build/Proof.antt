@@ -1,5 +1,4 @@
 -- `tree_build::build` meets its contract: rows with their places as ranks are whole and ranked apart, and have the layout of the rows.
--- Assumes nothing.
 use borrow.Author.Needs.{needs}
 use native.Mathlib.Omega.{arith}
 use mathlib.Core.Path.{_≡_, sym, _∙_, ap, subst}

@@ -1,5 +1,4 @@
 -- `tree_build::last_distance` meets its contract: the last of l rows behind the first is row l.
--- Assumes nothing.
 use mathlib.Core.Path.{sym, ap}
 use Prim.Native.Nat.{ℕ}
 use lib.ListN.{take, drop}

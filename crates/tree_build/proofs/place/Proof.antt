@@ -1,5 +1,4 @@
 -- `tree_build::place` meets its contract: the two words that it writes are those of `placed`.
--- Assumes nothing.
 use borrow.Author.Needs.{needs}
 use mathlib.Core.Path.{refl}
 use Rattle.tree_rules.specs.Layout.{placed}

@@ -1,5 +1,4 @@
 -- `tree_build::with_rank` meets its contract: it writes the mark's word, and a row by value is twelve words long.
--- Assumes nothing.
 use borrow.Author.Needs.{needs}
 use mathlib.Core.Path.{refl}
 use Rattle.metric_rules.specs.Row.{rowWidth, withMark}

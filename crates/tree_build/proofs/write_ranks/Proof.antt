@@ -1,5 +1,4 @@
 -- `tree_build::write_ranks` meets its contract. The loop's invariant: the first i rows carry their ranks, and have all their words.
--- Assumes nothing.
 use borrow.Author.Needs.{needs}
 use native.Mathlib.Omega.{arith}
 use native.Mathlib.Nat.{zero-add}

@@ -1,5 +1,5 @@
 -- Each step leaves what its definition says or word that the area is too short, and the next step starts from that: a slot's own item, then
--- the two halves in their turns; few slots are the loop's. The measures are three times the slots' number, and one or two more below a slot. Assumes nothing.
+-- the two halves in their turns; few slots are the loop's. The measures are three times the slots' number, and one or two more below a slot.
 use mathlib.Core.Path.{_≡_, refl, sym, _∙_}
 use native.Mathlib.Omega.{arith}
 use borrow.Author.Needs.{needs}

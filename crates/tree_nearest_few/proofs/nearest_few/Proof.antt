@@ -1,5 +1,5 @@
 -- What is kept and the parts to come make up the tree's search whenever the loop's test is reached, so that at the end what is kept is it.
--- The measure is how many slots are to come. Assumes nothing.
+-- The measure is how many slots are to come.
 use Prim.Native.Nat.{ℕ, _+_, _≤_, _<_, _^_}
 use mathlib.Core.Path.{_≡_, refl, sym, ap, _∙_}
 use mathlib.Core.Logic.{⊎-elim}

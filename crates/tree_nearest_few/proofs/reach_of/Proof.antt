@@ -1,5 +1,4 @@
 -- Below k kept there is no bound; else it is the last entry's distance, or 0 where none is kept.
--- Assumes nothing.
 use native.Mathlib.Omega.{arith}
 use borrow.Author.Needs.{needs}
 use Rattle.tree_nearest_few.proofs.Nearing.{reach-below, reach-empty, reach-last}

@@ -1,6 +1,6 @@
 -- `tree_nearest_tally::visited` meets its contract: a walk of its MIR, by hand. The tally that came by value lies in a local, which is lent to `visit` for a lifetime that the walk
 -- makes; the lifetime is ended, and the local, back at the tally that `visit` left there, is copied out (`walks`, `Lending`).
--- All that the proof knows of `visit` is that it meets its contract. Assumes nothing.
+-- All that the proof knows of `visit` is that it meets its contract.
 use mathlib.Core.Path.{_≡_, refl, sym, ap, subst}
 use Prim.Native.Nat.{ℕ, _<_, _^_}
 use mathlib.Core.List.{[], _∷_, List}

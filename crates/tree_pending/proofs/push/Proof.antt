@@ -1,5 +1,4 @@
 -- A part without slots does not wait, and any other is the last of those that do. (The walk calls the parameter `part` t3.)
--- Assumes nothing.
 use borrow.Author.Needs.{needs}
 use Rattle.tree_pending.proofs.Sending.{pushed-none, push-place, pushed-some}
 use Rattle.tree_pending.proofs.push.Statement.{statement}

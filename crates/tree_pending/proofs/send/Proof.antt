@@ -1,5 +1,4 @@
 -- Each way through the code hands on the half that goes first, or what is left where one or both have no slots; the other half waits.
--- Assumes nothing.
 use Prim.Native.Nat.{_+_, _-_, _/_, _≤_}
 use mathlib.Core.Path.{refl, sym, subst}
 use mathlib.Core.List.{[], _∷_}

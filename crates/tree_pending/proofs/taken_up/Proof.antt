@@ -1,5 +1,4 @@
 -- A part is its three numbers. (The walk calls the parameter `part` t2.)
--- Assumes nothing.
 use mathlib.Core.Path.{ap, _∙_}
 use borrow.Author.Needs.{needs}
 use Rattle.tree_pending.specs.declared.Turn.{Turn}

@@ -1,5 +1,4 @@
 -- The part in hand stays, or the last one that waits is taken up, which has slots.
--- Assumes nothing.
 use mathlib.Core.Path.{_≡_, ap}
 use native.Mathlib.Omega.{arith}
 use borrow.Author.Needs.{needs}

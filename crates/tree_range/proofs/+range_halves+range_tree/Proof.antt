@@ -1,5 +1,5 @@
 -- A slot's visit and its halves' add up to the tree's, and the two halves' turns to the halves', and no slots give nothing.
--- The measures are twice the slots' number, and one more for the halves. Assumes nothing.
+-- The measures are twice the slots' number, and one more for the halves.
 use mathlib.Core.Path.{_≡_, refl, sym, ap, _∙_}
 use mathlib.Core.Logic.{⊎-elim}
 use mathlib.Core.List.{List, []}

@@ -1,5 +1,4 @@
 -- A slot that is dead or farther than the radius is counted alone; a hit is put at the first free place, if the area goes so far.
--- Assumes nothing.
 use mathlib.Core.Path.{_≡_, sym, ap, _∙_}
 use mathlib.Core.Bool.{true}
 use mathlib.Core.Logic.{⊎-elim}

@@ -1,5 +1,4 @@
 -- `table_order::Order::first_slot` meets its contract; the sum fits, with each part below 2^32.
--- Assumes nothing.
 use borrow.Author.Needs.{needs}
 use native.Mathlib.Omega.{arith}
 use Rattle.table_rules.specs.Geometry.{firstSlot}

@@ -1,5 +1,4 @@
 -- `table_order::Order::new` meets its contract: both tests are those of `validOrder`.
--- Assumes nothing.
 use native.Mathlib.Omega.{arith}
 use mathlib.Core.Path.{sym}
 use Rattle.table_order.specs.Answers.{answerOf}

@@ -1,5 +1,4 @@
 -- `table_order::Order::room` meets its contract: the shift drops no bit.
--- Assumes nothing.
 use borrow.Author.Needs.{needs}
 use Rattle.table_order.proofs.Orders.{room-shift}
 use Rattle.table_order.proofs.Order.room.Statement.{statement}

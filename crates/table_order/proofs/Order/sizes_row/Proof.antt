@@ -1,5 +1,4 @@
 -- `table_order::Order::sizes_row` meets its contract.
--- Assumes nothing.
 use borrow.Author.Needs.{needs}
 use Rattle.table_rules.specs.Geometry.{sizesRow}
 use Rattle.table_order.proofs.Order.sizes_row.Statement.{statement}

@@ -1,5 +1,4 @@
 -- `table_order::Order::table_rows` meets its contract: a table ends where the bucket after its last would start.
--- Assumes nothing.
 use borrow.Author.Needs.{needs}
 use native.Mathlib.Numerals.{add-one}
 use mathlib.Core.Path.{_∙_, ap}

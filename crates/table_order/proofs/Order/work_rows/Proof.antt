@@ -1,5 +1,4 @@
 -- `table_order::Order::work_rows` meets its contract.
--- Assumes nothing.
 use borrow.Author.Needs.{needs}
 use Rattle.table_rules.specs.Geometry.{workRows}
 use Rattle.table_order.proofs.Order.work_rows.Statement.{statement}
