@@ -9,20 +9,20 @@ use mathlib.Core.Option.{Option, none, some}
 use lib.Dec.{leb}
 use lib.ListN.{length}
 use native.Mathlib.Omega.{arith}
-use borrow.Author.Tests.{le-leb, lt-leb}
+use borrow.Author.Tests.{le-leb, lt-leb, ne-eqb}
 use Rattle.lists.proofs.Tests.{and-first, and-pass}
 use Rattle.metric_rules.specs.declared.Profile.{Profile}
 use Rattle.metric_rules.specs.Validity.{validTag, validMeasures}
 use Rattle.metric_rules.specs.Distance.{validSpace}
 use Rattle.search_rules.specs.Range.{Entry}
-use Rattle.table_rules.specs.Refusals.{badTag, badMeasure, noRoom, alreadyLive, notLive, full, shortArea, badTable}
+use Rattle.table_rules.specs.Refusals.{badTag, badMeasure, noCount, noRoom, alreadyLive, notLive, full, shortArea, badTable, unless, when}
 use Rattle.table_rules.specs.Geometry.{validOrder, room, tableRows, workRows, firstSlot}
 use Rattle.table_rules.specs.Table.{Table, orderOf, tableSpace, builtOf, liveOf, liveTotal}
 use Rattle.table_rules.specs.Checks.{sizesPass, marksPass, tableRefusal, readRefusal, changeRefusal}
 use Rattle.table_rules.specs.Add.{addRefusal}
 use Rattle.table_rules.specs.Remove.{removeRefusal}
 use Rattle.table_rules.specs.LookUp.{Place, find, isLiveTag, lookUpRefusal}
-use Rattle.table_rules.specs.Search.{fitRefusal, rangeRefusal, nearestRefusal}
+use Rattle.table_rules.specs.Search.{fitRefusal, nearestAnswer, rangeRefusal, nearestRefusal}
 use Rattle.history.specs.Calls.{Lent}
 use Rattle.history.specs.Model.{Item, itemOf, Model, lengthsOf, withTag, modelRange, modelNearest, canRead, canChange, enough, tagRefusal, itemRefusal, fits, scanRefusal, countRefusal}
 use Rattle.history.proofs.Invariant.{Invariant}
@@ -190,7 +190,7 @@ module _ (m : Model) (lent : Lent) where
     unfolding rangeRefusal scanRefusal fits fitRefusal lengthsOf
     range-refusal q r =
         stopped (readRefusal (lent .table)) _ _ _ (read-refusal lendable)
-        (λ e. ap (λ (es : List Entry). elim (validMeasures q) as (λ _. ℕ) [ false ↦ badMeasure | true ↦ elim (leb (length es) (length (lent .result))) [ true ↦ 0 | false ↦ noRoom ] ]) (range-alike (readable lendable e) q r))
+        (λ e. ap (λ (es : List Entry). unless (validMeasures q) badMeasure (unless (leb (length es) (length (lent .result))) noRoom 0)) (range-alike (readable lendable e) q r))
 
     pub nearest-refusal : (q : Profile) (k : ℕ)
         → nearestRefusal (lent .table) (lent .result) q k
@@ -199,4 +199,7 @@ module _ (m : Model) (lent : Lent) where
     nearest-refusal q zero = stopped (readRefusal (lent .table)) _ _ _ (read-refusal lendable) (λ e. refl)
     nearest-refusal q (suc k) =
         stopped (readRefusal (lent .table)) _ _ _ (read-refusal lendable)
-        (λ e. ap (λ (es : List Entry). elim (validMeasures q) as (λ _. ℕ) [ false ↦ badMeasure | true ↦ elim (leb (length es) (length (lent .result))) [ true ↦ 0 | false ↦ noRoom ] ]) (nearest-alike (readable lendable e) q (suc k)))
+        (
+        λ e. ap (λ (b : Bool). unless (validMeasures q) badMeasure (when b noCount (fitRefusal (lent .result) (nearestAnswer (lent .table) q (suc k))))) (ne-eqb (suc k) 0 (λ z. omega arith))
+        ∙ ap (λ (es : List Entry). unless (validMeasures q) badMeasure (unless (leb (length es) (length (lent .result))) noRoom 0)) (nearest-alike (readable lendable e) q (suc k))
+        )

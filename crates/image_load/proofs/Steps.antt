@@ -10,7 +10,7 @@ use lib.ListN.{length}
 use lib.Pow.{pow-mono}
 use Rattle.lists.specs.Lists.{total}
 use Rattle.metric_rules.specs.Distance.{validSpace}
-use Rattle.table_rules.specs.Refusals.{badOrder, badMetric, badLength, badImage, shortArea, badTable}
+use Rattle.table_rules.specs.Refusals.{badOrder, badMetric, badLength, badImage, shortArea, badTable, unless, when}
 use Rattle.table_rules.specs.Geometry.{validOrder, room, tableRows}
 use Rattle.table_rules.specs.Checks.{sizesPass}
 use Rattle.table_rules.proofs.Buckets.{order-most}
@@ -41,39 +41,21 @@ stop-first zero n some = absurd (some refl)
 stop-first (suc m) n some = refl
 
 unfoldable pub slotsBy : Bool → ℕ
-slotsBy slots = elim slots [ false ↦ badImage | true ↦ 0 ]
+slotsBy slots = unless slots badImage 0
 
 -- load's checks are the header's, then those of the sizes and lengths, then the slots'
 by-steps : (short order space zeros pairs sizes whole roomy slots : Bool)
     → _≡_ {A = ℕ}
-    (elim short [
-      | true ↦ badLength
-      | false ↦
-          elim order [
-            | false ↦ badOrder
-            | true ↦
-                elim space [
-                  | false ↦ badMetric
-                  | true ↦
-                      elim zeros [
-                        | false ↦ badImage
-                        | true ↦
-                            elim pairs [
-                              | false ↦ badLength
-                              | true ↦
-                                  elim sizes [
-                                    | false ↦ badTable
-                                    | true ↦
-                                        elim whole [
-                                          | false ↦ badLength
-                                          | true ↦ elim roomy [ false ↦ shortArea | true ↦ elim slots [ false ↦ badImage | true ↦ 0 ] ]
-                                        ]
-                                  ]
-                            ]
-                      ]
-                ]
-          ]
-    ])
+    (when short badLength
+    (unless order badOrder
+    (unless space badMetric
+    (unless zeros badImage
+    (unless pairs badLength
+    (unless sizes badTable
+    (unless whole badLength
+    (unless roomy shortArea
+    (unless slots badImage
+    0)))))))))
     (andThen (headerBy short order space zeros) (andThen (sizesBy pairs sizes whole roomy) (slotsBy slots)))
 unfolding andThen headerBy sizesBy slotsBy
 by-steps true o s z p n w r f = refl

@@ -1,6 +1,6 @@
 -- RULES 12.3 to 12.5, load: the checks in their order, each with its number, and the table after the call.
 use Prim.Native.Nat.{ℕ, zero, suc}
-use mathlib.Core.Bool.{Bool, true, false, _&&_}
+use mathlib.Core.Bool.{Bool, _&&_}
 use mathlib.Core.List.{List, map, foldl, flatten}
 use lib.ListN.{length}
 use lib.Dec.{leb, ltb, eqb}
@@ -9,7 +9,7 @@ use Rattle.metric_rules.specs.Row.{Row, tagOf, profileOf, markOf, isLive}
 use Rattle.metric_rules.specs.Validity.{validTag, validMeasures}
 use Rattle.metric_rules.specs.Distance.{Space, validSpace, distance}
 use Rattle.tree_rules.specs.Layout.{isLayout}
-use Rattle.table_rules.specs.Refusals.{badOrder, badMetric, badLength, badImage, shortArea, badTable}
+use Rattle.table_rules.specs.Refusals.{badOrder, badMetric, badLength, badImage, shortArea, badTable, unless, when}
 use Rattle.table_rules.specs.Geometry.{validOrder, bucketsOf, tableRows}
 use Rattle.table_rules.specs.Table.{Table, putBucket}
 use Rattle.table_rules.specs.Checks.{sizesPass}
@@ -39,39 +39,21 @@ slotsPass image =
 -- RULES 12.4, once the order is known: size pairs cut 7, sizes 24, total length 7, the table's room 23, then 8
 unfoldable pub bodyRefusal : ℕ → List ℕ → ℕ
 bodyRefusal rows image =
-    elim (leb (sizesEnd (orderIn image)) (length image)) [
-      | false ↦ badLength
-      | true ↦
-          elim (sizesPass (orderIn image) (builtIn image) (liveIn image)) [
-            | false ↦ badTable
-            | true ↦
-                elim (eqb (length image) (imageLength (orderIn image) (slotsIn image))) [
-                  | false ↦ badLength
-                  | true ↦
-                      elim (leb (tableRows (orderIn image)) rows) [
-                        | false ↦ shortArea
-                        | true ↦ elim (slotsPass image) [ false ↦ badImage | true ↦ 0 ]
-                      ]
-                ]
-          ]
-    ]
+    unless (leb (sizesEnd (orderIn image)) (length image)) badLength
+    (unless (sizesPass (orderIn image) (builtIn image) (liveIn image)) badTable
+    (unless (eqb (length image) (imageLength (orderIn image) (slotsIn image))) badLength
+    (unless (leb (tableRows (orderIn image)) rows) shortArea
+    (unless (slotsPass image) badImage
+    0))))
 
 -- RULES 12.4: under 4 bytes 7; order 3; metric 4; the two zero bytes 8; then the body. Of the table only its number of rows is read
 unfoldable pub loadRefusal : ℕ → List ℕ → ℕ
 loadRefusal rows image =
-    elim (ltb (length image) headerBytes) [
-      | true ↦ badLength
-      | false ↦
-          elim (validOrder (orderIn image)) [
-            | false ↦ badOrder
-            | true ↦
-                elim (validSpace (spaceIn image)) [
-                  | false ↦ badMetric
-                  | true ↦
-                      elim (eqb (zerosIn image) 0) [ false ↦ badImage | true ↦ bodyRefusal rows image ]
-                ]
-          ]
-    ]
+    when (ltb (length image) headerBytes) badLength
+    (unless (validOrder (orderIn image)) badOrder
+    (unless (validSpace (spaceIn image)) badMetric
+    (unless (eqb (zerosIn image) 0) badImage
+    (bodyRefusal rows image))))
 
 -- RULES 12.3: a fresh table of the image's order and metric, with each bucket put in its place
 unfoldable pub loadedTable : List ℕ → Table → Table

@@ -1,12 +1,11 @@
 -- RULES 12.1, 12.2: the bytes of a table, and the call that writes them.
 use Prim.Native.Nat.{ℕ, zero, suc}
-use mathlib.Core.Bool.{true, false}
 use mathlib.Core.List.{List, [], _∷_, _++_, map, flatten}
 use lib.ListN.{length, take, drop}
 use lib.Dec.{leb}
 use Rattle.metric_rules.specs.Row.{Row}
 use Rattle.metric_rules.specs.Distance.{Space}
-use Rattle.table_rules.specs.Refusals.{noRoom}
+use Rattle.table_rules.specs.Refusals.{noRoom, unless, orElse}
 use Rattle.table_rules.specs.Geometry.{bucketsOf}
 use Rattle.table_rules.specs.Table.{Table, orderOf, tableSpace, builtOf, liveOf, slotsOf}
 use Rattle.table_rules.specs.Checks.{readRefusal}
@@ -39,7 +38,9 @@ imageOf t = headerBytesOf (orderOf t) (tableSpace t) ++ sizesOf (orderOf t) (bui
 -- RULES 14.4, after 23 and 24: 6, fewer bytes in the area than in the image
 unfoldable pub writeRefusal : Table → List ℕ → ℕ
 writeRefusal t area =
-    elim (readRefusal t) [ suc n ↦ suc n | zero ↦ elim (leb (length (imageOf t)) (length area)) [ true ↦ 0 | false ↦ noRoom ] ]
+    orElse (readRefusal t)
+    (unless (leb (length (imageOf t)) (length area)) noRoom
+    0)
 
 -- RULES 12.2: the image's length
 unfoldable pub writeReply : Table → List ℕ → Written

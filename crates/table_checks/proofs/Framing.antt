@@ -9,7 +9,7 @@ use mathlib.Core.List.{[], _∷_}
 use lib.Dec.{leb}
 use lib.ListN.{length}
 use Rattle.metric_rules.specs.Distance.{validSpace}
-use Rattle.table_rules.specs.Refusals.{shortArea, badTable}
+use Rattle.table_rules.specs.Refusals.{shortArea, badTable, unless}
 use Rattle.table_rules.specs.Geometry.{validOrder, sizesRow, tableRows}
 use Rattle.table_rules.specs.Table.{Table, orderOf, tableSpace, builtOf, liveOf}
 use Rattle.table_rules.specs.Checks.{sizesPass, tableRefusal}
@@ -19,7 +19,7 @@ use Rattle.table_rules.proofs.Passing.{sizes-inside, stopBy, table-stop, none-s
 use Rattle.table_checks.specs.Frame.{frameRefusal}
 
 frameBy : Bool → Bool → Bool → ℕ
-frameBy order space long = elim (order && space) [ false ↦ badTable | true ↦ elim long [ false ↦ shortArea | true ↦ 0 ] ]
+frameBy order space long = unless (order && space) badTable (unless long shortArea 0)
 
 frame-tests : (t : Table) → 0 < length t → frameRefusal t ≡ frameBy (validOrder (orderOf t)) (validSpace (tableSpace t)) (leb (tableRows (orderOf t)) (length t))
 unfolding frameRefusal frameBy
@@ -115,6 +115,6 @@ module _ (roomy sound : Table → Bool) (t : Table) where
   sizes-stop e ea eb = behind-when true false _ e ea eb refl
 
   pub sound-decides : (b : Bool) → frameRefusal t ≡ 0 → roomy t ≡ true → sizesPass (orderOf t) (builtOf t) (liveOf t) ≡ true → sound t ≡ b
-      → tableRefusal roomy sound t ≡ elim b [ true ↦ 0 | false ↦ badTable ]
+      → tableRefusal roomy sound t ≡ unless b badTable 0
   unfolding stopBy
   sound-decides b e ea eb ed = behind-when true true b e ea eb ed

@@ -1,13 +1,13 @@
 -- The first half of `tableRefusal`, which reads a table's header and length alone; the sizes can be read once it is 0. And the marks of one bucket.
 use Prim.Native.Nat.{ℕ}
-use mathlib.Core.Bool.{Bool, true, false, _&&_}
+use mathlib.Core.Bool.{Bool, _&&_}
 use mathlib.Core.List.{List, [], _∷_}
 use lib.ListN.{length}
 use lib.Dec.{leb, eqb}
 use Rattle.lists.specs.Lists.{every, select}
 use Rattle.metric_rules.specs.Row.{Row, markOf, isLive}
 use Rattle.metric_rules.specs.Distance.{validSpace}
-use Rattle.table_rules.specs.Refusals.{shortArea, badTable}
+use Rattle.table_rules.specs.Refusals.{shortArea, badTable, unless}
 use Rattle.table_rules.specs.Geometry.{validOrder, tableRows}
 use Rattle.table_rules.specs.Table.{Table, orderOf, tableSpace}
 
@@ -15,10 +15,9 @@ unfoldable pub frameRefusal : Table → ℕ
 frameRefusal [] = shortArea
 frameRefusal (r ∷ rs) =
     let t = r ∷ rs in
-    elim (validOrder (orderOf t) && validSpace (tableSpace t)) [
-      | false ↦ badTable
-      | true ↦ elim (leb (tableRows (orderOf t)) (length t)) [ false ↦ shortArea | true ↦ 0 ]
-    ]
+    unless (validOrder (orderOf t) && validSpace (tableSpace t)) badTable
+    (unless (leb (tableRows (orderOf t)) (length t)) shortArea
+    0)
 
 -- `marksPass` in one bucket
 unfoldable pub slotsMarked : List Row → ℕ → Bool

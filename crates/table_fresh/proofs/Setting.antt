@@ -9,14 +9,14 @@ use lib.Dec.{leb}
 use lib.ListN.{length, take, drop, set, replicate, length-take}
 use Rattle.metric_rules.specs.Row.{Row, zeroRow}
 use Rattle.metric_rules.specs.Distance.{Space, validSpace}
-use Rattle.table_rules.specs.Refusals.{badOrder, badMetric, shortArea}
+use Rattle.table_rules.specs.Refusals.{badOrder, badMetric, shortArea, unless}
 use Rattle.table_rules.specs.Geometry.{validOrder, tableRows}
 use Rattle.table_rules.specs.Table.{Table, headerOf}
 use Rattle.table_rules.specs.Fresh.{freshRefusal, freshTable, tableAfterFresh}
 
 freshBy : Bool → Bool → Bool → ℕ
 freshBy order space long =
-    elim order [ false ↦ badOrder | true ↦ elim space [ false ↦ badMetric | true ↦ elim long [ false ↦ shortArea | true ↦ 0 ] ] ]
+    unless order badOrder (unless space badMetric (unless long shortArea 0))
 
 module _ (order : ℕ) (space : Space) (t : Table) where
   refusal-tests : freshRefusal (length t) order space ≡ freshBy (validOrder order) (validSpace space) (leb (tableRows order) (length t))

@@ -6,7 +6,7 @@ use mathlib.Core.Option.{Option, none, some}
 use Rattle.metric_rules.specs.Row.{profileOf}
 use Rattle.metric_rules.specs.Validity.{validTag}
 use Rattle.table_rules.specs.declared.LookedUp.{LookedUp}
-use Rattle.table_rules.specs.Refusals.{badTag, notLive}
+use Rattle.table_rules.specs.Refusals.{badTag, notLive, unless, orElse}
 use Rattle.table_rules.specs.Table.{Table}
 use Rattle.table_rules.specs.Checks.{readRefusal}
 use Rattle.table_rules.specs.LookUp.{Place, find, isLiveTag, lookUpRefusal, lookUpReply, notFound}
@@ -24,7 +24,7 @@ module _ (t : Table) (tag : ℕ) where
 
   refusalBy : ℕ → Bool → Bool → ℕ
   refusalBy read valid live =
-      elim read [ suc n ↦ suc n | zero ↦ elim valid [ false ↦ badTag | true ↦ elim live [ false ↦ notLive | true ↦ 0 ] ] ]
+      orElse read (unless valid badTag (unless live notLive 0))
 
   refusal-tests : lookUpRefusal t tag ≡ refusalBy (readRefusal t) (validTag tag) (isLiveTag t tag)
   unfolding lookUpRefusal refusalBy

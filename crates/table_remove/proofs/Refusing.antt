@@ -7,7 +7,7 @@ use mathlib.Core.Option.{Option, none, some}
 use Rattle.metric_rules.specs.Row.{Row, zeroRow}
 use Rattle.metric_rules.specs.Validity.{validTag}
 use Rattle.table_rules.specs.declared.Removed.{Removed}
-use Rattle.table_rules.specs.Refusals.{badTag, notLive}
+use Rattle.table_rules.specs.Refusals.{badTag, notLive, unless, orElse}
 use Rattle.table_rules.specs.Geometry.{workRows}
 use Rattle.table_rules.specs.Table.{Table, orderOf, cleared}
 use Rattle.table_rules.specs.Checks.{changeRefusal}
@@ -29,7 +29,7 @@ module _ (t : Table) (work : List Row) (tag : ℕ) where
     where
       go :
           (n : ℕ) (a b : Bool)
-          → _≡_ {A = ℕ} (elim n [ suc m ↦ suc m | zero ↦ elim a [ false ↦ badTag | true ↦ elim b [ false ↦ notLive | true ↦ 0 ] ] ]) (removeStop n a b)
+          → _≡_ {A = ℕ} (orElse n (unless a badTag (unless b notLive 0))) (removeStop n a b)
       go (suc n) a b = refl
       go zero false b = refl
       go zero true false = refl

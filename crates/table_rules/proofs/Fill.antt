@@ -13,7 +13,7 @@ use Rattle.lists.proofs.Tests.{and-second}
 use Rattle.metric_rules.specs.declared.Profile.{Profile}
 use Rattle.metric_rules.specs.Row.{Row, markOf}
 use Rattle.metric_rules.specs.Validity.{validTag, validMeasures}
-use Rattle.table_rules.specs.Refusals.{badTag, badMeasure, alreadyLive, full}
+use Rattle.table_rules.specs.Refusals.{badTag, badMeasure, alreadyLive, full, unless, when, orElse}
 use Rattle.table_rules.specs.Geometry.{room, workRows}
 use Rattle.table_rules.specs.Table.{Table, orderOf, liveOf, liveTotal, slotsOf, liveSlots}
 use Rattle.table_rules.specs.Checks.{marksPass, changeRefusal}
@@ -73,14 +73,7 @@ add-stop t work tag p = go (changeRefusal work t) (validTag tag) (validMeasures 
   where
     go :
         (n : ℕ) (a b c d : Bool)
-        → _≡_ {A = ℕ} (elim n [
-          | suc m ↦ suc m
-          | zero ↦
-              elim a [
-                | false ↦ badTag
-                | true ↦ elim b [ false ↦ badMeasure | true ↦ elim c [ true ↦ alreadyLive | false ↦ elim d [ true ↦ full | false ↦ 0 ] ] ]
-              ]
-        ]) (addStop n a b c d)
+        → _≡_ {A = ℕ} (orElse n (unless a badTag (unless b badMeasure (when c alreadyLive (when d full 0))))) (addStop n a b c d)
     go (suc n) a b c d = refl
     go zero false b c d = refl
     go zero true false c d = refl

@@ -10,7 +10,7 @@ use lib.Dec.{leb}
 use lib.ListN.{length}
 use Rattle.lists.proofs.Tests.{and-first, and-second}
 use Rattle.metric_rules.specs.Distance.{validSpace}
-use Rattle.table_rules.specs.Refusals.{shortArea, badTable}
+use Rattle.table_rules.specs.Refusals.{shortArea, badTable, unless}
 use Rattle.table_rules.specs.Geometry.{validOrder, room, sizesRow, firstSlot, tableRows}
 use Rattle.table_rules.specs.Table.{Table, orderOf, tableSpace, builtOf, liveOf}
 use Rattle.table_rules.specs.Checks.{sizesPass, tableRefusal, readRefusal}
@@ -45,7 +45,7 @@ slots-asked {t} p n k e h =
 -- the refusal by its three tests: header, lengths, sizes and what the call asks besides
 unfoldable pub stopBy : Bool → Bool → Bool → ℕ
 stopBy header lengths sizes =
-    elim header [ false ↦ badTable | true ↦ elim lengths [ false ↦ shortArea | true ↦ elim sizes [ false ↦ badTable | true ↦ 0 ] ] ]
+    unless header badTable (unless lengths shortArea (unless sizes badTable 0))
 
 module _ (roomy sound : Table → Bool) where
   pub table-stop : (t : Table) → 0 < length t

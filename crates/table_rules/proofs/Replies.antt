@@ -5,11 +5,12 @@ use mathlib.Core.Path.{_≡_, refl, sym, ap, _∙_}
 use mathlib.Core.Bool.{Bool, true, false}
 use mathlib.Core.List.{List, [], _∷_, _++_}
 use lib.ListN.{length, replicate}
+use lib.Dec.{eqb}
 use borrow.Author.Tests.{le-leb, lt-leb, ne-eqb}
 use Rattle.metric_rules.specs.declared.Profile.{Profile}
 use Rattle.metric_rules.specs.Validity.{validMeasures}
 use Rattle.search_rules.specs.Range.{Entry}
-use Rattle.table_rules.specs.Refusals.{badMeasure, noCount, noRoom, shortArea}
+use Rattle.table_rules.specs.Refusals.{badMeasure, noCount, noRoom, shortArea, unless, when, orElse}
 use Rattle.table_rules.specs.Table.{Table}
 use Rattle.table_rules.specs.Checks.{readRefusal}
 use Rattle.table_rules.specs.Search.{Answer, fitRefusal, rangeAnswer, nearestAnswer, rangeRefusal, nearestRefusal, searchReply, resultAfter, zeroEntry}
@@ -83,7 +84,7 @@ module _ (area : List Entry) (a : Answer) (m : ℕ) where
       )
 
 -- which test stops a search
-stopped : (n : ℕ) (rest : ℕ) → (n ≡ 0 → ⊥) → elim n as (λ _. ℕ) [ suc m ↦ suc m | zero ↦ rest ] ≡ n
+stopped : (n : ℕ) (rest : ℕ) → (n ≡ 0 → ⊥) → orElse n rest ≡ n
 stopped zero rest some = absurd (some refl)
 stopped (suc n) rest some = refl
 
@@ -93,42 +94,38 @@ module _ (t : Table) (area : List Entry) (query : Profile) where
     unfolding rangeRefusal
     range-stopped some = stopped (readRefusal t) _ some
 
-    range-goes : readRefusal t ≡ 0 → rangeRefusal t area query radius ≡ elim (validMeasures query) [ false ↦ badMeasure | true ↦ fitRefusal area (rangeAnswer t query radius) ]
+    range-goes : (b : Bool) → readRefusal t ≡ 0 → validMeasures query ≡ b
+        → rangeRefusal t area query radius ≡ unless b badMeasure (fitRefusal area (rangeAnswer t query radius))
     unfolding rangeRefusal
-    range-goes e =
-        ap (λ (n : ℕ). elim n as (λ _. ℕ) [ suc m ↦ suc m | zero ↦ elim (validMeasures query) [ false ↦ badMeasure | true ↦ fitRefusal area (rangeAnswer t query radius) ] ]) e
+    range-goes b e v =
+        let fit : ℕ = fitRefusal area (rangeAnswer t query radius) in
+        ap (λ (n : ℕ). orElse n (unless (validMeasures query) badMeasure fit)) e ∙ ap (λ (x : Bool). unless x badMeasure fit) v
 
     pub range-measure : readRefusal t ≡ 0 → validMeasures query ≡ false → rangeRefusal t area query radius ≡ badMeasure
-    range-measure e v = range-goes e ∙ ap (λ (b : Bool). elim b [ false ↦ badMeasure | true ↦ fitRefusal area (rangeAnswer t query radius) ]) v
+    range-measure e v = range-goes false e v
 
     pub range-fits : readRefusal t ≡ 0 → validMeasures query ≡ true → rangeRefusal t area query radius ≡ fitRefusal area (rangeAnswer t query radius)
-    range-fits e v = range-goes e ∙ ap (λ (b : Bool). elim b [ false ↦ badMeasure | true ↦ fitRefusal area (rangeAnswer t query radius) ]) v
+    range-fits e v = range-goes true e v
 
   module _ (k : ℕ) where
     pub nearest-stopped : (readRefusal t ≡ 0 → ⊥) → nearestRefusal t area query k ≡ readRefusal t
     unfolding nearestRefusal
     nearest-stopped some = stopped (readRefusal t) _ some
 
-    -- with k asked for
-    counted : ℕ → ℕ
-    counted n = elim n [ zero ↦ noCount | suc j ↦ fitRefusal area (nearestAnswer t query (suc j)) ]
-
-    nearest-goes : readRefusal t ≡ 0 → nearestRefusal t area query k ≡ elim (validMeasures query) [ false ↦ badMeasure | true ↦ counted k ]
-    unfolding nearestRefusal counted
-    nearest-goes e =
-        ap (λ (n : ℕ). elim n as (λ _. ℕ) [ suc m ↦ suc m | zero ↦ elim (validMeasures query) [ false ↦ badMeasure | true ↦ counted k ] ]) e
+    nearest-goes : (b z : Bool) → readRefusal t ≡ 0 → validMeasures query ≡ b → eqb k 0 ≡ z
+        → nearestRefusal t area query k ≡ unless b badMeasure (when z noCount (fitRefusal area (nearestAnswer t query k)))
+    unfolding nearestRefusal
+    nearest-goes b z e v f =
+        let fit : ℕ = fitRefusal area (nearestAnswer t query k) in
+        ap (λ (n : ℕ). orElse n (unless (validMeasures query) badMeasure (when (eqb k 0) noCount fit))) e
+        ∙ ap (λ (x : Bool). unless x badMeasure (when (eqb k 0) noCount fit)) v
+        ∙ ap (λ (x : Bool). unless b badMeasure (when x noCount fit)) f
 
     pub nearest-measure : readRefusal t ≡ 0 → validMeasures query ≡ false → nearestRefusal t area query k ≡ badMeasure
-    nearest-measure e v = nearest-goes e ∙ ap (λ (b : Bool). elim b [ false ↦ badMeasure | true ↦ counted k ]) v
+    nearest-measure e v = nearest-goes false _ e v refl
 
     pub nearest-none : readRefusal t ≡ 0 → validMeasures query ≡ true → k ≡ 0 → nearestRefusal t area query k ≡ noCount
-    unfolding counted
-    nearest-none e v z = nearest-goes e ∙ ap (λ (b : Bool). elim b [ false ↦ badMeasure | true ↦ counted k ]) v ∙ ap counted z
+    nearest-none e v z = nearest-goes true true e v (ap (λ (n : ℕ). eqb n 0) z)
 
     pub nearest-fits : readRefusal t ≡ 0 → validMeasures query ≡ true → (k ≡ 0 → ⊥) → nearestRefusal t area query k ≡ fitRefusal area (nearestAnswer t query k)
-    unfolding counted
-    nearest-fits e v some = nearest-goes e ∙ ap (λ (b : Bool). elim b [ false ↦ badMeasure | true ↦ counted k ]) v ∙ asked k some
-      where
-        asked : (n : ℕ) → (n ≡ 0 → ⊥) → counted n ≡ fitRefusal area (nearestAnswer t query n)
-        asked zero none = absurd (none refl)
-        asked (suc n) none = refl
+    nearest-fits e v some = nearest-goes true false e v (ne-eqb k 0 some)

@@ -9,7 +9,7 @@ use Rattle.metric_rules.specs.declared.Profile.{Profile}
 use Rattle.metric_rules.specs.Row.{Row, rowOf, zeroRow}
 use Rattle.metric_rules.specs.Validity.{validTag, validMeasures}
 use Rattle.table_rules.specs.declared.Added.{Added}
-use Rattle.table_rules.specs.Refusals.{badTag, badMeasure, alreadyLive, full}
+use Rattle.table_rules.specs.Refusals.{badTag, badMeasure, alreadyLive, full, unless, when, orElse}
 use Rattle.table_rules.specs.Geometry.{room, workRows}
 use Rattle.table_rules.specs.Table.{Table, orderOf, inUse, liveTotal, cleared}
 use Rattle.table_rules.specs.Checks.{changeRefusal}
@@ -19,22 +19,12 @@ use Rattle.table_rules.specs.LookUp.{isLiveTag}
 -- RULES 14.4, after 23 and 24: 1, 2, 20, 22
 unfoldable pub addRefusal : Table → List Row → ℕ → Profile → ℕ
 addRefusal t work tag p =
-    elim (changeRefusal work t) [
-      | suc n ↦ suc n
-      | zero ↦
-          elim (validTag tag) [
-            | false ↦ badTag
-            | true ↦
-                elim (validMeasures p) [
-                  | false ↦ badMeasure
-                  | true ↦
-                      elim (isLiveTag t tag) [
-                        | true ↦ alreadyLive
-                        | false ↦ elim (leb (room (orderOf t)) (liveTotal t)) [ true ↦ full | false ↦ 0 ]
-                      ]
-                ]
-          ]
-    ]
+    orElse (changeRefusal work t)
+    (unless (validTag tag) badTag
+    (unless (validMeasures p) badMeasure
+    (when (isLiveTag t tag) alreadyLive
+    (when (leb (room (orderOf t)) (liveTotal t)) full
+    0))))
 
 -- the lowest empty bucket of the n from k on, or the one after them
 unfoldable pub emptyFrom : Table → ℕ → ℕ → ℕ

@@ -7,7 +7,7 @@ use lib.Dec.{leb, ltb, eqb}
 use Rattle.lists.specs.Lists.{every, total}
 use Rattle.metric_rules.specs.Row.{Row, markOf}
 use Rattle.metric_rules.specs.Distance.{validSpace}
-use Rattle.table_rules.specs.Refusals.{shortArea, badTable}
+use Rattle.table_rules.specs.Refusals.{shortArea, badTable, unless}
 use Rattle.table_rules.specs.Geometry.{validOrder, room, bucketsOf, tableRows, workRows}
 use Rattle.table_rules.specs.Table.{Table, orderOf, tableSpace, builtOf, liveOf, slotsOf, liveSlots}
 
@@ -33,14 +33,10 @@ unfoldable pub tableRefusal : (Table → Bool) → (Table → Bool) → Table �
 tableRefusal roomy sound [] = shortArea
 tableRefusal roomy sound (r ∷ rs) =
     let t = r ∷ rs in
-    elim (validOrder (orderOf t) && validSpace (tableSpace t)) [
-      | false ↦ badTable
-      | true ↦
-          elim (leb (tableRows (orderOf t)) (length t) && roomy t) [
-            | false ↦ shortArea
-            | true ↦ elim (sizesPass (orderOf t) (builtOf t) (liveOf t) && sound t) [ false ↦ badTable | true ↦ 0 ]
-          ]
-    ]
+    unless (validOrder (orderOf t) && validSpace (tableSpace t)) badTable
+    (unless (leb (tableRows (orderOf t)) (length t) && roomy t) shortArea
+    (unless (sizesPass (orderOf t) (builtOf t) (liveOf t) && sound t) badTable
+    0))
 
 -- RULES 14.5, for the calls that only read a table
 unfoldable pub readRefusal : Table → ℕ

@@ -9,7 +9,7 @@ use Rattle.metric_rules.specs.declared.Profile.{Profile}
 use Rattle.metric_rules.specs.Row.{Row, tagOf, profileOf, isLive}
 use Rattle.metric_rules.specs.Validity.{validTag}
 use Rattle.table_rules.specs.declared.LookedUp.{LookedUp}
-use Rattle.table_rules.specs.Refusals.{badTag, notLive}
+use Rattle.table_rules.specs.Refusals.{badTag, notLive, unless, orElse}
 use Rattle.table_rules.specs.Geometry.{bucketsOf}
 use Rattle.table_rules.specs.Table.{Table, orderOf, slotsOf}
 use Rattle.table_rules.specs.Checks.{readRefusal}
@@ -41,14 +41,10 @@ isLiveTag t tag = elim (find t tag) [ some place ↦ true | none ↦ false ]
 -- RULES 14.4, after 23 and 24: 1, 21
 unfoldable pub lookUpRefusal : Table → ℕ → ℕ
 lookUpRefusal t tag =
-    elim (readRefusal t) [
-      | suc n ↦ suc n
-      | zero ↦
-          elim (validTag tag) [
-            | false ↦ badTag
-            | true ↦ elim (isLiveTag t tag) [ false ↦ notLive | true ↦ 0 ]
-          ]
-    ]
+    orElse (readRefusal t)
+    (unless (validTag tag) badTag
+    (unless (isLiveTag t tag) notLive
+    0))
 
 -- RULES 14.2: a refusal has zeros in every other field
 unfoldable pub noProfile : Profile

@@ -1,5 +1,6 @@
 -- RULES 14.1: the number of each refusal, written once. 0 is an accepted call.
-use Prim.Native.Nat.{ℕ}
+use Prim.Native.Nat.{ℕ, zero, suc}
+use mathlib.Core.Bool.{Bool, true, false}
 
 -- the tag is not valid (add, remove, look up)
 abbrev pub badTag : ℕ
@@ -52,3 +53,17 @@ shortArea = 23
 -- order, metric or sizes of a lent table, or sizes of an image, break the rules; in add and remove also the marks of a lent bucket
 abbrev pub badTable : ℕ
 badTable = 24
+
+-- A refusal is a list of tests in the rules' order: the first that stops the call gives its number, and later ones are not worked out.
+
+-- n, unless the test passes: then what is tested after it
+abbrev pub unless : Bool → ℕ → ℕ → ℕ
+unless test n rest = elim test [ true ↦ rest | false ↦ n ]
+
+-- n when the test is met, else what is tested after it
+abbrev pub when : Bool → ℕ → ℕ → ℕ
+when test n rest = elim test [ true ↦ n | false ↦ rest ]
+
+-- a refusal, or else what is tested after it
+abbrev pub orElse : ℕ → ℕ → ℕ
+orElse refusal rest = elim refusal [ zero ↦ rest | suc n ↦ suc n ]

@@ -8,7 +8,7 @@ use lib.Dec.{ltb, eqb}
 use Rattle.metric_rules.specs.Row.{Row, withMark, zeroRow}
 use Rattle.metric_rules.specs.Validity.{validTag}
 use Rattle.table_rules.specs.declared.Removed.{Removed}
-use Rattle.table_rules.specs.Refusals.{badTag, notLive}
+use Rattle.table_rules.specs.Refusals.{badTag, notLive, unless, orElse}
 use Rattle.table_rules.specs.Geometry.{room, firstSlot, workRows}
 use Rattle.table_rules.specs.Table.{Table, orderOf, builtOf, liveOf, inUse, putSizes, emptied, cleared}
 use Rattle.table_rules.specs.Checks.{changeRefusal}
@@ -18,14 +18,10 @@ use Rattle.table_rules.specs.LookUp.{Place, find, isLiveTag}
 -- RULES 14.4, after 23 and 24: 1, 21
 unfoldable pub removeRefusal : Table → List Row → ℕ → ℕ
 removeRefusal t work tag =
-    elim (changeRefusal work t) [
-      | suc n ↦ suc n
-      | zero ↦
-          elim (validTag tag) [
-            | false ↦ badTag
-            | true ↦ elim (isLiveTag t tag) [ false ↦ notLive | true ↦ 0 ]
-          ]
-    ]
+    orElse (changeRefusal work t)
+    (unless (validTag tag) badTag
+    (unless (isLiveTag t tag) notLive
+    0))
 
 -- RULES 9.2: the slot marked dead, and its bucket's live size one less
 unfoldable pub marked : Table → Place → Table

@@ -11,7 +11,7 @@ use Rattle.metric_rules.specs.Distance.{distance}
 use Rattle.search_rules.specs.Range.{Entry, Met, entry, nothing, both, ordered, rangeTree}
 use Rattle.search_rules.specs.Nearest.{Tally, nearestTree}
 use Rattle.table_rules.specs.declared.Searched.{Searched}
-use Rattle.table_rules.specs.Refusals.{badMeasure, noCount, noRoom}
+use Rattle.table_rules.specs.Refusals.{badMeasure, noCount, noRoom, unless, when, orElse}
 use Rattle.table_rules.specs.Geometry.{bucketsOf}
 use Rattle.table_rules.specs.Table.{Table, orderOf, tableSpace, slotsOf}
 use Rattle.table_rules.specs.Checks.{readRefusal}
@@ -45,27 +45,22 @@ nearestAnswer t query k = let tally = nearestTally t query k in record { entries
 
 -- RULES 11.11, refusal 6: fewer entries in the area than in the reply
 unfoldable pub fitRefusal : List Entry → Answer → ℕ
-fitRefusal area a = elim (leb (length (a .entries)) (length area)) [ true ↦ 0 | false ↦ noRoom ]
+fitRefusal area a = unless (leb (length (a .entries)) (length area)) noRoom 0
 
 -- RULES 14.4, after 23 and 24: 2, 6
 unfoldable pub rangeRefusal : Table → List Entry → Profile → ℕ → ℕ
 rangeRefusal t area query radius =
-    elim (readRefusal t) [
-      | suc n ↦ suc n
-      | zero ↦ elim (validMeasures query) [ false ↦ badMeasure | true ↦ fitRefusal area (rangeAnswer t query radius) ]
-    ]
+    orElse (readRefusal t)
+    (unless (validMeasures query) badMeasure
+    (fitRefusal area (rangeAnswer t query radius)))
 
 -- RULES 14.4, after 23 and 24: 2, 5, 6
 unfoldable pub nearestRefusal : Table → List Entry → Profile → ℕ → ℕ
 nearestRefusal t area query k =
-    elim (readRefusal t) [
-      | suc n ↦ suc n
-      | zero ↦
-          elim (validMeasures query) [
-            | false ↦ badMeasure
-            | true ↦ elim k [ zero ↦ noCount | suc j ↦ fitRefusal area (nearestAnswer t query (suc j)) ]
-          ]
-    ]
+    orElse (readRefusal t)
+    (unless (validMeasures query) badMeasure
+    (when (eqb k 0) noCount
+    (fitRefusal area (nearestAnswer t query k))))
 
 -- RULES 11.11, 14.2, the reply by the refusal: number and zeros, or the numbers of the answer
 unfoldable pub searchReply : ℕ → Answer → Searched

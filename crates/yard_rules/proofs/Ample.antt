@@ -11,7 +11,7 @@ use lib.ListN.{length}
 use borrow.Author.Tests.{le-leb, leb-true}
 use Rattle.lists.proofs.Tests.{and-pass}
 use Rattle.metric_rules.specs.Distance.{validSpace}
-use Rattle.table_rules.specs.Refusals.{badOrder, badMetric, shortArea}
+use Rattle.table_rules.specs.Refusals.{badOrder, badMetric, shortArea, unless}
 use Rattle.table_rules.specs.Geometry.{validOrder, room, firstSlot, tableRows, workRows}
 use Rattle.table_rules.specs.Table.{Table, orderOf}
 use Rattle.table_rules.specs.Checks.{marksPass, tableRefusal, readRefusal, changeRefusal}
@@ -38,7 +38,7 @@ abbrev pub ByHeader : ℕ → Type 0
 ByHeader n = (n ≡ 0) ⊎ (n ≡ badOrder) ⊎ (n ≡ badMetric)
 
 by-header : (few order metric long : Bool) → (few ≡ true → long ≡ true)
-    → ByHeader (elim few [ false ↦ badOrder | true ↦ elim order [ false ↦ badOrder | true ↦ elim metric [ false ↦ badMetric | true ↦ elim long [ false ↦ shortArea | true ↦ 0 ] ] ] ])
+    → ByHeader (unless few badOrder (unless order badOrder (unless metric badMetric (unless long shortArea 0))))
 by-header false order metric long e = inr (inl refl)
 by-header true false metric long e = inr (inl refl)
 by-header true true false long e = inr (inr refl)

@@ -8,7 +8,7 @@ use lib.Dec.{leb}
 use Rattle.metric_rules.specs.declared.Profile.{Profile}
 use Rattle.metric_rules.specs.Row.{Row}
 use Rattle.search_rules.specs.Range.{Entry}
-use Rattle.table_rules.specs.Refusals.{badOrder}
+use Rattle.table_rules.specs.Refusals.{badOrder, unless}
 use Rattle.table_rules.specs.Geometry.{room, tableRows, workRows}
 use Rattle.table_rules.specs.Table.{Table}
 use Rattle.table_rules.specs.Fresh.{freshRefusal, tableAfterFresh}
@@ -60,7 +60,8 @@ pub record Ample (a : Areas) : Type 0 where
 -- RULES 18.2: 3 before 4
 unfoldable pub headerRefusal : Table → ℕ → ℕ → ℕ
 headerRefusal t order metric =
-    elim (leb order mostYardOrder) [ false ↦ badOrder | true ↦ freshRefusal (length t) order (record { metric = metric }) ]
+    unless (leb order mostYardOrder) badOrder
+    (freshRefusal (length t) order (record { metric = metric }))
 
 -- RULES 18.1, 18.2: an accepted header prints nothing; `F 3`, `F 4` and `? 1` end the program
 unfoldable pub headerOutcome : Areas → ℕ → Header → LineOutcome

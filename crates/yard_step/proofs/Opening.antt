@@ -1,14 +1,14 @@
 -- The first line: an order above 8 is refused before the call, and else the call's refusal and table are the header's.
 use Prim.Native.Nat.{ℕ, zero, suc, _≤_, _<_}
 use mathlib.Core.Path.{_≡_, refl, ap, sym, subst, _∙_}
-use mathlib.Core.Bool.{true, false}
+use mathlib.Core.Bool.{Bool, true, false}
 use mathlib.Core.List.{List, [], _∷_}
 use native.Mathlib.Omega.{arith}
 use lib.ListN.{length}
 use borrow.Author.Tests.{lt-leb, le-leb}
 use Rattle.metric_rules.specs.Row.{Row}
 use Rattle.search_rules.specs.Range.{Entry}
-use Rattle.table_rules.specs.Refusals.{badOrder}
+use Rattle.table_rules.specs.Refusals.{badOrder, unless}
 use Rattle.table_rules.specs.Table.{Table}
 use Rattle.table_rules.specs.Fresh.{freshRefusal, freshTable, tableAfterFresh}
 use Rattle.yard_rules.specs.declared.Header.the-variants as header
@@ -27,11 +27,11 @@ fresh-kept order metric t k e = ap (λ n. elim n [ zero ↦ freshTable order (re
 module _ (order metric : ℕ) (t : Table) where
   pub large-refusal : 8 < order → headerRefusal t order metric ≡ badOrder
   unfolding headerRefusal mostYardOrder
-  large-refusal h = ap (λ b. elim b [ false ↦ badOrder | true ↦ freshRefusal (length t) order (record { metric = metric }) ]) (lt-leb order 8 h)
+  large-refusal h = ap (λ (b : Bool). unless b badOrder (freshRefusal (length t) order (record { metric = metric }))) (lt-leb order 8 h)
 
   pub small-refusal : order ≤ 8 → headerRefusal t order metric ≡ freshRefusal (length t) order (record { metric = metric })
   unfolding headerRefusal mostYardOrder
-  small-refusal h = ap (λ b. elim b [ false ↦ badOrder | true ↦ freshRefusal (length t) order (record { metric = metric }) ]) (le-leb order 8 h)
+  small-refusal h = ap (λ (b : Bool). unless b badOrder (freshRefusal (length t) order (record { metric = metric }))) (le-leb order 8 h)
 
   header-table : (n : ℕ) → headerRefusal t order metric ≡ n → tableAfterHeader order metric t ≡ elim n [ zero ↦ tableAfterFresh order (record { metric = metric }) t | suc k ↦ t ]
   unfolding tableAfterHeader
