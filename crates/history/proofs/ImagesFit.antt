@@ -1,18 +1,15 @@
 -- A sound table's fields fit the image, so its image reads back as the table, and every check of a load passes.
 use Prim.Native.Nat.{ℕ, _≤_}
 use mathlib.Core.Path.{_≡_, sym, ap, ap₂, _∙_}
-use mathlib.Core.Bool.{true, _&&_}
+use mathlib.Core.Bool.{true}
 use native.Mathlib.Omega.{arith}
-use lib.Dec.{leb, eqb}
-use lib.ListN.{length}
-use Rattle.lists.specs.Lists.{every, select}
+use Rattle.lists.specs.Lists.{every}
 use Rattle.lists.proofs.Tests.{and-second, and-pass, all-every}
-use Rattle.metric_rules.specs.Row.{isLive, markOf}
 use Rattle.metric_rules.specs.Distance.{validSpace}
 use Rattle.metric_rules.proofs.Laws.{metric-byte}
 use Rattle.table_rules.specs.Geometry.{validOrder, room, tableRows}
-use Rattle.table_rules.specs.Table.{Table, orderOf, tableSpace, liveOf, slotsOf, liveSlots}
-use Rattle.table_rules.specs.Checks.{marksPass}
+use Rattle.table_rules.specs.Table.{Table, orderOf, tableSpace, liveOf, slotsOf}
+use Rattle.table_rules.specs.Checks.{marksPass, liveSizeHolds, slotsMarked}
 use Rattle.table_rules.proofs.Buckets.{order-most, every-bucket}
 use Rattle.table_rules.proofs.Live.{slots-length}
 use Rattle.image_rules.specs.Bytes.{imageLength}
@@ -26,6 +23,7 @@ use Rattle.image_rules.proofs.Accepting.{Accepted}
 use Rattle.image_rules.proofs.Lengths.{length-image-built}
 use Rattle.history.proofs.Invariant.{Invariant}
 use Rattle.history.proofs.InvariantForms.{room-most, invariant-sizes, invariant-roomy, invariant-slots}
+use Rattle.metric_rules.specs.Validity.{validMark}
 
 module _ {t : Table} (invariant : Invariant t) where
   order-bound : orderOf t ≤ 12
@@ -47,13 +45,13 @@ module _ {t : Table} (invariant : Invariant t) where
 
   -- the buckets' tests
   bucket-invariant : (k : ℕ) → k ≤ orderOf t → bucketPasses (tableSpace t) (liveOf t k) (slotsOf t k) ≡ true
-  unfolding bucketPasses marksPass liveSlots
+  unfolding bucketPasses marksPass
   bucket-invariant k h =
       let slots = slotsOf t k in
       let marks =
-      every-bucket (λ j. every (λ row. leb (markOf row) 1) (slotsOf t j) && eqb (length (liveSlots t j)) (liveOf t j)) (orderOf t) k h (invariant .marks) in
-      let live : eqb (length (select isLive slots)) (liveOf t k) ≡ true =
-      and-second (every (λ row. leb (markOf row) 1) slots) (eqb (length (select isLive slots)) (liveOf t k)) marks in
+      every-bucket (λ j. slotsMarked (slotsOf t j) (liveOf t j)) (orderOf t) k h (invariant .marks) in
+      let live : liveSizeHolds slots (liveOf t k) ≡ true =
+      and-second (every validMark slots) (liveSizeHolds slots (liveOf t k)) marks in
       and-pass _ _ (and-pass _ _ (and-pass _ _ (invariant .fields k h) live) (invariant .apart k h)) (invariant .laid k h)
 
   -- the image of a sound table loads into any area that is long enough

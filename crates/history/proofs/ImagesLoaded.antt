@@ -7,19 +7,18 @@ use mathlib.Core.List.{List, [], map}
 use native.Mathlib.Nat.{lt-of-not-le}
 use native.Mathlib.Omega.{arith}
 use native.Mathlib.Decide.{decLe}
-use lib.Dec.{leb, eqb}
 use lib.ListN.{length, getD, drop}
 use lib.Seq.{getD-take, getD-drop}
-use Rattle.lists.specs.Lists.{every, select, distinct, All}
+use Rattle.lists.specs.Lists.{every, distinct, All}
 use Rattle.lists.proofs.Lists.{all-weaken}
 use Rattle.lists.proofs.Tests.{and-first, and-second, and-pass, every-all, all-every}
-use Rattle.metric_rules.specs.Row.{Row, IsRow, isLive, tagOf, profileOf, markOf}
-use Rattle.metric_rules.specs.Validity.{validTag, validMeasures}
+use Rattle.metric_rules.specs.Row.{Row, IsRow, tagOf, profileOf}
+use Rattle.metric_rules.specs.Validity.{validTag, validMeasures, validMark}
 use Rattle.metric_rules.specs.Distance.{Space, distance, validSpace}
 use Rattle.tree_rules.specs.Layout.{isLayout}
 use Rattle.table_rules.specs.Geometry.{validOrder, room, bucketsOf, headerRow, sizesRow, firstSlot, tableRows}
-use Rattle.table_rules.specs.Table.{Table, rowAt, orderOf, tableSpace, builtOf, liveOf, slotsOf, liveSlots, pairRow, headerOf}
-use Rattle.table_rules.specs.Checks.{sizesPass, marksPass}
+use Rattle.table_rules.specs.Table.{Table, rowAt, orderOf, tableSpace, builtOf, liveOf, slotsOf, pairRow, headerOf}
+use Rattle.table_rules.specs.Checks.{sizesPass, marksPass, liveSizeHolds, slotsMarked}
 use Rattle.table_rules.specs.Rebuild.{liveItems}
 use Rattle.table_rules.proofs.Buckets.{every-bucket}
 use Rattle.table_rules.proofs.Owned.{all-own}
@@ -39,7 +38,7 @@ use Rattle.history.proofs.Invariant.{Invariant}
 -- what load tests of a bucket, one by one
 record BucketPasses (space : Space) (live : ℕ) (slots : List Row) : Type 0 where
   fields : every fieldsPass slots ≡ true
-  counted : eqb (length (select isLive slots)) live ≡ true
+  counted : liveSizeHolds slots live ≡ true
   apart : distinct (map tagOf slots) ≡ true
   laid : isLayout (distance space) slots ≡ true
 
@@ -47,18 +46,18 @@ bucket-parts : {space : Space} {live : ℕ} {slots : List Row} → bucketPasses 
 unfolding bucketPasses
 bucket-parts {space} {live} {slots} h =
     let a = every fieldsPass slots in
-    let b = eqb (length (select isLive slots)) live in
+    let b = liveSizeHolds slots live in
     let c = distinct (map tagOf slots) in
     let d = isLayout (distance space) slots in
     let abc = and-first (a && b && c) d h in
     let ab = and-first (a && b) c abc in
     record { fields = and-first a b ab; counted = and-second a b ab; apart = and-second (a && b) c abc; laid = and-second (a && b && c) d h }
 
-marks-of-fields : (slots : List Row) → every fieldsPass slots ≡ true → every (λ row. leb (markOf row) 1) slots ≡ true
+marks-of-fields : (slots : List Row) → every fieldsPass slots ≡ true → every validMark slots ≡ true
 unfolding fieldsPass
 marks-of-fields slots h =
-    all-every (λ row. leb (markOf row) 1) slots
-    (all-weaken (λ row p. and-second (validTag (tagOf row) && validMeasures (profileOf row)) (leb (markOf row) 1) p) slots (every-all fieldsPass slots h))
+    all-every validMark slots
+    (all-weaken (λ row p. and-second (validTag (tagOf row) && validMeasures (profileOf row)) (validMark row) p) slots (every-all fieldsPass slots h))
 
 -- the row of a slot of the built part
 pub slot-row : (t : Table) (k i : ℕ) → i < builtOf t k → rowAt t (firstSlot (orderOf t) k + i) ≡ getD (slotsOf t k) i []
@@ -100,12 +99,12 @@ module _ (image : List ℕ) (area : Table) (bytes : All (λ b. b < 2 ^ 8) image)
       ]
 
   marks-pass : marksPass u ≡ true
-  unfolding marksPass liveSlots
+  unfolding marksPass
   marks-pass =
-      let test : ℕ → Bool = λ k. every (λ row. leb (markOf row) 1) (slotsOf u k) && eqb (length (select isLive (slotsOf u k))) (liveOf u k) in
+      let test : ℕ → Bool = λ k. slotsMarked (slotsOf u k) (liveOf u k) in
       all-every test (bucketsOf (orderOf u))
       (buckets-all (λ k. test k ≡ true) (orderOf u)
-      (λ k h. and-pass (every (λ row. leb (markOf row) 1) (slotsOf u k)) _ (marks-of-fields (slotsOf u k) (bucket-passes k h .fields)) (bucket-passes k h .counted)))
+      (λ k h. and-pass (every validMark (slotsOf u k)) _ (marks-of-fields (slotsOf u k) (bucket-passes k h .fields)) (bucket-passes k h .counted)))
 
   u-long : tableRows (orderOf u) ≤ length u
   u-long = rw (here .order, here .long) (ok .roomy)

@@ -1,18 +1,17 @@
 -- Writing a sound table as a call: lent any areas that are long enough, it replies 0 and the image's length, and the bytes up to that length are
 -- the image of the table. The call sees the table's own rows, and the image is of these alone.
-use Prim.Native.Nat.{ℕ, zero, suc, _≤_}
+use Prim.Native.Nat.{ℕ, _≤_}
 use mathlib.Core.Path.{_≡_, sym, ap, _∙_, subst}
-use mathlib.Core.Bool.{true, false}
+use mathlib.Core.Bool.{Bool}
 use mathlib.Core.List.{List}
 use native.Mathlib.Omega.{arith}
 use lib.Dec.{leb}
 use lib.ListN.{length, take, drop}
 use lib.Seq.{take-append-seam}
 use borrow.Author.Tests.{le-leb}
-use Rattle.table_rules.specs.Refusals.{noRoom}
+use Rattle.table_rules.specs.Refusals.{noRoom, unless, orElse}
 use Rattle.table_rules.specs.Geometry.{tableRows}
 use Rattle.table_rules.specs.Table.{Table, orderOf}
-use Rattle.table_rules.specs.Checks.{readRefusal}
 use Rattle.table_rules.proofs.Views.{same-order, same-space, kept-built, kept-live, kept-slots, own-header, own-kept}
 use Rattle.image_rules.specs.Write.{imageOf, writeRefusal, writeReply, imageAfterWrite}
 use Rattle.image_rules.proofs.ReadBack.{reads-back}
@@ -25,18 +24,17 @@ use Rattle.history.specs.Images.{writing}
 use Rattle.history.proofs.Invariant.{Invariant}
 use Rattle.history.proofs.InvariantForms.{invariant-roomy}
 use Rattle.history.proofs.ImagesFit.{invariant-fits, invariant-accepted}
-use Rattle.history.proofs.RefinesRefusals.{invariant-refusal}
+use Rattle.history.proofs.RefinesRefusals.{invariant-reads}
 use Rattle.history.proofs.RefinesOwn.{invariant-own}
 use Rattle.history.proofs.RefinesStep.{overlaid-length, overlaid-own}
 
 -- the call on a sound table itself
 module _ {t : Table} (invariant : Invariant t) (area : List ℕ) (long : length (imageOf t) ≤ length area) where
   write-accepted : writeRefusal t area ≡ 0
-  unfolding writeRefusal readRefusal
+  unfolding writeRefusal
   write-accepted =
-      ap (λ (n : ℕ). elim n as (λ _. ℕ) [ suc m ↦ suc m | zero ↦ elim (leb (length (imageOf t)) (length area)) [ true ↦ 0 | false ↦ noRoom ] ])
-      (invariant-refusal (λ u. true) (λ u. true) t invariant)
-      ∙ rw (le-leb (length (imageOf t)) (length area) long)
+      ap (λ (n : ℕ). orElse n (unless (leb (length (imageOf t)) (length area)) noRoom 0)) (invariant-reads t invariant)
+      ∙ ap (λ (b : Bool). unless b noRoom 0) (le-leb (length (imageOf t)) (length area) long)
 
   pub invariant-reply : writeReply t area ≡ record { refusal = 0; length = length (imageOf t) }
   unfolding writeReply

@@ -1,8 +1,8 @@
 -- An accepted add keeps the invariant, and its live items are the new one and those before, permuted: a rebuild of the buckets below the lowest empty
 -- one, with the new row.
-use Prim.Native.Nat.{ℕ, zero, suc, _^_, _<_}
+use Prim.Native.Nat.{ℕ, suc, _^_, _<_}
 use mathlib.Core.Path.{_≡_, refl, sym, _∙_, ap₂}
-use mathlib.Core.Bool.{Bool, true, false, _&&_}
+use mathlib.Core.Bool.{true, false, _&&_}
 use mathlib.Core.List.{List, [], _∷_, _++_, map, List·Permᴰ}
 use native.Mathlib.Omega.{arith}
 use lib.Dec.{leb}
@@ -34,6 +34,7 @@ use Rattle.history.proofs.Invariant.{Invariant}
 use Rattle.history.proofs.ByBucket.{ByBucket, by-bucket-roomy}
 use Rattle.history.proofs.InvariantForms.{by-bucket-invariant, by-bucket-total, invariant-lives, invariant-by-bucket}
 use Rattle.history.proofs.Rebuilding.{validRow, rebuilt-by-bucket, rebuilt-sizes, rebuilt-live, rebuilt-once, rebuilt-number}
+use Rattle.table_rules.proofs.Chains.{or-zero, unless-zero, when-zero}
 
 -- what an accepted add was asked
 pub record Addable (t : Table) (tag : ℕ) (p : Profile) : Type 0 where
@@ -45,26 +46,12 @@ pub record Addable (t : Table) (tag : ℕ) (p : Profile) : Type 0 where
 pub addable : (t : Table) (work : List Row) (tag : ℕ) (p : Profile) → addRefusal t work tag p ≡ 0 → Addable t tag p
 unfolding addRefusal
 addable t work tag p h =
-    go (changeRefusal work t) (validTag tag) refl (validMeasures p) refl (isLiveTag t tag) refl (leb (room (orderOf t)) (liveTotal t)) refl h
-  where
-    go :
-        (c : ℕ) (a : Bool) → validTag tag ≡ a → (b : Bool) → validMeasures p ≡ b → (l : Bool) → isLiveTag t tag ≡ l → (f : Bool)
-        → leb (room (orderOf t)) (liveTotal t) ≡ f
-        → _≡_ {A = ℕ} (elim c [
-          | suc n ↦ suc n
-          | zero ↦
-              elim a [
-                | false ↦ badTag
-                | true ↦ elim b [ false ↦ badMeasure | true ↦ elim l [ true ↦ alreadyLive | false ↦ elim f [ true ↦ full | false ↦ 0 ] ] ]
-              ]
-        ]) 0
-        → Addable t tag p
-    go (suc n) a ea b eb l el f ef h = absurd (omega arith)
-    go zero false ea b eb l el f ef h = absurd (omega arith)
-    go zero true ea false eb l el f ef h = absurd (omega arith)
-    go zero true ea true eb true el f ef h = absurd (omega arith)
-    go zero true ea true eb false el true ef h = absurd (omega arith)
-    go zero true ea true eb false el false ef h = record { validated = ea; measures = eb; new = el; notFull = leb-false (room (orderOf t)) (liveTotal t) ef }
+    let first = or-zero (changeRefusal (length work) t) _ h in
+    let named = unless-zero (validTag tag) badTag _ (omega arith) (first .1) in
+    let measured = unless-zero (validMeasures p) badMeasure _ (omega arith) (named .1) in
+    let new = when-zero (isLiveTag t tag) alreadyLive _ (omega arith) (measured .1) in
+    let roomy = when-zero (leb (room (orderOf t)) (liveTotal t)) full 0 (omega arith) (new .1) in
+    record { validated = named .0; measures = measured .0; new = new .0; notFull = leb-false (room (orderOf t)) (liveTotal t) (roomy .0) }
 
 -- the row that an add stores
 module _ (tag : ℕ) (p : Profile) (isProfile : IsProfile p) where

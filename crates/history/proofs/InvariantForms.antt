@@ -5,18 +5,17 @@ use mathlib.Core.Path.{_≡_, sym, _∙_, ap, ap₂, subst}
 use mathlib.Core.Bool.{Bool, true, false, _&&_}
 use mathlib.Core.List.{List, [], _∷_, map}
 use native.Mathlib.Omega.{arith}
-use lib.Dec.{leb, eqb}
 use lib.Pow.{pow-mono}
 use lib.ListN.{length, replicate}
 use borrow.Author.Tests.{eqb-true, eq-eqb}
 use Rattle.lists.specs.Lists.{every, select, distinct, All}
 use Rattle.lists.proofs.Lists.{all-at, all-append, all-take, all-weaken}
 use Rattle.lists.proofs.Tests.{and-second, and-pass, every-all, all-every}
-use Rattle.metric_rules.specs.Row.{Row, IsRow, tagOf, profileOf, markOf, isLive, zeroRow}
-use Rattle.metric_rules.specs.Validity.{validTag, validMeasures}
+use Rattle.metric_rules.specs.Row.{Row, IsRow, tagOf, profileOf, isLive, zeroRow}
+use Rattle.metric_rules.specs.Validity.{validTag, validMeasures, validMark}
 use Rattle.table_rules.specs.Geometry.{validOrder, room, bucketsOf, sizesRow, firstSlot}
 use Rattle.table_rules.specs.Table.{Table, rowAt, orderOf, tableSpace, builtOf, liveOf, liveTotal, slotsOf, liveSlots, pairRow}
-use Rattle.table_rules.specs.Checks.{sizePasses, marksPass}
+use Rattle.table_rules.specs.Checks.{sizePasses, marksPass, liveSizeHolds, slotsMarked}
 use Rattle.table_rules.proofs.Buckets.{order-most}
 use Rattle.table_rules.proofs.Views.{roomOf, room-row, room-length, slots-of-room}
 use Rattle.table_rules.proofs.Puts.{Holds, filledRoom, held-built, held-live, held-slots, held-live-slots, held-zeros}
@@ -89,13 +88,13 @@ module _ {t : Table} (s : ByBucket t) where
       subst IsRow (room-row t k i l)
       (all-at IsRow (roomOf t k) i (omega (arith, l, room-length t k h (s .long))) (by-bucket-room k h))
 
-  marks-at : (k : ℕ) → k ≤ orderOf t → (every (λ row. leb (markOf row) 1) (slotsOf t k) && eqb (length (liveSlots t k)) (liveOf t k)) ≡ true
-  unfolding fieldsPass
+  marks-at : (k : ℕ) → k ≤ orderOf t → slotsMarked (slotsOf t k) (liveOf t k) ≡ true
+  unfolding fieldsPass liveSlots
   marks-at k h =
-      and-pass (every (λ row. leb (markOf row) 1) (slotsOf t k)) (eqb (length (liveSlots t k)) (liveOf t k))
-      (all-every (λ row. leb (markOf row) 1) (slotsOf t k)
+      and-pass (every validMark (slotsOf t k)) (liveSizeHolds (slotsOf t k) (liveOf t k))
+      (all-every validMark (slotsOf t k)
       (all-weaken
-      (λ row f. and-second (validTag (tagOf row) && validMeasures (profileOf row)) (leb (markOf row) 1) f)
+      (λ row f. and-second (validTag (tagOf row) && validMeasures (profileOf row)) (validMark row) f)
       (slotsOf t k) (every-all fieldsPass (slotsOf t k) (by-bucket-good k h .fields))))
       (eq-eqb (length (liveSlots t k)) (liveOf t k) (by-bucket-lives k h))
 
@@ -133,12 +132,12 @@ module _ {t : Table} (invariant : Invariant t) where
       subst (All IsRow) (sym (slots-of-room t k (invariant-roomy .within k h))) (all-take IsRow (builtOf t k) (roomOf t k) (own-all IsRow t (invariant .rows) k h))
 
   pub invariant-lives : (k : ℕ) → k ≤ orderOf t → length (liveSlots t k) ≡ liveOf t k
-  unfolding marksPass bucketsOf
+  unfolding marksPass bucketsOf liveSlots
   invariant-lives k h =
       eqb-true (length (liveSlots t k)) (liveOf t k)
-      (and-second (every (λ row. leb (markOf row) 1) (slotsOf t k)) (eqb (length (liveSlots t k)) (liveOf t k))
-      (count-all (λ j. (every (λ row. leb (markOf row) 1) (slotsOf t j) && eqb (length (liveSlots t j)) (liveOf t j)) ≡ true) 0 (suc (orderOf t))
-      (every-all (λ j. every (λ row. leb (markOf row) 1) (slotsOf t j) && eqb (length (liveSlots t j)) (liveOf t j)) (bucketsOf (orderOf t)) (invariant .marks))
+      (and-second (every validMark (slotsOf t k)) (liveSizeHolds (slotsOf t k) (liveOf t k))
+      (count-all (λ j. slotsMarked (slotsOf t j) (liveOf t j) ≡ true) 0 (suc (orderOf t))
+      (every-all (λ j. slotsMarked (slotsOf t j) (liveOf t j)) (bucketsOf (orderOf t)) (invariant .marks))
       k (omega arith) (omega arith)))
 
   pub invariant-by-bucket : ByBucket t

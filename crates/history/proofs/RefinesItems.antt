@@ -3,14 +3,14 @@
 use Prim.Native.Nat.{ℕ, _≤_}
 use mathlib.Core.Path.{_≡_, sym, _∙_, ap, subst}
 use mathlib.Core.List.{List, map, map-map, List·Permᴰ}
-use lib.Dec.{leb, eqb}
+use lib.Dec.{eqb}
 use lib.ListN.{length, length-map}
 use borrow.Author.Tests.{eqb-true}
 use Rattle.lists.specs.Lists.{every, total, All}
 use Rattle.lists.proofs.Lists.{all-weaken, perm-length, perm-map}
 use Rattle.lists.proofs.Tests.{and-second, every-all}
 use Rattle.metric_rules.specs.declared.Profile.{Profile}
-use Rattle.metric_rules.specs.Row.{markOf, tagOf}
+use Rattle.metric_rules.specs.Row.{tagOf}
 use Rattle.metric_rules.specs.Distance.{Space, distance}
 use Rattle.search_rules.specs.Range.{Entry, entry, entryOf, toQuery}
 use Rattle.search_rules.proofs.Keep.{keep-permuted}
@@ -28,6 +28,7 @@ use Rattle.history.proofs.RefinesLists.{map-where, select-perm, select-
 use Rattle.history.proofs.RefinesSearch.{within-permuted, entry-pairs}
 use Rattle.history.proofs.RefinesTable.{liveEntries, range-scans, nearest-scans}
 use Rattle.history.proofs.RefinesFinding.{tagged, rowFound, find-row}
+use Rattle.metric_rules.specs.Validity.{validMark}
 
 pub record Matches (t : Table) (m : Model) : Type 0 where
   pub invariant : Invariant t
@@ -77,10 +78,10 @@ module _ {t : Table} {m : Model} (matches : Matches t m) where
   found-items tag = ap (map itemOf) (find-row t tag (matches .invariant .once)) ∙ tagged-items tag
 
   pub live-total : liveTotal t ≡ length (m .items)
-  unfolding liveTotal itemsIn liveItems marksPass
+  unfolding liveTotal itemsIn liveItems liveSlots marksPass
   live-total =
       let sizes : All (λ k. length (liveSlots t k) ≡ liveOf t k) (bucketsOf (orderOf t)) =
-      all-weaken (λ k h. eqb-true (length (liveSlots t k)) (liveOf t k) (and-second (every (λ row. leb (markOf row) 1) (slotsOf t k)) _ h)) (bucketsOf (orderOf t))
+      all-weaken (λ k h. eqb-true (length (liveSlots t k)) (liveOf t k) (and-second (every validMark (slotsOf t k)) _ h)) (bucketsOf (orderOf t))
       (every-all _ (bucketsOf (orderOf t)) (matches .invariant .marks))
       in
       ap total (sym (map-where (λ k. length (liveSlots t k)) (liveOf t) (bucketsOf (orderOf t)) sizes))

@@ -4,16 +4,16 @@ use Prim.Native.Nat.{ℕ, _≤_}
 use mathlib.Core.Path.{_≡_, sym, _∙_, ap, ap₂, subst}
 use mathlib.Core.Bool.{Bool, _&&_}
 use mathlib.Core.List.{List, map, flatten, List·Permᴰ}
-use lib.Dec.{leb, eqb}
+use lib.Dec.{leb}
 use lib.ListN.{length, take}
 use native.Mathlib.Omega.{arith}
 use Rattle.lists.specs.Lists.{every, total, distinct, All}
-use Rattle.metric_rules.specs.Row.{Row, IsRow, tagOf, markOf}
+use Rattle.metric_rules.specs.Row.{Row, IsRow, tagOf}
 use Rattle.metric_rules.specs.Distance.{Space, distance, validSpace}
 use Rattle.tree_rules.specs.Layout.{isLayout}
 use Rattle.table_rules.specs.Geometry.{validOrder, room, bucketsOf, tableRows}
 use Rattle.table_rules.specs.Table.{Table, orderOf, tableSpace, builtOf, liveOf, slotsOf, liveSlots, pairRow, headerOf}
-use Rattle.table_rules.specs.Checks.{sizePasses, sizesPass, marksPass}
+use Rattle.table_rules.specs.Checks.{sizePasses, sizesPass, marksPass, slotsMarked}
 use Rattle.table_rules.specs.Rebuild.{liveItems}
 use Rattle.table_rules.proofs.Views.{same-order, same-space, kept-built, kept-live, kept-slots, kept-live-slots, kept-row, own-header, own-kept}
 use Rattle.image_rules.specs.Load.{fieldsPass}
@@ -65,7 +65,7 @@ module _ {t : Table} (invariant : Invariant t) (u : Table) (own : take (tableRow
 
   -- the test of marks at one bucket
   abbrev marksAt : Table → ℕ → Bool
-  marksAt v k = every (λ row. leb (markOf row) 1) (slotsOf v k) && eqb (length (liveSlots v k)) (liveOf v k)
+  marksAt v k = slotsMarked (slotsOf v k) (liveOf v k)
 
   own-marks : marksPass u ≡ marksPass t
   unfolding marksPass
@@ -73,8 +73,7 @@ module _ {t : Table} (invariant : Invariant t) (u : Table) (own : take (tableRow
       ap (λ (n : ℕ). every (marksAt u) (bucketsOf n)) own-order
       ∙ every-where (marksAt u) (marksAt t) (bucketsOf (orderOf t))
       (agree (marksAt u) (marksAt t)
-      (λ k l. ap₂ _&&_ (ap (every (λ row. leb (markOf row) 1)) (own-slots k l))
-      (ap₂ (λ (rows : List Row) (n : ℕ). eqb (length rows) n) (own-live-slots k l) (own-live k l))))
+      (λ k l. ap₂ slotsMarked (own-slots k l) (own-live k l)))
 
   pub invariant-own : tableRows (orderOf t) ≤ length u → Invariant u
   invariant-own long =

@@ -15,13 +15,13 @@ use Rattle.metric_rules.specs.declared.Profile.{Profile}
 use Rattle.metric_rules.specs.Validity.{validTag, validMeasures}
 use Rattle.metric_rules.specs.Distance.{validSpace}
 use Rattle.search_rules.specs.Range.{Entry}
-use Rattle.table_rules.specs.Refusals.{badTag, badMeasure, noCount, noRoom, alreadyLive, notLive, full, shortArea, badTable, unless, when}
+use Rattle.table_rules.specs.Refusals.{badTag, badMeasure, noCount, noRoom, alreadyLive, notLive, full, shortArea, badTable, unless, when, orElse}
 use Rattle.table_rules.specs.Geometry.{validOrder, room, tableRows, workRows, firstSlot}
-use Rattle.table_rules.specs.Table.{Table, orderOf, tableSpace, builtOf, liveOf, liveTotal}
-use Rattle.table_rules.specs.Checks.{sizesPass, marksPass, tableRefusal, readRefusal, changeRefusal}
+use Rattle.table_rules.specs.Table.{Table, orderOf, tableSpace, liveTotal}
+use Rattle.table_rules.specs.Checks.{marksPass, frameRefusal, headerPasses, readRefusal, changeRefusal}
 use Rattle.table_rules.specs.Add.{addRefusal}
 use Rattle.table_rules.specs.Remove.{removeRefusal}
-use Rattle.table_rules.specs.LookUp.{Place, find, isLiveTag, lookUpRefusal}
+use Rattle.table_rules.specs.LookUp.{Place, find, isLiveTag, liveTagRefusal, lookUpRefusal}
 use Rattle.table_rules.specs.Search.{fitRefusal, nearestAnswer, rangeRefusal, nearestRefusal}
 use Rattle.history.specs.Calls.{Lent}
 use Rattle.history.specs.Model.{Item, itemOf, Model, lengthsOf, withTag, modelRange, modelNearest, canRead, canChange, enough, tagRefusal, itemRefusal, fits, scanRefusal, countRefusal}
@@ -39,53 +39,47 @@ pub rows-some : (order : ℕ) → 0 < tableRows order
 unfolding tableRows firstSlot
 rows-some order = omega arith
 
-passing : (valid long sizes roomy passes : Bool) → valid ≡ true → long ≡ true → sizes ≡ true
-    → _≡_ {A = ℕ}
-    (elim valid [ false ↦ badTable | true ↦ elim (long && roomy) [ false ↦ shortArea | true ↦ elim (sizes && passes) [ false ↦ badTable | true ↦ 0 ] ] ])
-    (elim roomy [ false ↦ shortArea | true ↦ elim passes [ false ↦ badTable | true ↦ 0 ] ])
-passing true true true roomy passes e f g = refl
-passing false long sizes roomy passes e f g = absurd (false≢true e)
-passing true false sizes roomy passes e f g = absurd (false≢true f)
-passing true true false roomy passes e f g = absurd (false≢true g)
-
--- a sound table is stopped by what a call asks besides, and by nothing else
-pub invariant-refusal : (roomy passes : Table → Bool) (t : Table) → Invariant t
-    → tableRefusal roomy passes t ≡ elim (roomy t) [ false ↦ shortArea | true ↦ elim (passes t) [ false ↦ badTable | true ↦ 0 ] ]
-unfolding tableRefusal
-invariant-refusal roomy passes [] invariant = absurd (omega (arith, invariant .long, rows-some (orderOf [])))
-invariant-refusal roomy passes (r ∷ rs) invariant =
+-- the frame of a sound table stands
+pub invariant-frame : (t : Table) → Invariant t → frameRefusal t ≡ 0
+unfolding frameRefusal
+invariant-frame [] invariant = absurd (omega (arith, invariant .long, rows-some (orderOf [])))
+invariant-frame (r ∷ rs) invariant =
     let t = r ∷ rs in
-    passing (validOrder (orderOf t) && validSpace (tableSpace t)) (leb (tableRows (orderOf t)) (length t)) (sizesPass (orderOf t) (builtOf t) (liveOf t)) (roomy t) (passes t)
+    ap (λ (b : Bool). unless b badTable (unless (leb (tableRows (orderOf t)) (length t)) shortArea 0))
     (and-pass (validOrder (orderOf t)) (validSpace (tableSpace t)) (invariant .order) (invariant .space))
-    (le-leb (tableRows (orderOf t)) (length t) (invariant .long))
-    (invariant .sizes)
-
-stopping : (valid long roomy : Bool) (rest : ℕ) → valid ≡ true → long ≡ false
-    → elim valid [ false ↦ badTable | true ↦ elim (long && roomy) [ false ↦ shortArea | true ↦ rest ] ] ≡ shortArea
-stopping true false roomy rest e f = refl
-stopping false long roomy rest e f = absurd (false≢true e)
-stopping true true roomy rest e f = absurd (false≢true (sym f))
+    ∙ ap (λ (b : Bool). unless b shortArea 0) (le-leb (tableRows (orderOf t)) (length t) (invariant .long))
 
 -- 23 for one that is too short
-pub short-refusal : (roomy passes : Table → Bool) (t : Table) (m : Model) → Short t m → tableRefusal roomy passes t ≡ shortArea
-unfolding tableRefusal
-short-refusal roomy passes [] m s = refl
-short-refusal roomy passes (r ∷ rs) m s =
+pub short-frame : (t : Table) (m : Model) → Short t m → frameRefusal t ≡ shortArea
+unfolding frameRefusal
+short-frame [] m s = refl
+short-frame (r ∷ rs) m s =
     let t = r ∷ rs in
     let header = s .header (omega arith) in
     let order : validOrder (orderOf t) ≡ true = ap validOrder (header .0) ∙ s .order in
     let long : leb (tableRows (orderOf t)) (length t) ≡ false = ap (λ (n : ℕ). leb (tableRows n) (length t)) (header .0) ∙ lt-leb (tableRows (m .order)) (length t) (s .short) in
-    stopping (validOrder (orderOf t) && validSpace (tableSpace t)) (leb (tableRows (orderOf t)) (length t)) (roomy t) _
-    (and-pass (validOrder (orderOf t)) (validSpace (tableSpace t)) order (header .1))
-    long
+    ap (λ (b : Bool). unless b badTable (unless (leb (tableRows (orderOf t)) (length t)) shortArea 0)) (and-pass (validOrder (orderOf t)) (validSpace (tableSpace t)) order (header .1))
+    ∙ ap (λ (b : Bool). unless b shortArea 0) long
 
-asked : (here model passes : Bool) → here ≡ model → passes ≡ true
-    → _≡_ {A = ℕ} (elim here [ false ↦ shortArea | true ↦ elim passes [ false ↦ badTable | true ↦ 0 ] ]) (enough model 0)
+-- behind the frame a sound table is stopped by a short work area alone
+pub invariant-reads : (t : Table) → Invariant t → readRefusal t ≡ 0
+unfolding readRefusal
+invariant-reads t invariant =
+    ap (λ (n : ℕ). orElse n (unless (headerPasses t) badTable 0)) (invariant-frame t invariant) ∙ ap (λ (b : Bool). unless b badTable 0) (invariant .sizes)
+
+pub invariant-changes : (rows : ℕ) (t : Table) → Invariant t → changeRefusal rows t ≡ unless (leb (workRows (orderOf t)) rows) shortArea 0
+unfolding changeRefusal
+invariant-changes rows t invariant =
+    let roomy : Bool = leb (workRows (orderOf t)) rows in
+    ap (λ (n : ℕ). orElse n (unless roomy shortArea (unless (headerPasses t) badTable (unless (marksPass t) badTable 0)))) (invariant-frame t invariant)
+    ∙ ap₂ (λ (a b : Bool). unless roomy shortArea (unless a badTable (unless b badTable 0))) (invariant .sizes) (invariant .marks)
+
+asked : (here model : Bool) → here ≡ model → unless here shortArea 0 ≡ enough model 0
 unfolding enough
-asked true true passes e f = ap (λ (b : Bool). elim b [ false ↦ badTable | true ↦ 0 ]) f
-asked true false passes e f = absurd (false≢true (sym e))
-asked false true passes e f = absurd (false≢true e)
-asked false false passes e f = refl
+asked true true e = refl
+asked true false e = absurd (false≢true (sym e))
+asked false true e = absurd (false≢true e)
+asked false false e = refl
 
 found-or-not : (o : Option Place) (is : List Item) (a b : ℕ) → map itemOf (rowFound o) ≡ is
     → _≡_ {A = ℕ} (elim (elim o as (λ _. Bool) [ some place ↦ true | none ↦ false ]) [ false ↦ a | true ↦ b ]) (elim is [ [] ↦ a | i ∷ js ↦ b ])
@@ -100,38 +94,30 @@ module _ {t : Table} {m : Model} (matches : Matches t m) where
   unfolding isLiveTag
   live-or-not tag a b = found-or-not (find t tag) (withTag tag (m .items)) a b (found-items matches tag)
 
-  tag-alike : (tag : ℕ) → elim (validTag tag) as (λ _. ℕ) [ false ↦ badTag | true ↦ elim (isLiveTag t tag) [ false ↦ notLive | true ↦ 0 ] ] ≡ tagRefusal m tag
+  tag-alike : (tag : ℕ) → liveTagRefusal t tag ≡ tagRefusal m tag
   unfolding tagRefusal
-  tag-alike tag = ap (λ (n : ℕ). elim (validTag tag) as (λ _. ℕ) [ false ↦ badTag | true ↦ n ]) (live-or-not tag notLive 0)
+  tag-alike tag = ap (λ (n : ℕ). unless (validTag tag) badTag n) (live-or-not tag notLive 0)
 
   full-alike : leb (room (orderOf t)) (liveTotal t) ≡ leb (room (m .order)) (length (m .items))
   full-alike = ap₂ (λ (order n : ℕ). leb (room order) n) (matches .order) (live-total matches)
 
   item-alike : (tag : ℕ) (p : Profile)
-      → elim (validTag tag) as (λ _. ℕ) [
-        | false ↦ badTag
-        | true ↦
-            elim (validMeasures p) [
-              | false ↦ badMeasure
-              | true ↦ elim (isLiveTag t tag) [ true ↦ alreadyLive | false ↦ elim (leb (room (orderOf t)) (liveTotal t)) [ true ↦ full | false ↦ 0 ] ]
-            ]
-      ]
+      → unless (validTag tag) badTag (unless (validMeasures p) badMeasure (when (isLiveTag t tag) alreadyLive (when (leb (room (orderOf t)) (liveTotal t)) full 0)))
       ≡ itemRefusal m tag p
   unfolding itemRefusal
   item-alike tag p =
-      ap (λ (n : ℕ). elim (validTag tag) as (λ _. ℕ) [ false ↦ badTag | true ↦ elim (validMeasures p) [ false ↦ badMeasure | true ↦ n ] ])
-      (ap (λ (isFull : Bool). elim (isLiveTag t tag) as (λ _. ℕ) [ true ↦ alreadyLive | false ↦ elim isFull [ true ↦ full | false ↦ 0 ] ]) full-alike
-      ∙ live-or-not tag (elim (leb (room (m .order)) (length (m .items))) [ true ↦ full | false ↦ 0 ]) alreadyLive)
+      ap (λ (n : ℕ). unless (validTag tag) badTag (unless (validMeasures p) badMeasure n))
+      (ap (λ (isFull : Bool). when (isLiveTag t tag) alreadyLive (when isFull full 0)) full-alike
+      ∙ live-or-not tag (when (leb (room (m .order)) (length (m .items))) full 0) alreadyLive)
 
 -- a table as a call is lent it: it matches the model, or it is too short for its order
 abbrev pub Lendable : Table → Model → Type 0
 Lendable t m = Matches t m ⊎ Short t m
 
-stopped : (stop : ℕ) (can : Bool) (rest model : ℕ) → stop ≡ enough can 0 → (can ≡ true → rest ≡ model)
-    → elim stop as (λ _. ℕ) [ suc n ↦ suc n | zero ↦ rest ] ≡ enough can model
+stopped : (stop : ℕ) (can : Bool) (rest model : ℕ) → stop ≡ enough can 0 → (can ≡ true → rest ≡ model) → orElse stop rest ≡ enough can model
 unfolding enough
-stopped stop true rest model e f = ap (λ (n : ℕ). elim n as (λ _. ℕ) [ suc n ↦ suc n | zero ↦ rest ]) e ∙ f refl
-stopped stop false rest model e f = ap (λ (n : ℕ). elim n as (λ _. ℕ) [ suc n ↦ suc n | zero ↦ rest ]) e
+stopped stop true rest model e f = ap (λ (n : ℕ). orElse n rest) e ∙ f refl
+stopped stop false rest model e f = ap (λ (n : ℕ). orElse n rest) e
 
 pub enough-accepts : (can : Bool) (rest : ℕ) → enough can rest ≡ 0 → (can ≡ true) × (rest ≡ 0)
 unfolding enough
@@ -157,28 +143,30 @@ module _ (m : Model) (lent : Lent) where
 
   pub read-refusal : Lendable (lent .table) m → readRefusal (lent .table) ≡ enough (canRead m (lengthsOf lent)) 0
   unfolding readRefusal enough
-  read-refusal (inl ok) = invariant-refusal (λ u. true) (λ u. true) (lent .table) (ok .invariant) ∙ ap (λ (b : Bool). enough b 0) (sym (can-read ok))
-  read-refusal (inr short) = short-refusal (λ u. true) (λ u. true) (lent .table) m short ∙ ap (λ (b : Bool). enough b 0) (sym (cannot-read short))
+  read-refusal (inl ok) = invariant-reads (lent .table) (ok .invariant) ∙ ap (λ (b : Bool). enough b 0) (sym (can-read ok))
+  read-refusal (inr short) =
+      ap (λ (n : ℕ). orElse n (unless (headerPasses (lent .table)) badTable 0)) (short-frame (lent .table) m short) ∙ ap (λ (b : Bool). enough b 0) (sym (cannot-read short))
 
-  pub change-refusal : Lendable (lent .table) m → changeRefusal (lent .work) (lent .table) ≡ enough (canChange m (lengthsOf lent)) 0
+  pub change-refusal : Lendable (lent .table) m → changeRefusal (length (lent .work)) (lent .table) ≡ enough (canChange m (lengthsOf lent)) 0
   unfolding changeRefusal enough canChange lengthsOf
   change-refusal (inl ok) =
-      invariant-refusal (λ u. leb (workRows (orderOf u)) (length (lent .work))) marksPass (lent .table) (ok .invariant)
-      ∙ asked (leb (workRows (orderOf (lent .table))) (length (lent .work))) (leb (workRows (m .order)) (length (lent .work))) (marksPass (lent .table))
-      (ap (λ (n : ℕ). leb (workRows n) (length (lent .work))) (ok .order)) (ok .invariant .marks)
+      invariant-changes (length (lent .work)) (lent .table) (ok .invariant)
+      ∙ asked (leb (workRows (orderOf (lent .table))) (length (lent .work))) (leb (workRows (m .order)) (length (lent .work)))
+      (ap (λ (n : ℕ). leb (workRows n) (length (lent .work))) (ok .order))
       ∙ ap (λ (b : Bool). enough (b && leb (workRows (m .order)) (length (lent .work))) 0) (sym (can-read ok))
   change-refusal (inr short) =
-      short-refusal (λ u. leb (workRows (orderOf u)) (length (lent .work))) marksPass (lent .table) m short
+      ap (λ (n : ℕ). orElse n (unless (leb (workRows (orderOf (lent .table))) (length (lent .work))) shortArea (unless (headerPasses (lent .table)) badTable (unless (marksPass (lent .table)) badTable 0))))
+      (short-frame (lent .table) m short)
       ∙ ap (λ (b : Bool). enough (b && leb (workRows (m .order)) (length (lent .work))) 0) (sym (cannot-read short))
 
   module _ (lendable : Lendable (lent .table) m) where
     pub add-refusal : (tag : ℕ) (p : Profile) → addRefusal (lent .table) (lent .work) tag p ≡ enough (canChange m (lengthsOf lent)) (itemRefusal m tag p)
     unfolding addRefusal
-    add-refusal tag p = stopped (changeRefusal (lent .work) (lent .table)) _ _ (itemRefusal m tag p) (change-refusal lendable) (λ e. item-alike (changeable lendable e) tag p)
+    add-refusal tag p = stopped (changeRefusal (length (lent .work)) (lent .table)) _ _ (itemRefusal m tag p) (change-refusal lendable) (λ e. item-alike (changeable lendable e) tag p)
 
     pub remove-refusal : (tag : ℕ) → removeRefusal (lent .table) (lent .work) tag ≡ enough (canChange m (lengthsOf lent)) (tagRefusal m tag)
     unfolding removeRefusal
-    remove-refusal tag = stopped (changeRefusal (lent .work) (lent .table)) _ _ (tagRefusal m tag) (change-refusal lendable) (λ e. tag-alike (changeable lendable e) tag)
+    remove-refusal tag = stopped (changeRefusal (length (lent .work)) (lent .table)) _ _ (tagRefusal m tag) (change-refusal lendable) (λ e. tag-alike (changeable lendable e) tag)
 
     pub look-up-refusal : (tag : ℕ) → lookUpRefusal (lent .table) tag ≡ enough (canRead m (lengthsOf lent)) (tagRefusal m tag)
     unfolding lookUpRefusal

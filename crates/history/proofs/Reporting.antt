@@ -36,6 +36,7 @@ use Rattle.table_rules.proofs.Fill.{passed-roomy, Changeable, changeable, add-a
 use Rattle.history.specs.Reports.{builtIn, buildCost, ReportsBuilds}
 use Rattle.history.proofs.RefinesLists.{select-set}
 use Rattle.history.proofs.ReportingBuilds.{dead-not-built, kept-not-built, none-built, no-build, kept-reports, rebuild-reports}
+use Rattle.table_rules.proofs.Chains.{or-zero}
 
 -- of the live items of some buckets each bucket has a part
 parts : (t : Table) (ks : List ℕ) → All (λ j. length (liveSlots t j) ≤ length (liveItems t ks)) ks
@@ -224,10 +225,6 @@ module _ {work : List Row} {t : Table} (c : Changeable work t) (tag : ℕ) (plac
       go false e false f = rebuilt-lower-reports (omega (arith, eqb-false (liveOf v k) 0 e)) (ltb-false (room k) (4 * liveOf v k) f)
 
 -- an accepted removal
-first-zero : (n rest : ℕ) → _≡_ {A = ℕ} (elim n [ suc m ↦ suc m | zero ↦ rest ]) 0 → n ≡ 0
-first-zero zero rest e = refl
-first-zero (suc n) rest e = absurd (omega arith)
-
 removed-reports : (t : Table) (work : List Row) (tag : ℕ) → removeRefusal t work tag ≡ 0 → removed t tag .distances ≡ buildCost t (removed t tag .table)
 unfolding removed removeRefusal
 removed-reports t work tag accepted = go (find t tag) refl
@@ -236,7 +233,7 @@ removed-reports t work tag accepted = go (find t tag) refl
     result o = elim o [ some place ↦ shrunk (marked t place) (place .bucket) | none ↦ record { table = t; distances = 0 } ]
 
     go : (o : Option Place) → find t tag ≡ o → result o .distances ≡ buildCost t (result o .table)
-    go (some place) e = shrunk-reports (changeable work t (first-zero (changeRefusal work t) _ accepted)) tag place e
+    go (some place) e = shrunk-reports (changeable work t (or-zero (changeRefusal (length work) t) _ accepted .0)) tag place e
     go none e = kept-reports t
 
 pub reports : (t : Table) (work : List Row) → ReportsBuilds t work

@@ -5,26 +5,26 @@ use mathlib.Core.List.{List, map, foldl, flatten}
 use lib.ListN.{length}
 use lib.Dec.{leb, ltb, eqb}
 use Rattle.lists.specs.Lists.{every, select, distinct}
-use Rattle.metric_rules.specs.Row.{Row, tagOf, profileOf, markOf, isLive}
-use Rattle.metric_rules.specs.Validity.{validTag, validMeasures}
+use Rattle.metric_rules.specs.Row.{Row, tagOf, profileOf, isLive}
+use Rattle.metric_rules.specs.Validity.{validTag, validMeasures, validMark}
 use Rattle.metric_rules.specs.Distance.{Space, validSpace, distance}
 use Rattle.tree_rules.specs.Layout.{isLayout}
 use Rattle.table_rules.specs.Refusals.{badOrder, badMetric, badLength, badImage, shortArea, badTable, unless, when}
 use Rattle.table_rules.specs.Geometry.{validOrder, bucketsOf, tableRows}
 use Rattle.table_rules.specs.Table.{Table, putBucket}
-use Rattle.table_rules.specs.Checks.{sizesPass}
+use Rattle.table_rules.specs.Checks.{sizesPass, liveSizeHolds}
 use Rattle.table_rules.specs.Fresh.{freshTable}
 use Rattle.image_rules.specs.Bytes.{headerBytes, sizesEnd, imageLength}
 use Rattle.image_rules.specs.Read.{orderIn, spaceIn, zerosIn, builtIn, liveIn, slotsIn, bucketIn}
 
 -- RULES 12.5, a slot's own fields: tag, measures, and a mark that is 0 or 1
 unfoldable pub fieldsPass : Row → Bool
-fieldsPass row = validTag (tagOf row) && validMeasures (profileOf row) && leb (markOf row) 1
+fieldsPass row = validTag (tagOf row) && validMeasures (profileOf row) && validMark row
 
--- RULES 12.5, a bucket: its slots' fields, its 0 marks number its live size, no tag twice, and its slots are a tree's layout, marks aside
+-- a bucket: its slots' fields, its live size, no tag twice, and its slots are a tree's layout, marks aside
 unfoldable pub bucketPasses : Space → ℕ → List Row → Bool
 bucketPasses space live slots =
-    every fieldsPass slots && eqb (length (select isLive slots)) live && distinct (map tagOf slots) && isLayout (distance space) slots
+    every fieldsPass slots && liveSizeHolds slots live && distinct (map tagOf slots) && isLayout (distance space) slots
 
 -- RULES 12.5: the live items of the whole image, bucket by bucket
 unfoldable pub liveRows : List ℕ → List Row

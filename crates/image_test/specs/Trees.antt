@@ -3,21 +3,20 @@
 use Prim.Native.Nat.{ℕ}
 use mathlib.Core.Bool.{Bool, _&&_}
 use mathlib.Core.List.{List, map}
-use lib.ListN.{length}
-use lib.Dec.{eqb}
-use Rattle.lists.specs.Lists.{every, select, distinct}
-use Rattle.metric_rules.specs.Row.{Row, tagOf, isLive}
+use Rattle.lists.specs.Lists.{every, distinct}
+use Rattle.metric_rules.specs.Row.{Row, tagOf}
 use Rattle.metric_rules.specs.Distance.{Space, distance}
 use Rattle.tree_rules.specs.Layout.{isLayout}
 use Rattle.search_rules.specs.Range.{Entry}
 use Rattle.table_rules.specs.Geometry.{bucketsOf}
+use Rattle.table_rules.specs.Checks.{liveSizeHolds}
 use Rattle.image_rules.specs.Read.{orderIn, liveIn, bucketIn}
 use Rattle.image_rules.specs.Load.{fieldsPass, liveRows}
 use Rattle.image_entries.specs.Entries.{tagEntry}
 
--- the slots of bucket k are valid, and its 0 marks number its live size
+-- the slots of bucket k are valid, and its live size holds
 unfoldable pub bucketRead : List ℕ → ℕ → Bool
-bucketRead image k = every fieldsPass (bucketIn image k) && eqb (length (select isLive (bucketIn image k))) (liveIn image k)
+bucketRead image k = every fieldsPass (bucketIn image k) && liveSizeHolds (bucketIn image k) (liveIn image k)
 
 -- no tag twice in a bucket, and its slots are their layout
 unfoldable pub treeValid : Space → List Row → Bool

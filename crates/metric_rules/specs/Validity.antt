@@ -1,10 +1,11 @@
--- RULES 2: which tags and which measures are valid.
+-- 01, "A head and its distance", and W2: which tags, measures and marks are valid.
 use Prim.Native.Nat.{ℕ, _/_, _%_, _^_}
 use mathlib.Core.Bool.{Bool, _&&_}
 use lib.IntN.{ℤ, natAbs}
 use lib.Dec.{leb}
 use Rattle.lists.specs.Lists.{every}
 use Rattle.metric_rules.specs.declared.Profile.{Profile}
+use Rattle.metric_rules.specs.Row.{Row, markOf}
 
 -- RULES 2.1: a tag is country × 10^12 + national
 unfoldable pub nationals : ℕ
@@ -40,3 +41,7 @@ validMeasure m = leb (natAbs m) measureLimit
 unfoldable pub validMeasures : Profile → Bool
 unfolding every validMeasure
 validMeasures p = every validMeasure (p .measures)
+
+-- a mark is 0, live, or 1, dead; a foreign row may have any
+abbrev pub validMark : Row → Bool
+validMark row = leb (markOf row) 1

@@ -4,58 +4,69 @@ use mathlib.Core.Path.{_≡_, refl, sym, _∙_, ap, ap₂}
 use mathlib.Core.Bool.{Bool, true, false}
 use mathlib.Core.List.{List, map}
 use lib.Dec.{leb}
+use lib.ListN.{length}
 use Rattle.lists.specs.Lists.{total}
 use Rattle.metric_rules.specs.declared.Profile.{Profile}
 use Rattle.metric_rules.specs.Row.{Row, zeroRow}
 use Rattle.metric_rules.specs.Validity.{validTag, validMeasures}
 use Rattle.table_rules.specs.declared.Added.{Added}
-use Rattle.table_rules.specs.Refusals.{badTag, badMeasure}
+use Rattle.table_rules.specs.Refusals.{badTag, badMeasure, alreadyLive, full, unless, when, orElse}
 use Rattle.table_rules.specs.Geometry.{room, bucketsOf, workRows}
 use Rattle.table_rules.specs.Table.{Table, orderOf, liveOf, liveTotal, cleared}
 use Rattle.table_rules.specs.Checks.{changeRefusal}
 use Rattle.table_rules.specs.LookUp.{isLiveTag}
 use Rattle.table_rules.specs.Add.{addRefusal, addTarget, added, addReply, tableAfterAdd, workAfterAdd}
-use Rattle.table_add.specs.LastStop.{lastStop}
-use Rattle.table_rules.proofs.Fill.{addStop, add-stop}
 
 -- the numbers that the last test compares
 pub full-test :
     (t : Table) (order size live : ℕ) → order ≡ orderOf t → size ≡ workRows order → live ≡ total (map (liveOf t) (bucketsOf order))
-    → (size ≡ room (orderOf t)) × (live ≡ liveTotal t)
+    → leb (room (orderOf t)) (liveTotal t) ≡ leb size live
 unfolding workRows liveTotal
-full-test t order size live e f g = (f ∙ ap room e, g ∙ ap (λ (o : ℕ). total (map (liveOf t) (bucketsOf o))) e)
+full-test t order size live e f g = sym (ap₂ leb (f ∙ ap room e) (g ∙ ap (λ (o : ℕ). total (map (liveOf t) (bucketsOf o))) e))
 
-by-last : (live full : Bool) → lastStop live full ≡ addStop 0 true true live full
-by-last true full = refl
-by-last false true = refl
-by-last false false = refl
+-- the refusal by the outcomes of its tests
+refusalBy : ℕ → Bool → Bool → Bool → Bool → ℕ
+refusalBy n tagOk measuresOk live fully =
+    orElse n (unless tagOk badTag (unless measuresOk badMeasure (when live alreadyLive (when fully full 0))))
 
 module _ (t : Table) (work : List Row) (tag : ℕ) (p : Profile) where
-  stopped :
-      {n : ℕ} {a b c d : Bool} → changeRefusal work t ≡ n → validTag tag ≡ a → validMeasures p ≡ b → isLiveTag t tag ≡ c
-      → leb (room (orderOf t)) (liveTotal t) ≡ d → addStop n a b c d ≡ addRefusal t work tag p
-  stopped {n} {a} {b} {c} {d} f g h i j =
-      sym
-      (add-stop t work tag p
-      ∙ ap₂ (λ (m : ℕ) (x : Bool). addStop m x (validMeasures p) (isLiveTag t tag) (leb (room (orderOf t)) (liveTotal t))) f g
-      ∙ ap₂ (λ (x y : Bool). addStop n a x y (leb (room (orderOf t)) (liveTotal t))) h i
-      ∙ ap (addStop n a b c) j)
+  refusal-tests : addRefusal t work tag p ≡ refusalBy (changeRefusal (length work) t) (validTag tag) (validMeasures p) (isLiveTag t tag) (leb (room (orderOf t)) (liveTotal t))
+  unfolding addRefusal refusalBy
+  refusal-tests = refl
 
-  pub refused-first : (n : ℕ) → changeRefusal work t ≡ n → (n ≡ 0 → ⊥) → n ≡ addRefusal t work tag p
+  by-tests :
+      (n : ℕ) (a b c d : Bool) → changeRefusal (length work) t ≡ n → validTag tag ≡ a → validMeasures p ≡ b → isLiveTag t tag ≡ c
+      → leb (room (orderOf t)) (liveTotal t) ≡ d → refusalBy n a b c d ≡ addRefusal t work tag p
+  by-tests n a b c d f g h i j = sym (refusal-tests ∙ (rw (f, g, h, i, j)))
+
+  pub refused-first : (n : ℕ) → changeRefusal (length work) t ≡ n → (n ≡ 0 → ⊥) → n ≡ addRefusal t work tag p
+  unfolding refusalBy
   refused-first zero e some = absurd (some refl)
-  refused-first (suc n) e some = stopped e refl refl refl refl
+  refused-first (suc n) e some = by-tests (suc n) _ _ _ _ e refl refl refl refl
 
-  module _ (passes : changeRefusal work t ≡ 0) where
+  module _ (passes : changeRefusal (length work) t ≡ 0) where
     pub refused-tag : validTag tag ≡ false → badTag ≡ addRefusal t work tag p
-    refused-tag e = stopped passes e refl refl refl
+    unfolding refusalBy
+    refused-tag e = by-tests 0 false _ _ _ passes e refl refl refl
 
-    pub refused-measure : validTag tag ≡ true → validMeasures p ≡ false → badMeasure ≡ addRefusal t work tag p
-    refused-measure e f = stopped passes e f refl refl
+    module _ (named : validTag tag ≡ true) where
+      pub refused-measure : validMeasures p ≡ false → badMeasure ≡ addRefusal t work tag p
+      unfolding refusalBy
+      refused-measure f = by-tests 0 true false _ _ passes named f refl refl
 
-    pub last-stopped :
-        validTag tag ≡ true → validMeasures p ≡ true → {live : Bool} {most sum : ℕ} → live ≡ isLiveTag t tag → most ≡ room (orderOf t) → sum ≡ liveTotal t
-        → lastStop live (leb most sum) ≡ addRefusal t work tag p
-    last-stopped e f {live} {most} {sum} g h i = by-last live (leb most sum) ∙ stopped passes e f (sym g) (sym (ap₂ leb h i))
+      module _ (measured : validMeasures p ≡ true) where
+        pub refused-live : isLiveTag t tag ≡ true → alreadyLive ≡ addRefusal t work tag p
+        unfolding refusalBy
+        refused-live e = by-tests 0 true true true _ passes named measured e refl
+
+        module _ (new : isLiveTag t tag ≡ false) where
+          pub refused-full : leb (room (orderOf t)) (liveTotal t) ≡ true → full ≡ addRefusal t work tag p
+          unfolding refusalBy
+          refused-full e = by-tests 0 true true false true passes named measured new e
+
+          pub not-refused : leb (room (orderOf t)) (liveTotal t) ≡ false → 0 ≡ addRefusal t work tag p
+          unfolding refusalBy
+          not-refused e = by-tests 0 true true false false passes named measured new e
 
   -- the reply and the areas by the refusal
   replyBy : ℕ → Added

@@ -1,7 +1,6 @@
 // Add: the refusals in their order, and the accepted call.
 ghost use mathlib.Core.Path.{_≡_};
 ghost use Rattle.table_rules.specs.Add.{addRefusal, addReply, tableAfterAdd, workAfterAdd};
-ghost use Rattle.table_add.specs.LastStop.{lastStop};
 use metric::valid_measures;
 use metric::valid_tag;
 use metric_rules::Profile;
@@ -16,19 +15,6 @@ use table_rules::BAD_TAG;
 use table_rules::FULL;
 use table_views::live_total;
 use table_views::order_in;
-
-// What stops an add whose table, tag and measures pass.
-fn last_refusal(live: bool, full: bool) -> u32
-    ensures { λ r. ⌜ r ≡ lastStop live full ⌝ }
-{
-    if live {
-        return ALREADY_LIVE;
-    }
-    if !full {
-        return 0;
-    }
-    FULL
-}
 
 // The first refusal that applies, in the call's order, or 0.
 fn add_refusal(table: &[Row], work: &[Row], tag: u64, profile: Profile) -> u32
@@ -47,7 +33,14 @@ fn add_refusal(table: &[Row], work: &[Row], tag: u64, profile: Profile) -> u32
     let live = is_live_tag(table, tag);
     let order = order_in(table);
     let most = order.work_rows() as u64;
-    last_refusal(live, most <= live_total(table, order))
+    let full = most <= live_total(table, order);
+    if live {
+        return ALREADY_LIVE;
+    }
+    if full {
+        return FULL;
+    }
+    0
 }
 
 // An item is put in, for every table, work area, tag and profile.

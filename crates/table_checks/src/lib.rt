@@ -2,14 +2,12 @@
 ghost use mathlib.Core.Path.{_≡_};
 ghost use mathlib.Core.Bool.{true};
 ghost use Prim.Native.Nat.{_<_};
-ghost use lib.Dec.{leb};
 ghost use lib.ListN.{length};
 ghost use Rattle.lists.specs.Lists.{every};
-ghost use Rattle.table_rules.specs.Geometry.{bucketsOf, sizesRow, workRows};
+ghost use Rattle.table_rules.specs.Geometry.{bucketsOf, sizesRow};
 ghost use Rattle.table_rules.specs.Table.{orderOf, builtOf, liveOf};
-ghost use Rattle.table_rules.specs.Checks.{sizePasses, sizesPass, marksPass, tableRefusal, readRefusal};
+ghost use Rattle.table_rules.specs.Checks.{sizePasses, sizesPass, slotsMarked, marksPass, frameRefusal, readRefusal, changeRefusal};
 ghost use Rattle.table_rules.specs.Passed.{Passed};
-ghost use Rattle.table_checks.specs.Frame.{frameRefusal, slotsMarked};
 use metric_rules::Row;
 use rows::mark_of;
 use table_order::Order;
@@ -131,7 +129,7 @@ pub fn read_refusal(table: &[Row]) -> u32
 
 // What stops add and remove, which are lent a work area of so many rows and go by the marks.
 pub fn change_refusal(table: &[Row], rows: usize) -> u32
-    ensures { λ r. ⌜ r ≡ tableRefusal (λ u. leb (workRows (orderOf u)) rows) marksPass (now (table .entry)) ⌝ }
+    ensures { λ r. ⌜ r ≡ changeRefusal rows (now (table .entry)) ⌝ }
 {
     let refusal = frame_refusal(table);
     if refusal != 0 {

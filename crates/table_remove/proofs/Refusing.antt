@@ -1,9 +1,10 @@
 -- A removal refused or accepted: the refusal by the tests that were met, and the reply and the areas by the refusal.
 use Prim.Native.Nat.{ℕ, zero, suc}
-use mathlib.Core.Path.{_≡_, refl, sym, _∙_, ap, ap₂}
+use mathlib.Core.Path.{_≡_, refl, sym, _∙_, ap}
 use mathlib.Core.Bool.{Bool, true, false}
 use mathlib.Core.List.{List}
 use mathlib.Core.Option.{Option, none, some}
+use lib.ListN.{length}
 use Rattle.metric_rules.specs.Row.{Row, zeroRow}
 use Rattle.metric_rules.specs.Validity.{validTag}
 use Rattle.table_rules.specs.declared.Removed.{Removed}
@@ -15,29 +16,17 @@ use Rattle.table_rules.specs.Rebuild.{Rebuilt}
 use Rattle.table_rules.specs.LookUp.{Place, find, isLiveTag}
 use Rattle.table_rules.specs.Remove.{removeRefusal, marked, shrunk, removed, removeReply, tableAfterRemove, workAfterRemove}
 
--- a removal's refusal by its tests, in their order
-abbrev removeStop : ℕ → Bool → Bool → ℕ
-removeStop (suc n) tagOk found = suc n
-removeStop zero false found = badTag
-removeStop zero true false = notLive
-removeStop zero true true = 0
+-- a removal's refusal by the outcomes of its tests
+refusalBy : ℕ → Bool → Bool → ℕ
+refusalBy n tagOk live = orElse n (unless tagOk badTag (unless live notLive 0))
 
 module _ (t : Table) (work : List Row) (tag : ℕ) where
-  remove-stop : removeRefusal t work tag ≡ removeStop (changeRefusal work t) (validTag tag) (isLiveTag t tag)
-  unfolding removeRefusal
-  remove-stop = go (changeRefusal work t) (validTag tag) (isLiveTag t tag)
-    where
-      go :
-          (n : ℕ) (a b : Bool)
-          → _≡_ {A = ℕ} (orElse n (unless a badTag (unless b notLive 0))) (removeStop n a b)
-      go (suc n) a b = refl
-      go zero false b = refl
-      go zero true false = refl
-      go zero true true = refl
+  refusal-tests : removeRefusal t work tag ≡ refusalBy (changeRefusal (length work) t) (validTag tag) (isLiveTag t tag)
+  unfolding removeRefusal refusalBy
+  refusal-tests = refl
 
-  stopped : {n : ℕ} {a b : Bool} → changeRefusal work t ≡ n → validTag tag ≡ a → isLiveTag t tag ≡ b → removeStop n a b ≡ removeRefusal t work tag
-  stopped {n} {a} {b} f g h =
-      sym (remove-stop ∙ ap₂ (λ (m : ℕ) (x : Bool). removeStop m x (isLiveTag t tag)) f g ∙ ap (removeStop n a) h)
+  by-tests : (n : ℕ) (a b : Bool) → changeRefusal (length work) t ≡ n → validTag tag ≡ a → isLiveTag t tag ≡ b → refusalBy n a b ≡ removeRefusal t work tag
+  by-tests n a b f g h = sym (refusal-tests ∙ (rw (f, g, h)))
 
   live-by : (o : Option Place) → find t tag ≡ o → isLiveTag t tag ≡ elim o [ some place ↦ true | none ↦ false ]
   unfolding isLiveTag
@@ -63,19 +52,19 @@ module _ (t : Table) (work : List Row) (tag : ℕ) where
   abbrev pub Refused : ℕ → Type 0
   Refused n = (record { refusal = n; distances = 0 } ≡ removeReply t work tag) × (t ≡ tableAfterRemove t work tag) × (work ≡ workAfterRemove t work tag)
 
-  pub refused-first : (n : ℕ) → changeRefusal work t ≡ n → (n ≡ 0 → ⊥) → Refused n
-  unfolding replyBy tableBy workBy
+  pub refused-first : (n : ℕ) → changeRefusal (length work) t ≡ n → (n ≡ 0 → ⊥) → Refused n
+  unfolding refusalBy replyBy tableBy workBy
   refused-first zero e ne = absurd (ne refl)
-  refused-first (suc n) e ne = by-refusal (stopped e refl refl)
+  refused-first (suc n) e ne = by-refusal (by-tests (suc n) _ _ e refl refl)
 
-  module _ (passes : changeRefusal work t ≡ 0) where
+  module _ (passes : changeRefusal (length work) t ≡ 0) where
     pub refused-tag : validTag tag ≡ false → Refused badTag
-    unfolding replyBy tableBy workBy
-    refused-tag e = by-refusal (stopped passes e refl)
+    unfolding refusalBy replyBy tableBy workBy
+    refused-tag e = by-refusal (by-tests 0 false _ passes e refl)
 
     pub refused-missing : validTag tag ≡ true → none ≡ find t tag → Refused notLive
-    unfolding replyBy tableBy workBy
-    refused-missing e f = by-refusal (stopped passes e (live-by none (sym f)))
+    unfolding refusalBy replyBy tableBy workBy
+    refused-missing e f = by-refusal (by-tests 0 true false passes e (live-by none (sym f)))
 
     -- an accepted call settles the bucket of the item found
     pub accepted-call :
@@ -83,9 +72,9 @@ module _ (t : Table) (work : List Row) (tag : ℕ) where
         → (record { refusal = 0; distances = shrunk (marked t place) (place .bucket) .distances } ≡ removeReply t work tag)
         × (shrunk (marked t place) (place .bucket) .table ≡ tableAfterRemove t work tag)
         × (cleared zeroRow (workRows (orderOf t)) work ≡ workAfterRemove t work tag)
-    unfolding replyBy tableBy workBy removed
+    unfolding refusalBy replyBy tableBy workBy removed
     accepted-call e place f =
-        let r = by-refusal (stopped passes e (live-by (some place) f)) in
+        let r = by-refusal (by-tests 0 true true passes e (live-by (some place) f)) in
         let s : shrunk (marked t place) (place .bucket) ≡ removed t tag =
         ap (λ (o : Option Place). elim o [ some p ↦ shrunk (marked t p) (p .bucket) | none ↦ record { table = t; distances = 0 } ]) (sym f) in
         (ap (λ (x : Rebuilt). record { refusal = 0; distances = x .distances }) s ∙ r .0, ap (λ (x : Rebuilt). x .table) s ∙ r .1, r .2)

@@ -1,27 +1,27 @@
 -- What an add that is not refused shows of a lent table: its tests one by one, and the bucket that it builds has room.
-use Prim.Native.Nat.{ℕ, zero, suc, _≤_, _<_}
+use Prim.Native.Nat.{ℕ, _≤_, _<_}
 use native.Mathlib.Omega.{arith}
 use borrow.Author.Tests.{leb-true, leb-false, eqb-true}
-use mathlib.Core.Path.{_≡_, refl, sym, _∙_}
-use mathlib.Core.Bool.{Bool, true, false, _&&_}
+use mathlib.Core.Path.{_≡_}
 use mathlib.Core.List.{List}
-use lib.Dec.{leb, eqb}
+use lib.Dec.{leb}
 use lib.ListN.{length}
 use lib.Pow.{pow-mono}
 use Rattle.lists.specs.Lists.{every, countFrom}
 use Rattle.lists.proofs.Tests.{and-second}
 use Rattle.metric_rules.specs.declared.Profile.{Profile}
-use Rattle.metric_rules.specs.Row.{Row, markOf}
-use Rattle.metric_rules.specs.Validity.{validTag, validMeasures}
-use Rattle.table_rules.specs.Refusals.{badTag, badMeasure, alreadyLive, full, unless, when, orElse}
+use Rattle.metric_rules.specs.Row.{Row}
+use Rattle.metric_rules.specs.Validity.{validTag, validMeasures, validMark}
+use Rattle.table_rules.specs.Refusals.{badTag, badMeasure, alreadyLive, full}
 use Rattle.table_rules.specs.Geometry.{room, workRows}
 use Rattle.table_rules.specs.Table.{Table, orderOf, liveOf, liveTotal, slotsOf, liveSlots}
-use Rattle.table_rules.specs.Checks.{marksPass, changeRefusal}
+use Rattle.table_rules.specs.Checks.{liveSizeHolds, slotsMarked, marksPass, changeRefusal}
 use Rattle.table_rules.specs.Passed.{Passed}
 use Rattle.table_rules.specs.LookUp.{isLiveTag}
 use Rattle.table_rules.specs.Add.{addRefusal, lowestEmpty, gathered, addTarget}
+use Rattle.table_rules.proofs.Chains.{or-zero, unless-zero, when-zero}
 use Rattle.table_rules.proofs.Buckets.{every-bucket}
-use Rattle.table_rules.proofs.Passing.{passed, bucket-within}
+use Rattle.table_rules.proofs.Passing.{change-passed, bucket-within}
 use Rattle.table_rules.proofs.Live.{Roomy}
 use Rattle.table_rules.proofs.Adding.{Target, add-target}
 
@@ -43,57 +43,29 @@ pub record Changeable (work : List Row) (t : Table) : Type 0 where
   pub lives : (k : ℕ) → k ≤ orderOf t → length (liveSlots t k) ≡ liveOf t k
   pub roomy : workRows (orderOf t) ≤ length work
 
-pub changeable : (work : List Row) (t : Table) → changeRefusal work t ≡ 0 → Changeable work t
-unfolding changeRefusal marksPass
+pub changeable : (work : List Row) (t : Table) → changeRefusal (length work) t ≡ 0 → Changeable work t
+unfolding marksPass liveSlots
 changeable work t e =
-    let q = passed (λ u. leb (workRows (orderOf u)) (length work)) marksPass t e in
+    let q = change-passed (length work) t e in
     record {
       passed = q .0;
       lives = λ k h.
           eqb-true (length (liveSlots t k)) (liveOf t k)
-          (and-second (every (λ row. leb (markOf row) 1) (slotsOf t k)) (eqb (length (liveSlots t k)) (liveOf t k))
-          (every-bucket (λ j. every (λ row. leb (markOf row) 1) (slotsOf t j) && eqb (length (liveSlots t j)) (liveOf t j)) (orderOf t) k h (q .2)));
+          (and-second (every validMark (slotsOf t k)) (liveSizeHolds (slotsOf t k) (liveOf t k))
+          (every-bucket (λ j. slotsMarked (slotsOf t j) (liveOf t j)) (orderOf t) k h (q .2)));
       roomy = leb-true (workRows (orderOf t)) (length work) (q .1);
     }
 
--- an add's refusal by its tests, in their order
-abbrev pub addStop : ℕ → Bool → Bool → Bool → Bool → ℕ
-addStop (suc n) tagOk measuresOk found full = suc n
-addStop zero false measuresOk found full = badTag
-addStop zero true false found full = badMeasure
-addStop zero true true true full = alreadyLive
-addStop zero true true false true = full
-addStop zero true true false false = 0
-
-pub add-stop :
-    (t : Table) (work : List Row) (tag : ℕ) (p : Profile)
-    → addRefusal t work tag p ≡ addStop (changeRefusal work t) (validTag tag) (validMeasures p) (isLiveTag t tag) (leb (room (orderOf t)) (liveTotal t))
-unfolding addRefusal
-add-stop t work tag p = go (changeRefusal work t) (validTag tag) (validMeasures p) (isLiveTag t tag) (leb (room (orderOf t)) (liveTotal t))
-  where
-    go :
-        (n : ℕ) (a b c d : Bool)
-        → _≡_ {A = ℕ} (orElse n (unless a badTag (unless b badMeasure (when c alreadyLive (when d full 0))))) (addStop n a b c d)
-    go (suc n) a b c d = refl
-    go zero false b c d = refl
-    go zero true false c d = refl
-    go zero true true true d = refl
-    go zero true true false true = refl
-    go zero true true false false = refl
-
 -- an add that is not refused: 23 and 24 pass, and an item fewer than the table's room is live
-pub add-accepted : (t : Table) (work : List Row) (tag : ℕ) (p : Profile) → addRefusal t work tag p ≡ 0 → (changeRefusal work t ≡ 0) × (liveTotal t < room (orderOf t))
+pub add-accepted : (t : Table) (work : List Row) (tag : ℕ) (p : Profile) → addRefusal t work tag p ≡ 0 → (changeRefusal (length work) t ≡ 0) × (liveTotal t < room (orderOf t))
+unfolding addRefusal
 add-accepted t work tag p e =
-    go (changeRefusal work t) (validTag tag) (validMeasures p) (isLiveTag t tag) (leb (room (orderOf t)) (liveTotal t)) refl (sym (add-stop t work tag p) ∙ e)
-  where
-    go :
-        (n : ℕ) (a b c d : Bool) → leb (room (orderOf t)) (liveTotal t) ≡ d → addStop n a b c d ≡ 0 → (n ≡ 0) × (liveTotal t < room (orderOf t))
-    go (suc n) a b c d q z = absurd (omega arith)
-    go zero false b c d q z = absurd (omega arith)
-    go zero true false c d q z = absurd (omega arith)
-    go zero true true true d q z = absurd (omega arith)
-    go zero true true false true q z = absurd (omega arith)
-    go zero true true false false q z = (refl, leb-false (room (orderOf t)) (liveTotal t) q)
+    let first = or-zero (changeRefusal (length work) t) _ e in
+    let named = unless-zero (validTag tag) badTag _ (omega arith) (first .1) in
+    let measured = unless-zero (validMeasures p) badMeasure _ (omega arith) (named .1) in
+    let new = when-zero (isLiveTag t tag) alreadyLive _ (omega arith) (measured .1) in
+    let roomy = when-zero (leb (room (orderOf t)) (liveTotal t)) full 0 (omega arith) (new .1) in
+    (first .0, leb-false (room (orderOf t)) (liveTotal t) (roomy .0))
 
 pub add-fits :
     (t : Table) (work : List Row) (tag : ℕ) (p : Profile) → addRefusal t work tag p ≡ 0

@@ -1,4 +1,5 @@
 -- Laws of the table: its geometry, its buckets one after the other, what the tests of a lent table say, and what its views show after each change.
+pub mod Chains
 pub mod Geometry
 pub mod Buckets
 pub mod Down

@@ -1,20 +1,21 @@
--- What a table that is not refused shows: the tests of `tableRefusal` one by one, and what they say of a bucket's sizes and slots.
+-- What a table that is not refused shows: the tests of its refusal one by one, and what they say of a bucket's sizes and slots.
 use Prim.Native.Nat.{ℕ, suc, _+_, _≤_, _<_}
 use native.Mathlib.Omega.{arith}
 use native.Mathlib.Decide.{decLe}
 use borrow.Author.Tests.{leb-true}
 use mathlib.Core.Path.{_≡_, refl, sym, _∙_, ap}
-use mathlib.Core.Bool.{Bool, true, false, _&&_}
+use mathlib.Core.Bool.{true, _&&_}
 use mathlib.Core.List.{[], _∷_}
 use lib.Dec.{leb}
 use lib.ListN.{length}
 use Rattle.lists.proofs.Tests.{and-first, and-second}
 use Rattle.metric_rules.specs.Distance.{validSpace}
 use Rattle.table_rules.specs.Refusals.{shortArea, badTable, unless}
-use Rattle.table_rules.specs.Geometry.{validOrder, room, sizesRow, firstSlot, tableRows}
+use Rattle.table_rules.specs.Geometry.{validOrder, room, sizesRow, firstSlot, tableRows, workRows}
 use Rattle.table_rules.specs.Table.{Table, orderOf, tableSpace, builtOf, liveOf}
-use Rattle.table_rules.specs.Checks.{sizesPass, tableRefusal, readRefusal}
+use Rattle.table_rules.specs.Checks.{marksPass, frameRefusal, headerPasses, readRefusal, changeRefusal}
 use Rattle.table_rules.specs.Passed.{Framed, Passed}
+use Rattle.table_rules.proofs.Chains.{or-zero, unless-zero}
 use Rattle.table_rules.proofs.Buckets.{order-most}
 use Rattle.table_rules.proofs.Sizes.{size-room, sizes-at}
 use Rattle.table_rules.proofs.Geometry.{room-ends, sizes-before-slots}
@@ -42,50 +43,41 @@ slots-asked {t} p n k e h =
     let at : firstSlot n k ≡ firstSlot (orderOf t) k = ap (λ (o : ℕ). firstSlot o k) e in
     (e, omega (arith, p .framed .order), h, omega arith)
 
--- the refusal by its three tests: header, lengths, sizes and what the call asks besides
-unfoldable pub stopBy : Bool → Bool → Bool → ℕ
-stopBy header lengths sizes =
-    unless header badTable (unless lengths shortArea (unless sizes badTable 0))
+-- a table without rows has no frame; of any other its order, its metric and its length are tested
+pub no-frame : (t : Table) → length t ≡ 0 → frameRefusal t ≡ shortArea
+unfolding frameRefusal
+no-frame [] e = refl
+no-frame (r ∷ rs) e = absurd (omega arith)
 
-module _ (roomy sound : Table → Bool) where
-  pub table-stop : (t : Table) → 0 < length t
-      → tableRefusal roomy sound t
-      ≡ stopBy (validOrder (orderOf t) && validSpace (tableSpace t)) (leb (tableRows (orderOf t)) (length t) && roomy t)
-      (sizesPass (orderOf t) (builtOf t) (liveOf t) && sound t)
-  unfolding tableRefusal stopBy
-  table-stop [] h = absurd (omega arith)
-  table-stop (r ∷ rs) h = refl
+pub frame-tests : (t : Table) → 0 < length t
+    → frameRefusal t ≡ unless (validOrder (orderOf t) && validSpace (tableSpace t)) badTable (unless (leb (tableRows (orderOf t)) (length t)) shortArea 0)
+unfolding frameRefusal
+frame-tests [] h = absurd (omega arith)
+frame-tests (r ∷ rs) h = refl
 
-  pub none-stop : (t : Table) → length t ≡ 0 → tableRefusal roomy sound t ≡ shortArea
-  unfolding tableRefusal
-  none-stop [] e = refl
-  none-stop (r ∷ rs) e = absurd (omega arith)
+pub frame-rows : (t : Table) → frameRefusal t ≡ 0 → 0 < length t
+frame-rows t e = elim (decLe 1 (length t)) [ yes h ↦ h | no d ↦ (let z : shortArea ≡ 0 = sym (no-frame t (omega arith)) ∙ e in absurd (omega arith)) ]
 
-  all-pass : (a b c : Bool) → stopBy a b c ≡ 0 → (a ≡ true) × (b ≡ true) × (c ≡ true)
-  unfolding stopBy
-  all-pass false b c e = absurd (omega arith)
-  all-pass true false c e = absurd (omega arith)
-  all-pass true true false e = absurd (omega arith)
-  all-pass true true true e = (refl, refl, refl)
-
-  pub passed : (t : Table) → tableRefusal roomy sound t ≡ 0 → Passed t × (roomy t ≡ true) × (sound t ≡ true)
-  passed t e =
-      elim (decLe 1 (length t)) [
-        | no d ↦ (let z : shortArea ≡ 0 = sym (none-stop t (omega arith)) ∙ e in absurd (omega arith))
-        | yes some ↦
-            (let q = all-pass _ _ _ (sym (table-stop t some) ∙ e) in
-            let f : Framed t =
-            record {
-              order = order-most (orderOf t) (and-first _ _ (q .0));
-              space = and-second (validOrder (orderOf t)) _ (q .0);
-              long = leb-true (tableRows (orderOf t)) (length t) (and-first _ (roomy t) (q .1));
-            } in (
-              record { framed = f; sizes = and-first _ (sound t) (q .2) },
-              and-second (leb (tableRows (orderOf t)) (length t)) _ (q .1),
-              and-second (sizesPass (orderOf t) (builtOf t) (liveOf t)) _ (q .2),
-            ))
-      ]
+pub framed : (t : Table) → frameRefusal t ≡ 0 → Framed t
+framed t e =
+    let a = unless-zero (validOrder (orderOf t) && validSpace (tableSpace t)) badTable _ (omega arith) (sym (frame-tests t (frame-rows t e)) ∙ e) in
+    let b = unless-zero (leb (tableRows (orderOf t)) (length t)) shortArea 0 (omega arith) (a .1) in
+    record {
+      order = order-most (orderOf t) (and-first _ _ (a .0));
+      space = and-second (validOrder (orderOf t)) _ (a .0);
+      long = leb-true (tableRows (orderOf t)) (length t) (b .0);
+    }
 
 pub read-passed : (t : Table) → readRefusal t ≡ 0 → Passed t
 unfolding readRefusal
-read-passed t e = passed (λ u. true) (λ u. true) t e .0
+read-passed t e =
+    let a = or-zero (frameRefusal t) _ e in
+    record { framed = framed t (a .0); sizes = unless-zero (headerPasses t) badTable 0 (omega arith) (a .1) .0 }
+
+pub change-passed : (rows : ℕ) (t : Table) → changeRefusal rows t ≡ 0 → Passed t × (leb (workRows (orderOf t)) rows ≡ true) × (marksPass t ≡ true)
+unfolding changeRefusal
+change-passed rows t e =
+    let a = or-zero (frameRefusal t) _ e in
+    let b = unless-zero (leb (workRows (orderOf t)) rows) shortArea _ (omega arith) (a .1) in
+    let c = unless-zero (headerPasses t) badTable _ (omega arith) (b .1) in
+    (record { framed = framed t (a .0); sizes = c .0 }, b .0, unless-zero (marksPass t) badTable 0 (omega arith) (c .1) .0)

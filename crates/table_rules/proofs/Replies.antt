@@ -2,19 +2,22 @@
 use Prim.Native.Nat.{ℕ, zero, suc, _-_, _≤_, _<_}
 use native.Mathlib.Omega.{arith}
 use mathlib.Core.Path.{_≡_, refl, sym, ap, _∙_}
-use mathlib.Core.Bool.{Bool, true, false}
+use mathlib.Core.Bool.{Bool, true, false, _&&_}
 use mathlib.Core.List.{List, [], _∷_, _++_}
 use lib.ListN.{length, replicate}
-use lib.Dec.{eqb}
+use lib.Dec.{leb, eqb}
 use borrow.Author.Tests.{le-leb, lt-leb, ne-eqb}
 use Rattle.metric_rules.specs.declared.Profile.{Profile}
 use Rattle.metric_rules.specs.Validity.{validMeasures}
+use Rattle.metric_rules.specs.Distance.{validSpace}
 use Rattle.search_rules.specs.Range.{Entry}
-use Rattle.table_rules.specs.Refusals.{badMeasure, noCount, noRoom, shortArea, unless, when, orElse}
-use Rattle.table_rules.specs.Table.{Table}
-use Rattle.table_rules.specs.Checks.{readRefusal}
+use Rattle.table_rules.specs.Refusals.{badMeasure, noCount, noRoom, shortArea, badTable, unless, when, orElse}
+use Rattle.table_rules.specs.Geometry.{validOrder, tableRows}
+use Rattle.table_rules.specs.Table.{Table, orderOf, tableSpace}
+use Rattle.table_rules.specs.Checks.{frameRefusal, headerPasses, readRefusal}
 use Rattle.table_rules.specs.Search.{Answer, fitRefusal, rangeAnswer, nearestAnswer, rangeRefusal, nearestRefusal, searchReply, resultAfter, zeroEntry}
-use Rattle.table_rules.proofs.Passing.{stopBy, table-stop, none-stop}
+use Rattle.table_rules.proofs.Chains.{stops-first, or-not, unless-not}
+use Rattle.table_rules.proofs.Passing.{no-frame, frame-tests}
 
 -- a refused search returns its number and zeros, and leaves its area as it was unless the area was too short
 pub refused-reply : (n : ℕ) → (n ≡ 0 → ⊥) → (a : Answer) → searchReply n a ≡ record { refusal = n; found = 0; distances = 0 }
@@ -40,17 +43,17 @@ unfolding searchReply
 accepted-reply a = refl
 
 -- the tests of a table never say 6
-stops : (a b c : Bool) → stopBy a b c ≡ noRoom → ⊥
-unfolding stopBy
-stops false b c e = omega arith
-stops true false c e = omega arith
-stops true true false e = omega arith
-stops true true true e = omega arith
+frame-not-short : (t : Table) → frameRefusal t ≡ noRoom → ⊥
+frame-not-short [] e = let z : shortArea ≡ noRoom = sym (no-frame [] refl) ∙ e in omega arith
+frame-not-short (r ∷ rs) e =
+    unless-not (validOrder (orderOf (r ∷ rs)) && validSpace (tableSpace (r ∷ rs))) badTable _ noRoom (λ f z. omega arith)
+    (unless-not (leb (tableRows (orderOf (r ∷ rs))) (length (r ∷ rs))) shortArea 0 noRoom (λ f z. omega arith) (λ z. omega arith))
+    (sym (frame-tests (r ∷ rs) (omega arith)) ∙ e)
 
 pub not-short : (t : Table) → readRefusal t ≡ noRoom → ⊥
 unfolding readRefusal
-not-short [] e = let z : shortArea ≡ noRoom = sym (none-stop (λ v. true) (λ v. true) [] refl) ∙ e in omega arith
-not-short (r ∷ rs) e = stops _ _ _ (sym (table-stop (λ v. true) (λ v. true) (r ∷ rs) (omega arith)) ∙ e)
+not-short t e =
+    or-not (frameRefusal t) _ noRoom (frame-not-short t) (unless-not (headerPasses t) badTable 0 noRoom (λ f z. omega arith) (λ z. omega arith)) e
 
 -- 6 or none, by the entries and the area
 pub fit-held : (area : List Entry) (a : Answer) → length (a .entries) ≤ length area → fitRefusal area a ≡ 0
@@ -84,15 +87,11 @@ module _ (area : List Entry) (a : Answer) (m : ℕ) where
       )
 
 -- which test stops a search
-stopped : (n : ℕ) (rest : ℕ) → (n ≡ 0 → ⊥) → orElse n rest ≡ n
-stopped zero rest some = absurd (some refl)
-stopped (suc n) rest some = refl
-
 module _ (t : Table) (area : List Entry) (query : Profile) where
   module _ (radius : ℕ) where
     pub range-stopped : (readRefusal t ≡ 0 → ⊥) → rangeRefusal t area query radius ≡ readRefusal t
     unfolding rangeRefusal
-    range-stopped some = stopped (readRefusal t) _ some
+    range-stopped some = stops-first (readRefusal t) _ some
 
     range-goes : (b : Bool) → readRefusal t ≡ 0 → validMeasures query ≡ b
         → rangeRefusal t area query radius ≡ unless b badMeasure (fitRefusal area (rangeAnswer t query radius))
@@ -110,7 +109,7 @@ module _ (t : Table) (area : List Entry) (query : Profile) where
   module _ (k : ℕ) where
     pub nearest-stopped : (readRefusal t ≡ 0 → ⊥) → nearestRefusal t area query k ≡ readRefusal t
     unfolding nearestRefusal
-    nearest-stopped some = stopped (readRefusal t) _ some
+    nearest-stopped some = stops-first (readRefusal t) _ some
 
     nearest-goes : (b z : Bool) → readRefusal t ≡ 0 → validMeasures query ≡ b → eqb k 0 ≡ z
         → nearestRefusal t area query k ≡ unless b badMeasure (when z noCount (fitRefusal area (nearestAnswer t query k)))

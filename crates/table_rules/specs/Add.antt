@@ -19,7 +19,7 @@ use Rattle.table_rules.specs.LookUp.{isLiveTag}
 -- RULES 14.4, after 23 and 24: 1, 2, 20, 22
 unfoldable pub addRefusal : Table → List Row → ℕ → Profile → ℕ
 addRefusal t work tag p =
-    orElse (changeRefusal work t)
+    orElse (changeRefusal (length work) t)
     (unless (validTag tag) badTag
     (unless (validMeasures p) badMeasure
     (when (isLiveTag t tag) alreadyLive

@@ -1,15 +1,16 @@
 -- RULES 14.5, 14.6, refusals 23 and 24: which lent tables and work areas a call goes on with.
 use Prim.Native.Nat.{ℕ, _*_}
-use mathlib.Core.Bool.{Bool, true, false, _&&_, _||_}
+use mathlib.Core.Bool.{Bool, _&&_, _||_}
 use mathlib.Core.List.{List, [], _∷_, map}
 use lib.ListN.{length}
 use lib.Dec.{leb, ltb, eqb}
-use Rattle.lists.specs.Lists.{every, total}
-use Rattle.metric_rules.specs.Row.{Row, markOf}
+use Rattle.lists.specs.Lists.{every, select, total}
+use Rattle.metric_rules.specs.Row.{Row, isLive}
+use Rattle.metric_rules.specs.Validity.{validMark}
 use Rattle.metric_rules.specs.Distance.{validSpace}
-use Rattle.table_rules.specs.Refusals.{shortArea, badTable, unless}
+use Rattle.table_rules.specs.Refusals.{shortArea, badTable, unless, orElse}
 use Rattle.table_rules.specs.Geometry.{validOrder, room, bucketsOf, tableRows, workRows}
-use Rattle.table_rules.specs.Table.{Table, orderOf, tableSpace, builtOf, liveOf, slotsOf, liveSlots}
+use Rattle.table_rules.specs.Table.{Table, orderOf, tableSpace, builtOf, liveOf, slotsOf}
 
 -- RULES 5.3, a bucket's sizes: both 0, or live ≤ built ≤ 2^k, 2·built > 2^k and 4·live > 2^k
 unfoldable pub sizePasses : ℕ → ℕ → ℕ → Bool
@@ -22,26 +23,43 @@ unfoldable pub sizesPass : ℕ → (ℕ → ℕ) → (ℕ → ℕ) → Bool
 sizesPass order built live =
     every (λ k. sizePasses k (built k) (live k)) (bucketsOf order) && leb (total (map live (bucketsOf order))) (room order)
 
--- RULES 14.6: every built slot's mark is 0 or 1, and the 0 marks of each bucket number its live size
-unfoldable pub marksPass : Table → Bool
-marksPass t =
-    every (λ k. every (λ row. leb (markOf row) 1) (slotsOf t k) && eqb (length (liveSlots t k)) (liveOf t k)) (bucketsOf (orderOf t))
+-- some slots' 0 marks number the live size that their bucket says
+abbrev pub liveSizeHolds : List Row → ℕ → Bool
+liveSizeHolds slots live = eqb (length (select isLive slots)) live
 
--- RULES 14.5, what stops any call on a lent table: no rows 23, order or metric 24, a short area 23, sizes 24.
--- `roomy` and `sound` are what the call asks besides: of its other areas (23) and of the slots (24)
-unfoldable pub tableRefusal : (Table → Bool) → (Table → Bool) → Table → ℕ
-tableRefusal roomy sound [] = shortArea
-tableRefusal roomy sound (r ∷ rs) =
+-- every mark of a bucket's slots is 0 or 1, and its live size holds
+abbrev pub slotsMarked : List Row → ℕ → Bool
+slotsMarked slots live = every validMark slots && liveSizeHolds slots live
+
+-- the marks of every bucket
+unfoldable pub marksPass : Table → Bool
+marksPass t = every (λ k. slotsMarked (slotsOf t k) (liveOf t k)) (bucketsOf (orderOf t))
+
+-- the frame of a lent table: no rows 23, order or metric 24, fewer rows than its order needs 23
+unfoldable pub frameRefusal : Table → ℕ
+frameRefusal [] = shortArea
+frameRefusal (r ∷ rs) =
     let t = r ∷ rs in
     unless (validOrder (orderOf t) && validSpace (tableSpace t)) badTable
-    (unless (leb (tableRows (orderOf t)) (length t) && roomy t) shortArea
-    (unless (sizesPass (orderOf t) (builtOf t) (liveOf t) && sound t) badTable
-    0))
+    (unless (leb (tableRows (orderOf t)) (length t)) shortArea
+    0)
+
+-- what else a lent table holds in its header rows, tested behind every length: its sizes
+abbrev pub headerPasses : Table → Bool
+headerPasses t = sizesPass (orderOf t) (builtOf t) (liveOf t)
 
 -- RULES 14.5, for the calls that only read a table
 unfoldable pub readRefusal : Table → ℕ
-readRefusal t = tableRefusal (λ u. true) (λ u. true) t
+readRefusal t =
+    orElse (frameRefusal t)
+    (unless (headerPasses t) badTable
+    0)
 
--- RULES 14.5, for add and remove, which are lent a work area of 2^T rows and go by the marks
-unfoldable pub changeRefusal : List Row → Table → ℕ
-changeRefusal work t = tableRefusal (λ u. leb (workRows (orderOf u)) (length work)) marksPass t
+-- for add and remove, which are lent a work area of so many rows, 2^T or more, and go by the marks
+unfoldable pub changeRefusal : ℕ → Table → ℕ
+changeRefusal rows t =
+    orElse (frameRefusal t)
+    (unless (leb (workRows (orderOf t)) rows) shortArea
+    (unless (headerPasses t) badTable
+    (unless (marksPass t) badTable
+    0)))

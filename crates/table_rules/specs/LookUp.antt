@@ -38,13 +38,18 @@ find t tag = placeIn t tag (bucketsOf (orderOf t))
 unfoldable pub isLiveTag : Table → ℕ → Bool
 isLiveTag t tag = elim (find t tag) [ some place ↦ true | none ↦ false ]
 
--- RULES 14.4, after 23 and 24: 1, 21
+-- of a tag that has to be live, in look up and remove: 1, 21
+abbrev pub liveTagRefusal : Table → ℕ → ℕ
+liveTagRefusal t tag =
+    unless (validTag tag) badTag
+    (unless (isLiveTag t tag) notLive
+    0)
+
+-- 23 and 24, then the tag's
 unfoldable pub lookUpRefusal : Table → ℕ → ℕ
 lookUpRefusal t tag =
     orElse (readRefusal t)
-    (unless (validTag tag) badTag
-    (unless (isLiveTag t tag) notLive
-    0))
+    (liveTagRefusal t tag)
 
 -- RULES 14.2: a refusal has zeros in every other field
 unfoldable pub noProfile : Profile

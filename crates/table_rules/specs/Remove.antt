@@ -3,25 +3,22 @@ use Prim.Native.Nat.{ℕ, zero, suc, _+_, _-_, _*_}
 use mathlib.Core.Bool.{true, false}
 use mathlib.Core.List.{List, [], _∷_}
 use mathlib.Core.Option.{none, some}
-use lib.ListN.{set}
+use lib.ListN.{length, set}
 use lib.Dec.{ltb, eqb}
 use Rattle.metric_rules.specs.Row.{Row, withMark, zeroRow}
-use Rattle.metric_rules.specs.Validity.{validTag}
 use Rattle.table_rules.specs.declared.Removed.{Removed}
-use Rattle.table_rules.specs.Refusals.{badTag, notLive, unless, orElse}
+use Rattle.table_rules.specs.Refusals.{orElse}
 use Rattle.table_rules.specs.Geometry.{room, firstSlot, workRows}
 use Rattle.table_rules.specs.Table.{Table, orderOf, builtOf, liveOf, inUse, putSizes, emptied, cleared}
 use Rattle.table_rules.specs.Checks.{changeRefusal}
 use Rattle.table_rules.specs.Rebuild.{Rebuilt, liveItems, rebuilt}
-use Rattle.table_rules.specs.LookUp.{Place, find, isLiveTag}
+use Rattle.table_rules.specs.LookUp.{Place, find, liveTagRefusal}
 
--- RULES 14.4, after 23 and 24: 1, 21
+-- 23 and 24, then the tag's
 unfoldable pub removeRefusal : Table → List Row → ℕ → ℕ
 removeRefusal t work tag =
-    orElse (changeRefusal work t)
-    (unless (validTag tag) badTag
-    (unless (isLiveTag t tag) notLive
-    0))
+    orElse (changeRefusal (length work) t)
+    (liveTagRefusal t tag)
 
 -- RULES 9.2: the slot marked dead, and its bucket's live size one less
 unfoldable pub marked : Table → Place → Table

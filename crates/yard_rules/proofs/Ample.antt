@@ -2,36 +2,29 @@
 -- whose reply has at most 2^8 entries never by 6. Rows and rooms grow with the order, so what is enough for 8 is enough below it.
 use Prim.Native.Nat.{ℕ, suc, _≤_}
 use mathlib.Core.Path.{_≡_, refl, sym, _∙_}
-use mathlib.Core.Bool.{Bool, true, false, false≢true}
+use mathlib.Core.Bool.{Bool, true, false, _&&_, false≢true}
 use mathlib.Core.Logic.{_⊎_, inl, inr}
 use native.Mathlib.Omega.{arith}
 use native.Mathlib.Nat.{le-trans}
 use lib.Dec.{leb}
 use lib.ListN.{length}
 use borrow.Author.Tests.{le-leb, leb-true}
-use Rattle.lists.proofs.Tests.{and-pass}
 use Rattle.metric_rules.specs.Distance.{validSpace}
-use Rattle.table_rules.specs.Refusals.{badOrder, badMetric, shortArea, unless}
+use Rattle.table_rules.specs.Refusals.{badOrder, badMetric, shortArea, badTable, unless}
 use Rattle.table_rules.specs.Geometry.{validOrder, room, firstSlot, tableRows, workRows}
-use Rattle.table_rules.specs.Table.{Table, orderOf}
-use Rattle.table_rules.specs.Checks.{marksPass, tableRefusal, readRefusal, changeRefusal}
+use Rattle.table_rules.specs.Table.{orderOf, tableSpace}
+use Rattle.table_rules.specs.Checks.{marksPass, frameRefusal, headerPasses, readRefusal, changeRefusal}
 use Rattle.table_rules.specs.Fresh.{freshRefusal}
 use Rattle.table_rules.specs.Search.{Answer, fitRefusal}
 use Rattle.table_rules.proofs.Fill.{rooms-grow}
-use Rattle.table_rules.proofs.Passing.{stopBy, table-stop}
+use Rattle.table_rules.proofs.Chains.{or-not, unless-not}
+use Rattle.table_rules.proofs.Passing.{frame-tests}
 use Rattle.table_rules.proofs.Replies.{fit-held}
 use Rattle.yard_rules.specs.Conversation.{Areas, Ample, mostYardOrder, headerRefusal}
 
 rows-grow : {j k : ℕ} → j ≤ k → tableRows j ≤ tableRows k
 unfolding tableRows firstSlot
 rows-grow {j} {k} h = omega (arith, rooms-grow {j = suc j} {k = suc k} (omega arith))
-
-not-by-length : (header lengths sizes : Bool) → lengths ≡ true → stopBy header lengths sizes ≡ shortArea → ⊥
-unfolding stopBy
-not-by-length false lengths sizes e s = omega arith
-not-by-length true false sizes e s = absurd (false≢true e)
-not-by-length true true false e s = omega arith
-not-by-length true true true e s = omega arith
 
 -- 0, 3 or 4
 abbrev pub ByHeader : ℕ → Type 0
@@ -56,23 +49,29 @@ module _ {a : Areas} (ample : Ample a) where
     long : tableRows (orderOf (a .table)) ≤ length (a .table)
     long = le-trans (rows-grow few) (ample .table)
 
-    not-short : (roomy sound : Table → Bool) → roomy (a .table) ≡ true → tableRefusal roomy sound (a .table) ≡ shortArea → ⊥
+    frame-not-short : frameRefusal (a .table) ≡ shortArea → ⊥
     unfolding tableRows firstSlot
-    not-short roomy sound e s =
+    frame-not-short e =
         let t = a .table in
-        not-by-length _ _ _ (and-pass (leb (tableRows (orderOf t)) (length t)) (roomy t) (le-leb (tableRows (orderOf t)) (length t) long) e)
-        (sym (table-stop roomy sound t (omega (arith, long))) ∙ s)
+        unless-not (validOrder (orderOf t) && validSpace (tableSpace t)) badTable _ shortArea (λ f z. omega arith)
+        (unless-not (leb (tableRows (orderOf t)) (length t)) shortArea 0 shortArea (λ f z. false≢true (sym f ∙ le-leb (tableRows (orderOf t)) (length t) long)) (λ z. omega arith))
+        (sym (frame-tests t (omega (arith, long))) ∙ e)
 
     pub read-not-short : readRefusal (a .table) ≡ shortArea → ⊥
     unfolding readRefusal
-    read-not-short s = not-short (λ u. true) (λ u. true) refl s
+    read-not-short =
+        or-not (frameRefusal (a .table)) _ shortArea frame-not-short
+        (unless-not (headerPasses (a .table)) badTable 0 shortArea (λ f z. omega arith) (λ z. omega arith))
 
-    pub change-not-short : changeRefusal (a .work) (a .table) ≡ shortArea → ⊥
+    pub change-not-short : changeRefusal (length (a .work)) (a .table) ≡ shortArea → ⊥
     unfolding changeRefusal workRows
-    change-not-short s =
-        not-short (λ u. leb (workRows (orderOf u)) (length (a .work))) marksPass
-        (le-leb (workRows (orderOf (a .table))) (length (a .work)) (le-trans (rooms-grow few) (ample .work)))
-        s
+    change-not-short =
+        let t = a .table in
+        or-not (frameRefusal t) _ shortArea frame-not-short
+        (unless-not (leb (workRows (orderOf t)) (length (a .work))) shortArea _ shortArea
+        (λ f z. false≢true (sym f ∙ le-leb (workRows (orderOf t)) (length (a .work)) (le-trans (rooms-grow few) (ample .work))))
+        (unless-not (headerPasses t) badTable _ shortArea (λ f z. omega arith)
+        (unless-not (marksPass t) badTable 0 shortArea (λ f z. omega arith) (λ z. omega arith))))
 
   -- no more items than these are live at once in a table of such an order
   pub reply-fits : (answer : Answer) → length (answer .entries) ≤ room mostYardOrder → fitRefusal (a .result) answer ≡ 0

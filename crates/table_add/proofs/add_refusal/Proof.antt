@@ -2,7 +2,6 @@
 use borrow.Author.Needs.{needs}
 use native.Mathlib.Omega.{arith}
 use borrow.Author.Tests.{not-true, not-false}
-use Prim.Native.Nat.{ℕ}
 use mathlib.Core.Path.{_≡_, sym, _∙_}
 use mathlib.Core.Bool.{true, false}
 use mathlib.Core.List.{List}
@@ -10,23 +9,19 @@ use lib.Dec.{leb}
 use lib.ListN.{length}
 use Rattle.metric_rules.specs.Row.{Row}
 use Rattle.metric_rules.specs.Validity.{validTag, validMeasures}
-use Rattle.table_rules.specs.Geometry.{workRows}
-use Rattle.table_rules.specs.Table.{orderOf}
-use Rattle.table_rules.specs.Checks.{marksPass, tableRefusal, changeRefusal}
+use Rattle.table_rules.specs.Geometry.{room}
+use Rattle.table_rules.specs.Table.{orderOf, liveTotal}
+use Rattle.table_rules.specs.Checks.{changeRefusal}
 use Rattle.table_rules.specs.Passed.{Passed}
+use Rattle.table_rules.specs.LookUp.{isLiveTag}
 use Rattle.table_rules.proofs.Passing.{sizes-inside, framed-rows}
 use Rattle.table_rules.proofs.Fill.{changeable}
-use Rattle.table_add.proofs.Refusing.{full-test, refused-first, refused-tag, refused-measure, last-stopped}
+use Rattle.table_add.proofs.Refusing.{full-test, refused-first, refused-tag, refused-measure, refused-live, refused-full, not-refused}
 use Rattle.table_add.proofs.add_refusal.Statement.{statement}
 use Rattle.table_add.proofs.add_refusal.Tie as tie
 
--- the first test is that of the definition
-first : (c : tie.Start) (r : ℕ) → r ≡ tableRefusal (λ u. leb (workRows (orderOf u)) (length (c .args .work .now))) marksPass (c .args .table .now) → changeRefusal (c .args .work .now) (c .args .table .now) ≡ r
-unfolding changeRefusal
-first c r e = sym e
-
-past-first : (c : tie.Else1) → changeRefusal (c .before .before .args .work .now) (c .before .before .args .table .now) ≡ 0
-past-first c = first (c .before .before) (c .before .change-refusal .result) (c .before .change-refusal .ensures) ∙ c .if1 .left
+past-first : (c : tie.Else1) → changeRefusal (length (c .before .before .args .work .now)) (c .before .before .args .table .now) ≡ 0
+past-first c = sym (c .before .change-refusal .ensures) ∙ c .if1 .left
 
 passes : (c : tie.Else1) → Passed (c .before .before .args .table .now)
 passes c = changeable (c .before .before .args .work .now) (c .before .before .args .table .now) (past-first c) .passed
@@ -44,7 +39,7 @@ returns : tie.Need-returns
 returns c =
     let a = c .before .before .args in
     let f = c .before .change-refusal in
-    refused-first (a .table .now) (a .work .now) (a .tag) (a .profile) (f .result) (first (c .before .before) (f .result) (f .ensures)) (c .if1 .taken)
+    refused-first (a .table .now) (a .work .now) (a .tag) (a .profile) (f .result) (sym (f .ensures)) (c .if1 .taken)
 
 returns-2 : tie.Need-returns-2
 returns-2 c =
@@ -75,16 +70,42 @@ live-total-requires c κs =
       omega (arith, sizes-inside (orderOf t) (o .result .t) (omega (arith, o .ensures)), p .framed .long),
     )
 
+-- the last test compares the definition's numbers
+full-known :
+    (c : tie.After-live-total)
+    → let t = c .before .before .before .before .before .before .before .before .before .before .args .table .now in
+    leb (room (orderOf t)) (liveTotal t) ≡ leb (c .before .work-rows .result) (c .live-total .result)
+full-known c =
+    let o = c .before .before .order-in in
+    full-test (c .before .before .before .before .before .before .before .before .before .before .args .table .now) (o .result .t) (c .before .work-rows .result)
+    (c .live-total .result) (o .ensures) (c .before .work-rows .ensures) (c .live-total .ensures)
+
 returns-4 : tie.Need-returns-4
 returns-4 c =
     let a = c .before .before .before .before .before .before .before .before .before .before .before .args in
-    let o = c .before .before .before .order-in in
-    let w = c .before .before .work-rows in
-    let l = c .before .live-total in
-    let same = full-test (a .table .now) (o .result .t) (w .result) (l .result) (o .ensures) (w .ensures) (l .ensures) in
-    c .last-refusal .ensures
-    ∙ last-stopped (a .table .now) (a .work .now) (a .tag) (a .profile) (past-first (c .before .before .before .before .before .before .before .before .before)) (good-tag (c .before .before .before .before .before .before .before)) (good-measures (c .before .before .before .before .before))
-    (c .before .before .before .before .is-live-tag .ensures) (same .0) (same .1)
+    refused-live (a .table .now) (a .work .now) (a .tag) (a .profile) (past-first (c .before .before .before .before .before .before .before .before .before))
+    (good-tag (c .before .before .before .before .before .before .before)) (good-measures (c .before .before .before .before .before))
+    (sym (c .before .before .before .before .is-live-tag .ensures) ∙ c .if4 .taken)
+
+new : (c : tie.Else4)
+    → isLiveTag (c .before .before .before .before .before .before .before .before .before .before .before .args .table .now)
+    (c .before .before .before .before .before .before .before .before .before .before .before .args .tag)
+    ≡ false
+new c = sym (c .before .before .before .before .is-live-tag .ensures) ∙ c .if4 .left
+
+returns-5 : tie.Need-returns-5
+returns-5 c =
+    let at = c .before .before .before .before .before .before .before in
+    let a = at .before .before .before .before .before .args in
+    refused-full (a .table .now) (a .work .now) (a .tag) (a .profile) (past-first (at .before .before .before)) (good-tag (at .before)) (good-measures (c .before .before .before .before .before .before)) (new (c .before))
+    (full-known (c .before .before) ∙ c .if5 .taken)
+
+returns-6 : tie.Need-returns-6
+returns-6 c =
+    let at = c .before .before .before .before .before .before .before in
+    let a = at .before .before .before .before .before .args in
+    not-refused (a .table .now) (a .work .now) (a .tag) (a .profile) (past-first (at .before .before .before)) (good-tag (at .before)) (good-measures (c .before .before .before .before .before .before)) (new (c .before))
+    (full-known (c .before .before) ∙ c .if5 .left)
 
 pub add-refusal-spec : {M : Type 1} → statement M
 add-refusal-spec =
@@ -100,5 +121,6 @@ add-refusal-spec =
     order-in-requires
     work-rows-requires
     live-total-requires
-    (λ c κs. search needs)
-    returns-4)
+    returns-4
+    returns-5
+    returns-6)

@@ -3,31 +3,30 @@ use native.Mathlib.Omega.{arith}
 use Prim.Native.Nat.{ℕ}
 use borrow.Author.Tests.{not-true, not-false, lt-leb, le-leb}
 use mathlib.Core.Path.{_≡_, sym, _∙_, ap}
-use mathlib.Core.Bool.{Bool, true, false}
+use mathlib.Core.Bool.{true, false}
 use lib.Dec.{leb}
 use Rattle.table_rules.specs.Geometry.{workRows}
-use Rattle.table_rules.specs.Table.{Table, orderOf, builtOf, liveOf}
-use Rattle.table_rules.specs.Checks.{sizesPass, marksPass}
-use Rattle.table_checks.specs.Frame.{frameRefusal}
-use Rattle.table_checks.proofs.Framing.{some-rows, framed, sizes-asked, frame-stops, area-stops, sizes-stop, sound-decides}
+use Rattle.table_rules.specs.Table.{orderOf, builtOf, liveOf}
+use Rattle.table_rules.specs.Checks.{sizesPass, frameRefusal, changeRefusal}
+use Rattle.table_rules.proofs.Chains.{stops-first}
+use Rattle.table_rules.proofs.Passing.{frame-rows, framed}
+use Rattle.table_checks.proofs.Framing.{sizes-asked, area-stops, header-stops, marks-decide}
 use borrow.Author.Needs.{needs}
 use Rattle.table_checks.proofs.change_refusal.Statement.{statement}
 use Rattle.table_checks.proofs.change_refusal.Tie as tie
 
-abbrev roomy : ℕ → Table → Bool
-roomy rows t = leb (workRows (orderOf t)) rows
-
 returns : tie.Need-returns
+unfolding changeRefusal
 returns c =
     let a = c .before .before .args in
     let f = c .before .frame-refusal in
-    f .ensures ∙ frame-stops (roomy (a .rows)) marksPass (a .table .now) (λ z. c .if1 .taken (f .ensures ∙ z))
+    f .ensures ∙ sym (stops-first (frameRefusal (a .table .now)) _ (λ z. c .if1 .taken (f .ensures ∙ z)))
 
 stands : (c : tie.Else1) → frameRefusal (c .before .before .args .table .now) ≡ 0
 stands c = sym (c .before .frame-refusal .ensures) ∙ c .if1 .left
 
 order-in-requires : tie.Need-order-in-requires
-order-in-requires c κs = some-rows (c .before .before .args .table .now) (stands c)
+order-in-requires c κs = frame-rows (c .before .before .args .table .now) (stands c)
 
 work-rows-requires : tie.Need-work-rows-requires
 work-rows-requires c κs = omega (arith, c .order-in .ensures, framed (c .before .before .before .args .table .now) (stands (c .before)) .order)
@@ -35,7 +34,7 @@ work-rows-requires c κs = omega (arith, c .order-in .ensures, framed (c .before
 work-known : (c : tie.After-work-rows) → c .work-rows .result ≡ workRows (orderOf (c .before .before .before .before .args .table .now))
 work-known c = c .work-rows .ensures ∙ ap workRows (c .before .order-in .ensures)
 
-room-known : (c : tie.Else2) → let a = c .before .before .before .before .before .args in roomy (a .rows) (a .table .now) ≡ true
+room-known : (c : tie.Else2) → let a = c .before .before .before .before .before .args in leb (workRows (orderOf (a .table .now))) (a .rows) ≡ true
 room-known c =
     let a = c .before .before .before .before .before .args in
     le-leb (workRows (orderOf (a .table .now))) (a .rows) (omega (arith, work-known (c .before)))
@@ -44,7 +43,7 @@ returns-2 : tie.Need-returns-2
 returns-2 c =
     let at = c .before .before .before in
     let a = at .before .before .args in
-    sym (area-stops (roomy (a .rows)) marksPass (a .table .now) (stands at) (lt-leb (workRows (orderOf (a .table .now))) (a .rows) (omega (arith, work-known (c .before)))))
+    sym (area-stops (a .table .now) (stands at) (a .rows) (lt-leb (workRows (orderOf (a .table .now))) (a .rows) (omega (arith, work-known (c .before)))))
 
 sizes-pass-requires : tie.Need-sizes-pass-requires
 sizes-pass-requires c κs =
@@ -65,7 +64,7 @@ returns-3 : tie.Need-returns-3
 returns-3 c =
     let at = c .before .before .before .before .before in
     let a = at .before .before .args in
-    sym (sizes-stop (roomy (a .rows)) marksPass (a .table .now) (stands at) (room-known (c .before .before)) (sizes-tested (c .before) ∙ not-true (c .before .sizes-pass .result) (c .if3 .taken)))
+    sym (header-stops (a .table .now) (stands at) (a .rows) (room-known (c .before .before)) (sizes-tested (c .before) ∙ not-true (c .before .sizes-pass .result) (c .if3 .taken)))
 
 marks-pass-requires : tie.Need-marks-pass-requires
 marks-pass-requires c κs =
@@ -76,14 +75,14 @@ returns-4 : tie.Need-returns-4
 returns-4 c =
     let at = c .before .before .before .before .before .before .before in
     let a = at .before .before .args in
-    sym (sound-decides (roomy (a .rows)) marksPass (a .table .now) false (stands at) (room-known (c .before .before .before .before)) (sizes-passed (c .before .before))
+    sym (marks-decide (a .table .now) (stands at) (a .rows) false (room-known (c .before .before .before .before)) (sizes-passed (c .before .before))
     (sym (c .before .marks-pass .ensures) ∙ not-true (c .before .marks-pass .result) (c .if4 .taken)))
 
 returns-5 : tie.Need-returns-5
 returns-5 c =
     let at = c .before .before .before .before .before .before .before in
     let a = at .before .before .args in
-    sym (sound-decides (roomy (a .rows)) marksPass (a .table .now) true (stands at) (room-known (c .before .before .before .before)) (sizes-passed (c .before .before))
+    sym (marks-decide (a .table .now) (stands at) (a .rows) true (room-known (c .before .before .before .before)) (sizes-passed (c .before .before))
     (sym (c .before .marks-pass .ensures) ∙ not-false (c .before .marks-pass .result) (c .if4 .left)))
 
 pub change-refusal-spec : {M : Type 1} → statement M

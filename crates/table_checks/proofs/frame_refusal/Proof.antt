@@ -9,9 +9,10 @@ use Rattle.metric_rules.specs.Distance.{validSpace}
 use Rattle.table_rules.specs.Geometry.{validOrder, headerRow, tableRows}
 use Rattle.table_rules.specs.Table.{rowAt, orderOf, tableSpace}
 use Rattle.table_rules.proofs.Buckets.{order-valid}
+use Rattle.table_rules.proofs.Passing.{no-frame}
 use Rattle.table_order.specs.Answers.{answerOf}
 use Rattle.table_order.proofs.Orders.{is-order, no-order}
-use Rattle.table_checks.proofs.Framing.{no-rows, space-breaks, order-breaks, too-short, frame-stands}
+use Rattle.table_checks.proofs.Framing.{space-breaks, order-breaks, too-short, frame-stands}
 use borrow.Author.Needs.{needs}
 use Rattle.table_checks.proofs.frame_refusal.Statement.{statement}
 use Rattle.table_checks.proofs.frame_refusal.Tie as tie
@@ -36,7 +37,7 @@ order-known c =
     (is .0 ∙ n .ensures, omega (arith, is .1, n .ensures))
 
 returns : tie.Need-returns
-returns c = sym (no-rows (c .before .args .table .now) (c .if1 .taken))
+returns c = sym (no-frame (c .before .args .table .now) (c .if1 .taken))
 
 returns-2 : tie.Need-returns-2
 returns-2 c =

@@ -6,11 +6,10 @@ use mathlib.Core.Path.{_≡_, sym, _∙_, ap, ap₂}
 use mathlib.Core.Bool.{Bool}
 use Rattle.lists.specs.Lists.{every}
 use Rattle.table_rules.specs.Geometry.{bucketsOf}
-use Rattle.table_rules.specs.Table.{Table, orderOf, liveOf, slotsOf, liveSlots}
-use Rattle.table_rules.specs.Checks.{marksPass}
+use Rattle.table_rules.specs.Table.{Table, orderOf, liveOf, slotsOf}
+use Rattle.table_rules.specs.Checks.{slotsMarked, marksPass}
 use Rattle.table_rules.proofs.Buckets.{bucketsFrom, buckets-all, bucket-fails, bucket-passes, buckets-pass}
 use Rattle.table_rules.proofs.Passing.{sizes-inside, slots-asked}
-use Rattle.table_checks.specs.Frame.{slotsMarked}
 use borrow.Author.Needs.{needs}
 use Rattle.table_checks.proofs.marks_pass.Statement.{statement}
 use Rattle.table_checks.proofs.marks_pass.Tie as tie
@@ -19,7 +18,7 @@ abbrev marked : Table → ℕ → Bool
 marked t k = slotsMarked (slotsOf t k) (liveOf t k)
 
 all-marked : (t : Table) (n : ℕ) → n ≡ orderOf t → every (marked t) (bucketsOf n) ≡ marksPass t
-unfolding marksPass slotsMarked liveSlots
+unfolding marksPass
 all-marked t n e = ap (λ (o : ℕ). every (marked t) (bucketsOf o)) e
 
 abbrev Inv-loop : tie.InvT-loop

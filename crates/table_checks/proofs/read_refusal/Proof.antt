@@ -1,31 +1,29 @@
 -- `table_checks::read_refusal` meets its contract: the frame, then the sizes.
 use Prim.Native.Nat.{ℕ}
 use borrow.Author.Tests.{not-true, not-false}
-use mathlib.Core.Path.{_≡_, refl, sym, _∙_, ap}
-use mathlib.Core.Bool.{Bool, true}
-use Rattle.table_rules.specs.Table.{Table, orderOf, builtOf, liveOf}
-use Rattle.table_rules.specs.Checks.{sizesPass, readRefusal}
-use Rattle.table_checks.specs.Frame.{frameRefusal}
-use Rattle.table_checks.proofs.Framing.{some-rows, sizes-asked, frame-stops, sizes-stop, sound-decides}
+use mathlib.Core.Path.{_≡_, sym, _∙_, ap}
+use mathlib.Core.Bool.{true, false}
+use Rattle.table_rules.specs.Table.{orderOf, builtOf, liveOf}
+use Rattle.table_rules.specs.Checks.{sizesPass, frameRefusal, readRefusal}
+use Rattle.table_rules.proofs.Chains.{stops-first}
+use Rattle.table_rules.proofs.Passing.{frame-rows}
+use Rattle.table_checks.proofs.Framing.{sizes-asked, read-decided}
 use borrow.Author.Needs.{needs}
 use Rattle.table_checks.proofs.read_refusal.Statement.{statement}
 use Rattle.table_checks.proofs.read_refusal.Tie as tie
-
-abbrev always : Table → Bool
-always t = true
 
 returns : tie.Need-returns
 unfolding readRefusal
 returns c =
     let t = c .before .before .args .table .now in
     let f = c .before .frame-refusal in
-    f .ensures ∙ frame-stops always always t (λ z. c .if1 .taken (f .ensures ∙ z))
+    f .ensures ∙ sym (stops-first (frameRefusal t) _ (λ z. c .if1 .taken (f .ensures ∙ z)))
 
 stands : (c : tie.Else1) → frameRefusal (c .before .before .args .table .now) ≡ 0
 stands c = sym (c .before .frame-refusal .ensures) ∙ c .if1 .left
 
 order-in-requires : tie.Need-order-in-requires
-order-in-requires c κs = some-rows (c .before .before .args .table .now) (stands c)
+order-in-requires c κs = frame-rows (c .before .before .args .table .now) (stands c)
 
 sizes-pass-requires : tie.Need-sizes-pass-requires
 sizes-pass-requires c κs = sizes-asked (c .before .before .before .args .table .now) (stands (c .before)) (c .order-in .result .t) (c .order-in .ensures)
@@ -37,16 +35,14 @@ sizes-tested c =
     ap (λ (o : ℕ). sizesPass o (builtOf t) (liveOf t)) (sym (c .before .order-in .ensures)) ∙ sym (c .sizes-pass .ensures)
 
 returns-2 : tie.Need-returns-2
-unfolding readRefusal
 returns-2 c =
     let at = c .before .before .before in
-    sym (sizes-stop always always (at .before .before .args .table .now) (stands at) refl (sizes-tested (c .before) ∙ not-true (c .before .sizes-pass .result) (c .if2 .taken)))
+    sym (read-decided (at .before .before .args .table .now) (stands at) false (sizes-tested (c .before) ∙ not-true (c .before .sizes-pass .result) (c .if2 .taken)))
 
 returns-3 : tie.Need-returns-3
-unfolding readRefusal
 returns-3 c =
     let at = c .before .before .before in
-    sym (sound-decides always always (at .before .before .args .table .now) true (stands at) refl (sizes-tested (c .before) ∙ not-false (c .before .sizes-pass .result) (c .if2 .left)) refl)
+    sym (read-decided (at .before .before .args .table .now) (stands at) true (sizes-tested (c .before) ∙ not-false (c .before .sizes-pass .result) (c .if2 .left)))
 
 pub read-refusal-spec : {M : Type 1} → statement M
 read-refusal-spec =

@@ -8,19 +8,16 @@ use borrow.Author.Tests.{le-leb, lt-leb, eq-eqb, ne-eqb}
 use mathlib.Core.Path.{_≡_, refl, sym, _∙_, ap}
 use mathlib.Core.Bool.{Bool, true, false, _&&_}
 use mathlib.Core.List.{List, [], _∷_}
-use lib.Dec.{leb, eqb}
+use lib.Dec.{eqb}
 use lib.ListN.{length, drop, getD, drop-of-length-le}
 use lib.Seq.{drop-cons}
 use Rattle.lists.specs.Lists.{every, select}
 use Rattle.lists.proofs.Tests.{scan-fails, scan-passes, scan-ends}
 use Rattle.metric_rules.specs.Row.{Row, markOf, isLive}
-use Rattle.table_checks.specs.Frame.{slotsMarked}
+use Rattle.metric_rules.specs.Validity.{validMark}
 use borrow.Author.Needs.{needs}
 use Rattle.table_checks.proofs.slots_marked.Statement.{statement}
 use Rattle.table_checks.proofs.slots_marked.Tie as tie
-
-abbrev low : Row → Bool
-low row = leb (markOf row) 1
 
 -- a slot with a mark of 0 or 1 adds 1 less its mark to the live ones
 module _ (r : Row) (rs : List Row) where
@@ -51,7 +48,7 @@ module _ (slots : List Row) (i : ℕ) where
 abbrev Inv-loop : tie.InvT-loop
 Inv-loop slots live found₀ i₀ found i =
     (i ≤ length slots) × (found ≤ i)
-    × (every low (drop i slots) ≡ every low slots)
+    × (every validMark (drop i slots) ≡ every validMark slots)
     × (found + length (select isLive (drop i slots)) ≡ length (select isLive slots))
 
 abbrev μ-loop : tie.MeasureT-loop
@@ -67,12 +64,11 @@ shared-slice-copy-out-mark-of : tie.Need-shared-slice-copy-out-mark-of Inv-loop 
 shared-slice-copy-out-mark-of c = omega arith
 
 returns : tie.Need-returns Inv-loop μ-loop
-unfolding slotsMarked
 returns c =
     let a = c .before .before .before .before .before .args in
     let l = c .before .before .before .before .loop in
     ap (λ (b : Bool). b && eqb (length (select isLive (a .slots .now))) (a .live))
-    (scan-fails low [] (a .slots .now) (l .i) (omega arith) (l .inv .2)
+    (scan-fails validMark [] (a .slots .now) (l .i) (omega arith) (l .inv .2)
     (lt-leb (markOf (getD (a .slots .now) (l .i) [])) 1 (omega (arith, c .before .mark-of .ensures))))
 
 add-found : tie.Need-add-found Inv-loop μ-loop
@@ -91,19 +87,18 @@ loop-again c =
     let m : markOf (getD (a .slots .now) (l .i) []) ≤ 1 = omega (arith, c .before .mark-of .ensures) in (
       omega arith,
       omega arith,
-      scan-passes low [] (a .slots .now) (l .i) (omega arith) (l .inv .2) (le-leb (markOf (getD (a .slots .now) (l .i) [])) 1 m),
+      scan-passes validMark [] (a .slots .now) (l .i) (omega arith) (l .inv .2) (le-leb (markOf (getD (a .slots .now) (l .i) [])) 1 m),
       omega (arith, live-next (a .slots .now) (l .i) (omega arith) m, c .before .mark-of .ensures, l .inv .3),
     )
 
 returns-2 : tie.Need-returns-2 Inv-loop μ-loop
-unfolding slotsMarked
 returns-2 c =
     let a = c .before .before .args in
     let l = c .before .loop in
     let none : length (select isLive (drop (l .i) (a .slots .now))) ≡ 0 = none-left (a .slots .now) (l .i) (omega arith) in
     let all : l .found ≡ length (select isLive (a .slots .now)) = omega (arith, l .inv .3) in
     ap (λ (n : ℕ). eqb n (a .live)) all
-    ∙ ap (λ (b : Bool). b && eqb (length (select isLive (a .slots .now))) (a .live)) (scan-ends low (a .slots .now) (l .i) (omega arith) (l .inv .2))
+    ∙ ap (λ (b : Bool). b && eqb (length (select isLive (a .slots .now))) (a .live)) (scan-ends validMark (a .slots .now) (l .i) (omega arith) (l .inv .2))
 
 pub slots-marked-spec : {M : Type 1} → statement M
 slots-marked-spec =

@@ -7,13 +7,12 @@ use mathlib.Core.Path.{_≡_, sym, _∙_, ap, subst⁻¹}
 use mathlib.Core.Bool.{true}
 use mathlib.Core.List.{List, []}
 use mathlib.Core.Option.{some}
-use lib.Dec.{leb}
 use lib.ListN.{length, getD}
 use Rattle.metric_rules.specs.Row.{Row, rowWidth, zeroRow}
 use Rattle.metric_rules.specs.Validity.{validTag}
 use Rattle.table_rules.specs.Geometry.{firstSlot, workRows}
 use Rattle.table_rules.specs.Table.{rowAt, orderOf, slotsOf, cleared}
-use Rattle.table_rules.specs.Checks.{marksPass, tableRefusal, changeRefusal}
+use Rattle.table_rules.specs.Checks.{changeRefusal}
 use Rattle.table_rules.specs.LookUp.{Place, find}
 use Rattle.table_rules.specs.Remove.{marked, shrunk}
 use Rattle.table_rules.proofs.Passing.{framed-rows}
@@ -27,13 +26,8 @@ use Rattle.table_remove.proofs.Refusing.{refused-first, refused-tag, re
 use Rattle.table_remove.proofs.remove.Statement.{statement}
 use Rattle.table_remove.proofs.remove.Tie as tie
 
--- the first test is that of the definition
-first : (c : tie.Start) (r : ℕ) → r ≡ tableRefusal (λ u. leb (workRows (orderOf u)) (length (c .args .work .now))) marksPass (c .args .table .now) → changeRefusal (c .args .work .now) (c .args .table .now) ≡ r
-unfolding changeRefusal
-first c r e = sym e
-
-past-first : (c : tie.Else1) → changeRefusal (c .before .before .before .args .work .now) (c .before .before .before .args .table .now) ≡ 0
-past-first c = first (c .before .before .before) (c .before .change-refusal .result) (c .before .change-refusal .ensures) ∙ c .if1 .left
+past-first : (c : tie.Else1) → changeRefusal (length (c .before .before .before .args .work .now)) (c .before .before .before .args .table .now) ≡ 0
+past-first c = sym (c .before .change-refusal .ensures) ∙ c .if1 .left
 
 change : (c : tie.Else1) → Changeable (c .before .before .before .args .work .now) (c .before .before .before .args .table .now)
 change c = changeable (c .before .before .before .args .work .now) (c .before .before .before .args .table .now) (past-first c)
@@ -80,7 +74,7 @@ returns : tie.Need-returns
 returns c =
     let a = c .before .before .before .before .args in
     let f = c .before .before .change-refusal in
-    let r = refused-first (a .table .now) (a .work .now) (a .tag) (f .result) (first (c .before .before .before .before) (f .result) (f .ensures)) (c .before .if1 .taken) in
+    let r = refused-first (a .table .now) (a .work .now) (a .tag) (f .result) (sym (f .ensures)) (c .before .if1 .taken) in
     (c .refused .ensures ∙ r .0, (r .1, r .2))
 
 returns-2 : tie.Need-returns-2
