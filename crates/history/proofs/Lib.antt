@@ -25,6 +25,7 @@ mod ImagesFit
 mod ImagesLoaded
 mod ImagesWritten
 mod ImagesBack
+mod Ordering
 mod RefinesLists
 mod RefinesSearch
 mod RefinesTable

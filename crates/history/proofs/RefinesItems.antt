@@ -12,7 +12,8 @@ use Rattle.lists.proofs.Tests.{and-second, every-all}
 use Rattle.metric_rules.specs.declared.Profile.{Profile}
 use Rattle.metric_rules.specs.Row.{tagOf}
 use Rattle.metric_rules.specs.Distance.{Space, distance}
-use Rattle.search_rules.specs.Range.{Entry, entry, entryOf, toQuery}
+use Rattle.search_rules.specs.Range.{Entry, entry, ordered, entryOf, toQuery}
+use Rattle.search_rules.specs.Nearest.{keep}
 use Rattle.search_rules.proofs.Keep.{keep-permuted}
 use Rattle.table_rules.specs.Geometry.{bucketsOf}
 use Rattle.table_rules.proofs.ByNumber.{length-flatten}
@@ -56,7 +57,7 @@ module _ {t : Table} {m : Model} (matches : Matches t m) where
       ∙ within-permuted r (entries-same q) (entry-pairs (distance (tableSpace t)) q (liveItems t (bucketsOf (orderOf t))))
 
   pub nearest-alike : (q : Profile) (k : ℕ) → nearestAnswer t q k .entries ≡ modelNearest m q k
-  unfolding modelNearest
+  unfolding modelNearest keep ordered
   nearest-alike q k =
       nearest-scans (matches .invariant) q k
       ∙ keep-permuted k (entries-same q) (entry-pairs (distance (tableSpace t)) q (liveItems t (bucketsOf (orderOf t))))

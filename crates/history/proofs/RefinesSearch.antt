@@ -18,7 +18,8 @@ use Rattle.tree_rules.proofs.Sorting.{sort-permuted}
 use Rattle.tree_rules.proofs.InPlace.{is-layout-guided}
 use Rattle.search_rules.proofs.Selecting.{select-append}
 use Rattle.search_rules.proofs.RangeLaws.{range-hits}
-use Rattle.search_rules.proofs.Keep.{Kept, keep-kept, keep-of-kept, keep-absorbs, pairs-determined}
+use Rattle.search_rules.proofs.Ascending.{pairs-determined}
+use Rattle.search_rules.proofs.Keep.{Kept, keep-kept, keep-of-kept, keep-absorbs}
 use Rattle.search_rules.proofs.NearestLaws.{nearest-kept}
 use Rattle.history.proofs.RefinesLists.{select-all, select-both, select-map, select-perm}
 

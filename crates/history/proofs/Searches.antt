@@ -1,12 +1,13 @@
--- Searches worked by hand from RULES 11: equal bounds, dead and foreign slots, the three metrics, ties of rank, and the largest distance.
+-- Searches worked by hand from 01's "Searching": equal bounds, dead and foreign slots, the three metrics, ties of tag and of rank, and the largest distance.
 -- Each is a run that antt computes. A reply is refusal, found, distances and then each entry's tag and distance.
-use Prim.Native.Nat.{ℕ, _+_, _-_, _^_}
+use Prim.Native.Nat.{ℕ, _+_, _-_, _*_, _^_}
 use mathlib.Core.Path.{_≡_, refl}
 use mathlib.Core.List.{List, [], _∷_, map}
 use lib.IntN.{ℤ, pos, negsuc}
 use lib.ListN.{set}
 use Rattle.metric_rules.specs.declared.Profile.{Profile}
 use Rattle.metric_rules.specs.Row.{Row, word, rowOf, tagOf, thresholdOf, withThreshold, withMark}
+use Rattle.metric_rules.specs.Validity.{nationals}
 use Rattle.metric_rules.specs.Distance.{distance, measureDistance, largest, worstDistance}
 use Rattle.tree_rules.specs.Layout.{layout}
 use Rattle.table_rules.specs.Geometry.{firstSlot}
@@ -34,6 +35,10 @@ codes : Table
 unfolding after scratch tag coded
 codes = after scratch (fresh 1 (by 1) ∷ add (tag 1) (coded 0 0) ∷ add (tag 2) (coded (2 ^ 64 - 1) 1) ∷ [])
 
+tagIn : ℕ → ℕ → ℕ
+unfolding nationals
+tagIn country national = country * nationals + national
+
 measured : ℤ → ℤ → ℤ → ℤ → Profile
 measured a b c d = record { measures = a ∷ b ∷ c ∷ d ∷ []; code = 0 ∷ 0 ∷ [] }
 
@@ -47,8 +52,13 @@ worsts =
     ∷ add (tag 2) (measured (pos 3) (pos 5) (negsuc 6) (pos 1))
     ∷ [])
 
+-- two countries: national 9 of country 36 at 10, and national 1 of country 840 at 30
+countries : Table
+unfolding after scratch valued tagIn
+countries = after scratch (fresh 1 (by 0) ∷ add (tagIn 36 9) (valued 10) ∷ add (tagIn 840 1) (valued 30) ∷ [])
+
 searches : List (List (List ℕ))
-unfolding replies after scratch table four foreign coded codes measured worsts valued tag removing withThreshold withMark
+unfolding replies after scratch table four foreign coded codes measured worsts countries valued tag removing withThreshold withMark
 searches =
     replies table (range (valued 0) 4_294_967_295 ∷ nearest (valued 0) 9 ∷ nearest (valued 13) 2 ∷ [])
     ∷ replies (after scratch (fresh 2 (by 0) ∷ [])) (range (valued 0) 5 ∷ nearest (valued 0) 5 ∷ [])
@@ -62,6 +72,7 @@ searches =
     ∷ replies codes
     (range (coded 0 0) 64 ∷ range (coded 0 0) 65 ∷ nearest (coded (2 ^ 64 - 1) (2 ^ 64 - 1)) 1 ∷ [])
     ∷ replies worsts (range (valued 0) 6 ∷ range (valued 0) 7 ∷ nearest (measured (negsuc 3) (pos 5) (pos 0) (pos 0)) 1 ∷ [])
+    ∷ replies countries (range (valued 20) 10 ∷ nearest (valued 20) 1 ∷ [])
     ∷ []
 
 worked :
@@ -91,6 +102,8 @@ worked :
     ∷ ((0 ∷ 1 ∷ 2 ∷ tag 1 ∷ 0 ∷ []) ∷ (0 ∷ 2 ∷ 2 ∷ tag 1 ∷ 0 ∷ tag 2 ∷ 65 ∷ []) ∷ (0 ∷ 1 ∷ 2 ∷ tag 2 ∷ 63 ∷ []) ∷ [])
     -- metric 2: 7 is the largest of 3, 5, 7 and 1; from -4, 5, 0, 0 it is 5 to the zeros and 7 to the other
     ∷ ((0 ∷ 1 ∷ 2 ∷ tag 1 ∷ 0 ∷ []) ∷ (0 ∷ 2 ∷ 2 ∷ tag 1 ∷ 0 ∷ tag 2 ∷ 7 ∷ []) ∷ (0 ∷ 1 ∷ 2 ∷ tag 1 ∷ 5 ∷ []) ∷ [])
+    -- both at 10: the smaller tag is first, though its national is the larger one
+    ∷ ((0 ∷ 2 ∷ 2 ∷ 36_000_000_000_009 ∷ 10 ∷ 840_000_000_000_001 ∷ 10 ∷ []) ∷ (0 ∷ 1 ∷ 2 ∷ 36_000_000_000_009 ∷ 10 ∷ []) ∷ [])
     ∷ [])
 unfolding searches tag
 worked = refl

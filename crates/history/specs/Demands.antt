@@ -11,6 +11,7 @@ use lib.ListN.{length}
 use Rattle.lists.specs.Lists.{total, All}
 use Rattle.metric_rules.specs.declared.Profile.{Profile}
 use Rattle.metric_rules.specs.Distance.{distance}
+use Rattle.search_rules.specs.Range.{Ascending}
 use Rattle.search_rules.specs.Reached.{reached}
 use Rattle.table_rules.specs.Geometry.{tableRows}
 use Rattle.table_rules.specs.Table.{Table, tableSpace, slotsOf, liveSlots}
@@ -19,6 +20,7 @@ use Rattle.image_rules.specs.Read.{orderIn}
 use Rattle.history.specs.Calls.{Lent, replyTo}
 use Rattle.history.specs.Calls.Call.{load}
 use Rattle.history.specs.Calls.Reply.{number}
+use Rattle.history.specs.Model.{Model, modelRange, modelNearest}
 use Rattle.history.specs.History.{History, finalState, finalModel}
 use Rattle.history.specs.Images.{imageSize, LoadsBack, GivesBack}
 use Rattle.history.specs.Represents.{Holds}
@@ -37,6 +39,15 @@ CountsVisits =
 abbrev pub KeepsEnough : Type 0
 KeepsEnough =
     (t : Table) (query : Profile) (k : ℕ) → length (nearestAnswer t query k .entries) ≡ min k (total (map (λ b. length (liveSlots t b)) (bucketsDown t)))
+
+-- "By distance, then tag" in plain numbers: whatever the table holds, foreign ones too, and whatever is in the model, each entry of an answer has a smaller
+-- distance than the next, or the same distance and no larger tag.
+-- Theorem: `answers-ascend`
+abbrev pub AnswersAscend : Type 0
+AnswersAscend =
+    (t : Table) (m : Model) (query : Profile)
+    → ((radius : ℕ) → Ascending (rangeAnswer t query radius .entries) × Ascending (modelRange m query radius))
+    × ((k : ℕ) → Ascending (nearestAnswer t query k .entries) × Ascending (modelNearest m query k))
 
 -- Demands 2 and 3 (RULES 17.2 to 17.4, 17.6 to 17.8), one claim over every list of calls on one table, refused ones and herd lists read too, that an
 -- accepted fresh or load began (`History`): at each call table and reference model show the same; after the list the table is a valid one of the

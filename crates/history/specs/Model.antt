@@ -3,7 +3,7 @@
 use Prim.Native.Nat.{ℕ, zero, suc}
 use mathlib.Core.Bool.{Bool, true, false, not, _&&_}
 use mathlib.Core.List.{List, [], _∷_, map}
-use lib.ListN.{length}
+use lib.ListN.{length, take}
 use lib.Dec.{leb, eqb}
 use Rattle.lists.specs.Lists.{select}
 use Rattle.metric_rules.specs.declared.Profile.{Profile}
@@ -11,7 +11,6 @@ use Rattle.metric_rules.specs.Row.{Row, tagOf, profileOf}
 use Rattle.metric_rules.specs.Validity.{validTag, validMeasures}
 use Rattle.metric_rules.specs.Distance.{Space, distance}
 use Rattle.search_rules.specs.Range.{Entry, entry, entryDistance, ordered}
-use Rattle.search_rules.specs.Nearest.{keep}
 use Rattle.table_rules.specs.Refusals.{badTag, badMeasure, noCount, noRoom, alreadyLive, notLive, full, shortArea}
 use Rattle.table_rules.specs.Geometry.{room, tableRows, workRows}
 use Rattle.table_rules.specs.LookUp.{noProfile}
@@ -71,7 +70,7 @@ unfoldable pub modelRange : Model → Profile → ℕ → List Entry
 modelRange m q r = ordered (select (λ e. leb (entryDistance e) r) (scanned m q))
 
 unfoldable pub modelNearest : Model → Profile → ℕ → List Entry
-modelNearest m q k = keep k (scanned m q)
+modelNearest m q k = take k (ordered (scanned m q))
 
 -- RULES 16.3, 14.5: 23 for a short table area, in add and remove for a short work area too; then what comes after it
 unfoldable pub canRead : Model → Lengths → Bool

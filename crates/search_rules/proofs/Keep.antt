@@ -1,32 +1,19 @@
 -- `keep` is a fold of insertions, each cut to the first k: so it absorbs what was kept before, does not depend on the order of its list,
 -- and drops what is farther than the last of k kept. Entries are pairs, so two with the same key are the same.
 use Prim.Native.Nat.{ℕ, zero, suc, _≤_, _<_, min}
-use mathlib.Core.Path.{_≡_, refl, sym, ap, ap₂, _∙_}
-use mathlib.Core.Logic.{⊎-elim}
+use mathlib.Core.Path.{_≡_, refl, sym, ap, _∙_}
 use mathlib.Core.Bool.{Bool, true, false}
 use mathlib.Core.List.{List, [], _∷_, _++_, foldl, List·Permᴰ, List·Permᴰ·trans, Permᴰ·middle}
-use lib.ListN.{length, take, getD, length-take}
+use lib.ListN.{length, take, length-take}
 use lib.Seq.{take-take, take-all, take-at}
 use native.Mathlib.Omega.{arith}
 use Rattle.lists.specs.Lists.{All}
 use Rattle.lists.proofs.Lists.{all-weaken, all-always, all-append, all-take, all-perm, pairs-of-all, pairs-take}
 use Rattle.tree_rules.specs.Sorting.{keyLe, insertBy, sortBy}
-use Rattle.search_rules.specs.Range.{Entry, entry, entryDistance, entryKey, ordered, Pair}
+use Rattle.search_rules.specs.Range.{Entry, entryDistance, entryKey, ordered, Pair}
 use Rattle.search_rules.specs.Nearest.{keep, worst}
-use Rattle.tree_rules.proofs.Sorting.{NotAfter, Sorted, Determined, sort-perm, sort-length, sort-sorted, sort-of-sorted, sort-permuted, key-le-cases, insert-behind}
-
-pair-form : (e : Entry) → Pair e → e ≡ entry (getD e 0 0) (entryDistance e)
-unfolding entry entryDistance
-pair-form [] h = absurd (omega arith)
-pair-form (a ∷ []) h = absurd (omega arith)
-pair-form (a ∷ b ∷ []) h = refl
-pair-form (a ∷ b ∷ c ∷ e) h = absurd (omega arith)
-
--- two entries with the same key are the same
-pub pairs-determined : (x y : Entry) → Pair x → Pair y → Determined entryKey x y
-unfolding entryKey
-pairs-determined x y p q same =
-    pair-form x p ∙ ap₂ entry (ap (λ (k : List ℕ). getD k 1 0) same) (ap (λ (k : List ℕ). getD k 0 0) same) ∙ sym (pair-form y q)
+use Rattle.tree_rules.proofs.Sorting.{NotAfter, Sorted, sort-perm, sort-length, sort-sorted, sort-of-sorted, sort-permuted, insert-behind}
+use Rattle.search_rules.proofs.Ascending.{key-precedes, precedes-distance, pairs-determined}
 
 module _ {A : Type 0} (key : A → List ℕ) where
   -- of what is put in a list, its first k depend on the list's first k alone
@@ -98,9 +85,7 @@ keep-absorbs k xs ys h g =
     ∙ keep-permuted k (append-swap ys xs) (all-append Pair ys xs g h)
 
 not-after-distance : (x y : Entry) → NotAfter entryKey x y → entryDistance x ≤ entryDistance y
-unfolding entryKey
-not-after-distance x y h =
-    ⊎-elim (λ l. omega arith) (λ e. omega arith) (key-le-cases (entryDistance x) (entryDistance y) (getD x 0 0 ∷ []) (getD y 0 0 ∷ []) h)
+not-after-distance x y h = precedes-distance x y (key-precedes x y h)
 
 farther-after : (x y : Entry) → entryDistance y < entryDistance x → keyLe (entryKey x) (entryKey y) ≡ false
 farther-after x y h = go (keyLe (entryKey x) (entryKey y)) refl

@@ -2,6 +2,8 @@
 pub mod Selecting
 pub mod Pruning
 pub mod RangeLaws
+pub mod Ascending
 pub mod Keep
+pub mod Keeping
 pub mod NearestLaws
 pub mod Reaching

@@ -1,6 +1,7 @@
 -- RULES 11, range: the visit of one tree's slots with a fixed radius, and the reply's order.
-use Prim.Native.Nat.{ℕ, zero, suc, _+_}
+use Prim.Native.Nat.{ℕ, zero, suc, _+_, _≤_, _<_}
 use mathlib.Core.Path.{_≡_}
+use mathlib.Core.Logic.{_⊎_}
 use mathlib.Core.Bool.{Bool, true, false, _&&_}
 use mathlib.Core.List.{List, [], _∷_, _++_}
 use lib.ListN.{length, take, drop, getD}
@@ -21,17 +22,29 @@ Pair e = length e ≡ 2
 unfoldable pub entry : ℕ → ℕ → Entry
 entry tag d = tag ∷ d ∷ []
 
+unfoldable pub entryTag : Entry → ℕ
+entryTag e = getD e 0 0
+
 unfoldable pub entryDistance : Entry → ℕ
 entryDistance e = getD e 1 0
 
 -- RULES 11.10: entries stand by distance, then tag
 unfoldable pub entryKey : Entry → List ℕ
-unfolding entryDistance
-entryKey e = entryDistance e ∷ getD e 0 0 ∷ []
+unfolding entryDistance entryTag
+entryKey e = entryDistance e ∷ entryTag e ∷ []
 
 unfoldable pub ordered : List Entry → List Entry
 unfolding sortBy entryKey
 ordered es = sortBy entryKey es
+
+-- the same in plain numbers, without a key: an entry and the next one have a smaller distance and a larger, or the same distance and no smaller tag
+abbrev pub Precedes : Entry → Entry → Type 0
+Precedes x y = (entryDistance x < entryDistance y) ⊎ ((entryDistance x ≡ entryDistance y) × (entryTag x ≤ entryTag y))
+
+abbrev pub Ascending : List Entry → Type 0
+Ascending [] = Unit {0}
+Ascending (x ∷ []) = Unit {0}
+Ascending (x ∷ y ∷ es) = Precedes x y × Ascending (y ∷ es)
 
 -- RULES 11.3: left is entered if d ≤ m + r, right if d + r ≥ m; both sums are exact
 unfoldable pub entersLeft : ℕ → ℕ → ℕ → Bool
