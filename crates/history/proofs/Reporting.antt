@@ -1,15 +1,15 @@
--- What add and remove report, of whatever they are lent: c(n) for the n items that they built. By the sizes alone, for they are read and written whatever
+-- What add, remove and the lines of a herd list report, of whatever they are lent: c(n) for the n items that they built. By the sizes alone, for they are read and written whatever
 -- the slots hold: a row too short to be marked dead is gathered again, and a rebuild may then be of more rows than its bucket has room for.
 use Prim.Native.Nat.{ℕ, zero, suc, _+_, _-_, _*_, _≤_, _<_}
 use native.Mathlib.Omega.{arith}
 use native.Mathlib.Decide.{ℕ-discrete}
-use mathlib.Core.Path.{_≡_, refl, _∙_, ap}
+use mathlib.Core.Path.{_≡_, refl, _∙_, ap, ap₂}
 use mathlib.Core.Bool.{Bool, true, false}
 use mathlib.Core.Logic.{inl, inr}
 use mathlib.Core.List.{List, [], _∷_, flatten}
 use mathlib.Core.Option.{Option, none, some}
 use lib.Dec.{ltb, eqb}
-use lib.ListN.{length, length-append}
+use lib.ListN.{length, take, length-append}
 use borrow.Author.Tests.{ltb-true, ltb-false, eqb-false}
 use Rattle.lists.specs.Lists.{countFrom, select, All}
 use Rattle.lists.proofs.Lists.{all-weaken}
@@ -22,7 +22,7 @@ use Rattle.table_rules.specs.Table.{Table, orderOf, builtOf, liveOf, inUse, slo
 use Rattle.table_rules.specs.Rebuild.{Rebuilt, liveItems}
 use Rattle.table_rules.specs.Checks.{changeRefusal}
 use Rattle.table_rules.specs.LookUp.{Place, find}
-use Rattle.table_rules.specs.Add.{addRefusal, lowestEmpty, gathered, addTarget, added, addReply, tableAfterAdd}
+use Rattle.table_rules.specs.Add.{addRefusal, lowestEmpty, gathered, addTarget, added, addReply, tableAfterAdd, workAfterAdd}
 use Rattle.table_rules.specs.Remove.{removeRefusal, marked, united, rebuiltLower, shrunk, removed, removeReply, tableAfterRemove}
 use Rattle.table_rules.proofs.Views.{Only, only-own, only-fewer, same-order, kept-built, kept-live, kept-live-slots}
 use Rattle.table_rules.proofs.Puts.{held-built, apart-or, emptied-only, emptied-holds}
@@ -33,7 +33,10 @@ use Rattle.table_rules.proofs.Finding.{Found, found}
 use Rattle.table_rules.proofs.Sizes.{Used, size-in-use, sizes-at, room-zero, room-positive}
 use Rattle.table_rules.proofs.Adding.{Target, gathered-buckets, not-in-use}
 use Rattle.table_rules.proofs.Fill.{passed-roomy, Changeable, changeable, add-accepted, add-fits}
-use Rattle.history.specs.Reports.{builtIn, buildCost, ReportsBuilds}
+use Rattle.list_rules.specs.Lines.{ListLine, hasHeader, itemLines}
+use Rattle.list_rules.specs.Lines.ListLine.{anItem, malformed}
+use Rattle.list_rules.specs.ReadList.{Reading, badListHeader, stopped, oneMore, reading, listReading, readListReply}
+use Rattle.history.specs.Reports.{builtIn, buildCost, addsCost, ReportsBuilds}
 use Rattle.history.proofs.RefinesLists.{select-set}
 use Rattle.history.proofs.ReportingBuilds.{dead-not-built, kept-not-built, none-built, no-build, kept-reports, rebuild-reports}
 use Rattle.table_rules.proofs.Chains.{or-zero}
@@ -236,21 +239,63 @@ removed-reports t work tag accepted = go (find t tag) refl
     go (some place) e = shrunk-reports (changeable work t (or-zero (changeRefusal (length work) t) _ accepted .0)) tag place e
     go none e = kept-reports t
 
-pub reports : (t : Table) (work : List Row) → ReportsBuilds t work
-unfolding addReply tableAfterAdd removeReply tableAfterRemove
-reports t work = record { adds = λ tag p. adds tag p (addRefusal t work tag p) refl; removes = λ tag. removes tag (removeRefusal t work tag) refl }
+-- accepted or refused
+adds-report : (t : Table) (work : List Row) (tag : ℕ) (p : Profile) → addReply t work tag p .distances ≡ buildCost t (tableAfterAdd t work tag p)
+unfolding addReply tableAfterAdd
+adds-report t work tag p = go (addRefusal t work tag p) refl
   where
-    adds : (tag : ℕ) (p : Profile) (n : ℕ) → addRefusal t work tag p ≡ n
+    go : (n : ℕ) → addRefusal t work tag p ≡ n
         → (elim n as (λ _. Added) [
           | zero ↦ record { refusal = 0; bucket = addTarget t tag p; distances = added t tag p .distances }
           | suc j ↦ record { refusal = suc j; bucket = 0; distances = 0 }
         ]) .distances
         ≡ buildCost t (elim n as (λ _. Table) [ zero ↦ added t tag p .table | suc j ↦ t ])
-    adds tag p zero e = added-reports t work tag p e
-    adds tag p (suc n) e = kept-reports t
+    go zero e = added-reports t work tag p e
+    go (suc n) e = kept-reports t
 
-    removes : (tag n : ℕ) → removeRefusal t work tag ≡ n
+removes-report : (t : Table) (work : List Row) (tag : ℕ) → removeReply t work tag .distances ≡ buildCost t (tableAfterRemove t work tag)
+unfolding removeReply tableAfterRemove
+removes-report t work tag = go (removeRefusal t work tag) refl
+  where
+    go : (n : ℕ) → removeRefusal t work tag ≡ n
         → (elim n as (λ _. Removed) [ zero ↦ record { refusal = 0; distances = removed t tag .distances } | suc j ↦ record { refusal = suc j; distances = 0 } ]) .distances
         ≡ buildCost t (elim n as (λ _. Table) [ zero ↦ removed t tag .table | suc j ↦ t ])
-    removes tag zero e = removed-reports t work tag e
-    removes tag (suc n) e = kept-reports t
+    go zero e = removed-reports t work tag e
+    go (suc n) e = kept-reports t
+
+-- a herd list's lines from one on: each that is added reports what its add does
+lines-report : (lines : List ListLine) (t : Table) (work : List Row) (i : ℕ)
+    → reading t work i lines .reply .distances ≡ addsCost t work (take (reading t work i lines .reply .added) lines)
+unfolding reading stopped oneMore addsCost
+lines-report [] t work i = refl
+lines-report (malformed ∷ lines) t work i = refl
+lines-report (anItem tag p ∷ lines) t work i = go (addRefusal t work tag p) (lines-report lines u v (suc i))
+  where
+    u : Table
+    u = tableAfterAdd t work tag p
+
+    v : List Row
+    v = workAfterAdd t work tag p
+
+    read : ℕ → Reading
+    read n = elim n [ suc r ↦ stopped (suc r) i t work | zero ↦ oneMore (addReply t work tag p .distances) (reading u v (suc i) lines) ]
+
+    go : (n : ℕ) → reading u v (suc i) lines .reply .distances ≡ addsCost u v (take (reading u v (suc i) lines .reply .added) lines)
+        → read n .reply .distances ≡ addsCost t work (take (read n .reply .added) (anItem tag p ∷ lines))
+    go zero e = ap₂ _+_ (adds-report t work tag p) e
+    go (suc n) e = refl
+
+lists-report : (t : Table) (work : List Row) (list : List ℕ)
+    → readListReply t work list .distances ≡ addsCost t work (take (readListReply t work list .added) (itemLines list))
+unfolding readListReply listReading stopped addsCost
+lists-report t work list = go (hasHeader list)
+  where
+    read : Bool → Reading
+    read b = elim b [ false ↦ stopped badListHeader 1 t work | true ↦ reading t work 2 (itemLines list) ]
+
+    go : (b : Bool) → read b .reply .distances ≡ addsCost t work (take (read b .reply .added) (itemLines list))
+    go false = refl
+    go true = lines-report (itemLines list) t work 2
+
+pub reports : (t : Table) (work : List Row) → ReportsBuilds t work
+reports t work = record { adds = adds-report t work; removes = removes-report t work; lists = lists-report t work }

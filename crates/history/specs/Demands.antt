@@ -57,8 +57,8 @@ AnswersAscend =
 abbrev pub EveryList : Type 0
 EveryList = (h : History) → Holds h
 
--- Demand 3 (RULES 17.7), the numbers that are added up: whatever they are lent, accepted or refused, add and remove report c(n) for the n items that
--- they built, and 0 where they built none. The reading of a herd list reports the sum of its adds' by definition (`reading`).
+-- Demand 3, the numbers that are added up: whatever they are lent, accepted or refused, add and remove report c(n) for the n items that they built, and
+-- 0 where they built none; the reading of a herd list reports the sum of c(n) of what the adds of its accepted lines built.
 -- Theorem: `every-report`
 abbrev pub EveryReport : Type 0
 EveryReport = (lent : Lent) → ReportsBuilds (lent .table) (lent .work)
