@@ -26,6 +26,7 @@ mod ImagesLoaded
 mod ImagesWritten
 mod ImagesBack
 mod Ordering
+mod AnyDistance
 mod RefinesLists
 mod RefinesSearch
 mod RefinesTable

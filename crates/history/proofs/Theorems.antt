@@ -1,8 +1,10 @@
 -- The demands of `specs/Demands`, proved for every list of calls, every lent area and every image.
+use Rattle.metric_rules.proofs.Laws.{distance-metric}
 use Rattle.table_rules.proofs.Visits.{range-visits}
 use Rattle.table_rules.proofs.Keeping.{nearest-size}
-use Rattle.history.specs.Demands.{CountsVisits, KeepsEnough, AnswersAscend, EveryList, EveryReport, WrittenLoads}
+use Rattle.history.specs.Demands.{CountsVisits, KeepsEnough, AnswersAscend, AnyDistance, EachMetric, EveryList, EveryReport, WrittenLoads}
 use Rattle.history.proofs.Ordering.{range-ascends, answer-ascends, model-range-ascends, model-nearest-ascends}
+use Rattle.history.proofs.AnyDistance.{tree-facts}
 use Rattle.history.proofs.Changing.{changes}
 use Rattle.history.proofs.RefinesHistory.{history-traces, history-matches, history-represents}
 use Rattle.history.proofs.AmortizedHistory.{history-bound}
@@ -19,6 +21,12 @@ keeps-enough = nearest-size
 pub answers-ascend : AnswersAscend
 answers-ascend t m query =
     ((λ radius. (range-ascends t query radius, model-range-ascends m query radius)), (λ k. (answer-ascends t query k, model-nearest-ascends m query k)))
+
+pub any-distance : AnyDistance
+any-distance dist laws = tree-facts dist laws
+
+pub each-metric : EachMetric
+each-metric = distance-metric
 
 pub every-list : EveryList
 every-list h = record { traces = history-traces changes h; represents = history-represents changes h; bound = history-bound changes h }

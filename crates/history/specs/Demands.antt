@@ -10,7 +10,7 @@ use mathlib.Core.List.{List, map}
 use lib.ListN.{length}
 use Rattle.lists.specs.Lists.{total, All}
 use Rattle.metric_rules.specs.declared.Profile.{Profile}
-use Rattle.metric_rules.specs.Distance.{distance}
+use Rattle.metric_rules.specs.Distance.{Space, distance, Metric}
 use Rattle.search_rules.specs.Range.{Ascending}
 use Rattle.search_rules.specs.Reached.{reached}
 use Rattle.table_rules.specs.Geometry.{tableRows}
@@ -25,6 +25,7 @@ use Rattle.history.specs.History.{History, finalState, finalModel}
 use Rattle.history.specs.Images.{imageSize, LoadsBack, GivesBack}
 use Rattle.history.specs.Represents.{Holds}
 use Rattle.history.specs.Reports.{ReportsBuilds}
+use Rattle.history.specs.Trees.{TreeFacts}
 
 -- Of those answers, two numbers that the rules also give in words, for every table, foreign ones too. RULES 11.6: the count of range is the number
 -- of slots all of whose ancestors let their side be entered.
@@ -48,6 +49,14 @@ AnswersAscend =
     (t : Table) (m : Model) (query : Profile)
     → ((radius : ℕ) → Ascending (rangeAnswer t query radius .entries) × Ascending (modelRange m query radius))
     × ((k : ℕ) → Ascending (nearestAnswer t query k .entries) × Ascending (modelNearest m query k))
+
+-- W1: by any distance with the three laws a tree's range and nearest are a scan and its build costs c(n); and each metric has the three laws.
+-- Theorems: `any-distance`, `each-metric`
+abbrev pub AnyDistance : Type 0
+AnyDistance = (dist : Profile → Profile → ℕ) → Metric dist → TreeFacts dist
+
+abbrev pub EachMetric : Type 0
+EachMetric = (space : Space) → Metric (distance space)
 
 -- Demands 2 and 3 (RULES 17.2 to 17.4, 17.6 to 17.8), one claim over every list of calls on one table, refused ones and herd lists read too, that an
 -- accepted fresh or load began (`History`): at each call table and reference model show the same; after the list the table is a valid one of the

@@ -5,4 +5,5 @@ pub mod History
 pub mod Images
 pub mod Represents
 pub mod Reports
+pub mod Trees
 pub mod Demands
