@@ -136,3 +136,25 @@ saturates :
     × (ends worstDistance ≡ 4_294_967_295 ∷ 2_147_483_648 ∷ 4_294_967_295 ∷ 2_147_483_648 ∷ [])
 unfolding ends measureDistance worstDistance largest
 saturates = (refl, refl)
+
+-- Four different measures and both code words, by each metric. From the first profile the measures of the others differ by 1, 20, 300 and 4,000, each
+-- measure by each of them in turn; their codes differ in no bit, in one, in the 64 of the second word, and in 64 of the first and one of the second
+profiled : ℤ → ℤ → ℤ → ℤ → ℕ → ℕ → Profile
+profiled a b c d first second = record { measures = a ∷ b ∷ c ∷ d ∷ []; code = first ∷ second ∷ [] }
+
+apart : ℕ → List ℕ
+unfolding distance worstDistance largest profiled
+apart metric =
+    let p = profiled (pos 50) (negsuc 9) (pos 7) (negsuc 499) 5 0 in
+    map (distance (by metric) p)
+    (profiled (pos 51) (pos 10) (pos 307) (pos 3_500) 5 0
+    ∷ profiled (pos 4_050) (negsuc 10) (negsuc 12) (negsuc 199) 4 0
+    ∷ profiled (negsuc 249) (pos 3_990) (pos 6) (negsuc 519) 5 (2 ^ 64 - 1)
+    ∷ profiled (pos 30) (negsuc 309) (pos 4_007) (negsuc 500) (2 ^ 64 - 6) 1
+    ∷ [])
+
+allMeasures :
+    map apart (0 ∷ 1 ∷ 2 ∷ [])
+    ≡ (4_321 ∷ 4_321 ∷ 4_321 ∷ 4_321 ∷ []) ∷ (0 ∷ 1 ∷ 64 ∷ 65 ∷ []) ∷ (4_000 ∷ 4_000 ∷ 4_000 ∷ 4_000 ∷ []) ∷ []
+unfolding apart
+allMeasures = refl
