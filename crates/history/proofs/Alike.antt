@@ -6,89 +6,104 @@ use mathlib.Core.List.{List, [], _∷_, _++_, map}
 use lib.ListN.{length, replicate}
 use Rattle.search_rules.specs.Range.{Entry}
 use Rattle.text_rules.specs.Text.{lineFeed}
-use Rattle.history.specs.Calls.{Call}
-use Rattle.history.specs.Calls.Call.{fresh, load, add, remove, lookUp, range, nearest, write, readList}
-use Rattle.history.specs.Trace.{Step, Shown, overlaid, leftBy, stepOutcome, showsRefusal, showsProfile, showsEntries, showsList, shown, noSums, counts, ifAccepted, starting, increment, plus, stateAfter, shownAt, stateAfterAll, trace}
-use Rattle.history.specs.Model.{itemOf, lengthsOf, withTag, with, without, profileIn, scanned, modelRange, modelNearest, canRead, canChange, enough, tagRefusal, itemRefusal, addRefusalOf, fits, scanRefusal, countRefusal, becomes, finds, unless, stopsAt, oneMoreAdded, linesAnswered, listAnswered, answer, answerAt, modelAfterAll, modelTrace}
+use Rattle.table_rules.specs.LookUp.{noProfile}
+use Rattle.call_rules.specs.Calls.{Call}
+use Rattle.call_rules.specs.Calls.Call.{write}
+use Rattle.history.specs.Trace.{Step, Shown, zeroed, shows, overlaid, leftBy, beginShown, changeShown, askShown, shown, noSums, plus, starting, begunSums, ifAccepted, counted, sumsAfter, stateAfter, shownAt, stateAfterAll, trace}
+use Rattle.history.specs.Trace.Payload.{bare, aProfile, someEntries, aListRead}
+use Rattle.history.specs.Model.{itemOf, withTag, isIn, with, without, profileIn, scanned, modelRange, modelNearest, canRead, canChange, tagRefusal, itemRefusal, addRefusalOf, removeRefusalOf, fits, questionRefusal, askRefusal, found, answerTo, showsUnless, afterUnless, stopsAt, oneMoreAdded, linesAnswered, listAnswered, modelBegun, beginAnswer, changeAnswer, answer, answerAt, modelAfterAll, modelTrace}
 use Rattle.history.specs.History.{before, blankModel}
 use Rattle.history.proofs.Computing.{performed}
-use Rattle.history.proofs.Running.{by, tag, valued, areas, scratch, adding, removing, listOf, itemLine}
+use Rattle.history.proofs.Running.{fresh, load, add, remove, readList, lookUp, range, nearest, by, tag, valued, areasFor, scratch, adding, removing, listOf, itemLine}
 use Rattle.history.proofs.Imaged.{deadImage}
 
 -- calls in roomy areas, each lent its own; and one in areas of these lengths
 roomy : List Call → List Step
-unfolding areas scratch
+unfolding areasFor scratch
 roomy [] = []
-roomy (c ∷ cs) = record { call = c; lent = areas scratch } ∷ roomy cs
+roomy (c ∷ cs) = record { call = c; table = scratch; areas = areasFor 9 c } ∷ roomy cs
 
-lentOnly : ℕ → ℕ → ℕ → Call → Step
-lentOnly rows work entries c =
-    record {
-      call = c;
-      lent = record { table = replicate rows (1 ∷ 2 ∷ []); work = replicate work []; result = replicate entries []; image = [] };
-    }
+lentOnly : ℕ → ℕ → Call → Step
+unfolding areasFor
+lentOnly rows n c = record { call = c; table = replicate rows (1 ∷ 2 ∷ []); areas = areasFor n c }
 
 steps : List Step
 unfolding roomy lentOnly tag valued adding removing deadImage listOf itemLine
 steps =
     roomy (fresh 2 (by 0) ∷ adding 7 (1 ∷ 2 ∷ 3 ∷ 4 ∷ 5 ∷ 4 ∷ []) ++ (lookUp (tag 2) ∷ lookUp (tag 9) ∷ lookUp 9 ∷ []))
-    ++ (lentOnly 11 4 2 (range (valued 14) 7)
-    ∷ lentOnly 11 4 3 (range (valued 14) 7)
-    ∷ lentOnly 11 4 1 (nearest (valued 14) 1)
-    ∷ lentOnly 10 4 1 (nearest (valued 14) 1)
-    ∷ lentOnly 11 3 0 (remove (tag 1))
-    ∷ lentOnly 0 9 9 (add (tag 6) (valued 1))
+    ++ (lentOnly 11 2 (range (valued 14) 7)
+    ∷ lentOnly 11 3 (range (valued 14) 7)
+    ∷ lentOnly 11 1 (nearest (valued 14) 1)
+    ∷ lentOnly 10 1 (nearest (valued 14) 1)
+    ∷ lentOnly 11 3 (remove (tag 1))
+    ∷ lentOnly 0 9 (add (tag 6) (valued 1))
     ∷ [])
     ++ roomy (removing (1 ∷ 1 ∷ 2 ∷ 3 ∷ []) ++ (write ∷ range (valued 14) 99 ∷ fresh 13 (by 0) ∷ load deadImage ∷ load [] ∷ []))
     ++ roomy (nearest (valued 13) 2 ∷ lookUp (tag 4) ∷ remove (tag 3) ∷ adding 7 (8 ∷ []) ++ (range (valued 0) 99 ∷ nearest (valued 90) 2 ∷ []))
     ++ roomy (remove (tag 1) ∷ readList (listOf (itemLine 5 35 ∷ itemLine 6 42 ∷ itemLine 2 14 ∷ itemLine 7 49 ∷ [])) ∷ range (valued 0) 99 ∷ [])
-    ++ (lentOnly 0 0 0 (readList [])
-    ∷ lentOnly 0 0 0 (readList (listOf []))
-    ∷ lentOnly 10 4 0 (readList (listOf ((lineFeed ∷ []) ∷ [])))
-    ∷ lentOnly 10 4 0 (readList (listOf (itemLine 7 49 ∷ [])))
+    ++ (lentOnly 0 0 (readList [])
+    ∷ lentOnly 0 0 (readList (listOf []))
+    ∷ lentOnly 10 4 (readList (listOf ((lineFeed ∷ []) ∷ [])))
+    ∷ lentOnly 10 4 (readList (listOf (itemLine 7 49 ∷ [])))
     ∷ [])
 
 -- worked out by hand: what each call shows
-found : List Entry → Shown
-unfolding showsEntries
-found entries = showsEntries 0 (length entries) entries
+changed : ℕ → Shown
+changed n = shows n bare
+
+noProfileFor : ℕ → Shown
+unfolding noProfile
+noProfileFor n = shows n (aProfile noProfile)
+
+noneFor : ℕ → Shown
+noneFor n = shows n (someEntries 0 [])
+
+listed : ℕ → ℕ → ℕ → Shown
+listed n line more = shows n (aListRead line more)
+
+finds : List Entry → Shown
+finds entries = shows 0 (someEntries (length entries) entries)
 
 expected : List Shown
-unfolding showsRefusal showsProfile showsList found valued tag
+unfolding changed noProfileFor noneFor listed finds valued tag
 expected =
     -- a full table at the fifth add, and a tag that is live
-    map showsRefusal (0 ∷ 0 ∷ 0 ∷ 0 ∷ 0 ∷ 22 ∷ 20 ∷ [])
-    ++ (showsProfile 0 (valued 14) ∷ showsRefusal 21 ∷ showsRefusal 1 ∷ [])
+    map changed (0 ∷ 0 ∷ 0 ∷ 0 ∷ 0 ∷ 22 ∷ 20 ∷ [])
+    ++ (shows 0 (aProfile (valued 14)) ∷ noProfileFor 21 ∷ noProfileFor 1 ∷ [])
     -- three entries for an area of two, for one of three; and short table and work areas
-    ++ (showsRefusal 6
-    ∷ found ((tag 2 ∷ 0 ∷ []) ∷ (tag 1 ∷ 7 ∷ []) ∷ (tag 3 ∷ 7 ∷ []) ∷ [])
-    ∷ found ((tag 2 ∷ 0 ∷ []) ∷ [])
-    ∷ map showsRefusal (23 ∷ 23 ∷ 23 ∷ []))
+    ++ (noneFor 6
+    ∷ finds ((tag 2 ∷ 0 ∷ []) ∷ (tag 1 ∷ 7 ∷ []) ∷ (tag 3 ∷ 7 ∷ []) ∷ [])
+    ∷ finds ((tag 2 ∷ 0 ∷ []) ∷ [])
+    ∷ noneFor 23
+    ∷ changed 23
+    ∷ changed 23
+    ∷ [])
     -- a removal twice; one item left; a load in the place of the table, and one refused
-    ++ map showsRefusal (0 ∷ 21 ∷ 0 ∷ 0 ∷ 0 ∷ [])
-    ++ (found ((tag 4 ∷ 14 ∷ []) ∷ []) ∷ map showsRefusal (3 ∷ 0 ∷ 7 ∷ []))
-    ++ (found ((tag 2 ∷ 0 ∷ []) ∷ (tag 3 ∷ 0 ∷ []) ∷ []) ∷ map showsRefusal (21 ∷ 0 ∷ 0 ∷ []))
-    ++ (found ((tag 1 ∷ 10 ∷ []) ∷ (tag 2 ∷ 13 ∷ []) ∷ (tag 8 ∷ 56 ∷ []) ∷ []) ∷ found ((tag 8 ∷ 34 ∷ []) ∷ (tag 2 ∷ 77 ∷ []) ∷ []) ∷ [])
+    ++ map changed (0 ∷ 21 ∷ 0 ∷ 0 ∷ 0 ∷ [])
+    ++ (finds ((tag 4 ∷ 14 ∷ []) ∷ []) ∷ map changed (3 ∷ 0 ∷ 7 ∷ []))
+    ++ (finds ((tag 2 ∷ 0 ∷ []) ∷ (tag 3 ∷ 0 ∷ []) ∷ []) ∷ noProfileFor 21 ∷ map changed (0 ∷ 0 ∷ []))
+    ++ (finds ((tag 1 ∷ 10 ∷ []) ∷ (tag 2 ∷ 13 ∷ []) ∷ (tag 8 ∷ 56 ∷ []) ∷ []) ∷ finds ((tag 8 ∷ 34 ∷ []) ∷ (tag 2 ∷ 77 ∷ []) ∷ []) ∷ [])
     -- a herd list whose line 4 has a live tag: the two lines before it are in, the one after it is not
-    ++ (showsRefusal 0
-    ∷ showsList 20 4 2
-    ∷ found ((tag 2 ∷ 13 ∷ []) ∷ (tag 5 ∷ 35 ∷ []) ∷ (tag 6 ∷ 42 ∷ []) ∷ (tag 8 ∷ 56 ∷ []) ∷ [])
+    ++ (changed 0
+    ∷ listed 20 4 2
+    ∷ finds ((tag 2 ∷ 13 ∷ []) ∷ (tag 5 ∷ 35 ∷ []) ∷ (tag 6 ∷ 42 ∷ []) ∷ (tag 8 ∷ 56 ∷ []) ∷ [])
     -- no header, no line behind it, an empty line before the short table, and the short table
-    ∷ showsList 30 1 0
-    ∷ showsList 0 0 0
-    ∷ showsList 31 2 0
-    ∷ showsList 23 2 0
+    ∷ listed 30 1 0
+    ∷ listed 0 0 0
+    ∷ listed 31 2 0
+    ∷ listed 23 2 0
     ∷ [])
 
 tableShows : trace (before scratch) steps ≡ expected
 unfolding
-    performed steps expected before overlaid leftBy stepOutcome shown noSums counts ifAccepted starting increment plus stateAfter shownAt trace scratch
+    performed steps expected before overlaid leftBy beginShown changeShown askShown shown noSums plus starting begunSums ifAccepted counted sumsAfter stateAfter shownAt trace scratch
 tableShows = refl
 
 modelShows : modelTrace blankModel steps ≡ expected
 unfolding
-    performed steps expected itemOf lengthsOf withTag with without profileIn scanned modelRange modelNearest canRead canChange enough tagRefusal
-    itemRefusal addRefusalOf fits scanRefusal countRefusal becomes finds unless stopsAt oneMoreAdded linesAnswered listAnswered answer answerAt modelTrace blankModel
+    performed steps expected zeroed beginShown itemOf withTag isIn with without profileIn scanned modelRange modelNearest canRead canChange tagRefusal
+    itemRefusal addRefusalOf removeRefusalOf fits questionRefusal askRefusal found answerTo showsUnless afterUnless stopsAt oneMoreAdded
+    linesAnswered listAnswered modelBegun beginAnswer changeAnswer answer answerAt modelTrace blankModel
 modelShows = refl
 
 -- since the load of three live items and a dead one: item 8 added (no distance, into bucket 0), item 3 removed (enough are left), item 1 removed (2 and 8

@@ -8,7 +8,7 @@ use lib.ListN.{take}
 use Rattle.table_rules.specs.Geometry.{tableRows}
 use Rattle.table_rules.specs.Table.{Table, orderOf, builtOf, liveOf}
 use Rattle.table_rules.proofs.Views.{same-order, kept-built, kept-live, own-header, own-kept}
-use Rattle.history.specs.Trace.{Sums, counts, plus}
+use Rattle.history.specs.Trace.{Sums, plus}
 use Rattle.history.specs.Represents.{rebuildBound}
 use Rattle.history.proofs.Amortized.{below-same}
 use Rattle.history.proofs.AmortizedCredit.{credit, potential}
@@ -32,11 +32,14 @@ pub record Paid (t : Table) (sums : Sums) : Type 0 where
 pub paid-bound : {t : Table} {sums : Sums} → Paid t sums → sums .distances ≤ rebuildBound (orderOf t) sums
 paid-bound {t} {sums} p = omega (arith, p .within, due-bound (orderOf t) sums)
 
+abbrev pub counts : ℕ → ℕ → ℕ → Sums
+counts adds removals distances = record { adds = adds; removals = removals; distances = distances }
+
 -- a call that leaves the table as u and adds a, r and d to the sums
 pub paid-plus :
     {t u : Table} {sums : Sums} (a r d : ℕ) → Paid t sums → orderOf u ≡ orderOf t
     → d + potentialOf u ≤ potentialOf t + orderOf t * (4 * (orderOf t + 1) * a + 11 * r) → Paid u (plus sums (counts a r d))
-unfolding plus counts due
+unfolding plus due
 paid-plus {t} {u} {sums} a r d p order h =
     let w : ℕ = 4 * (orderOf t + 1) in
     let inner : w * (sums .adds + a) + 11 * (sums .removals + r) ≡ w * sums .adds + 11 * sums .removals + (w * a + 11 * r) =

@@ -1,8 +1,8 @@
 -- Every accepted change keeps the match of table and model: after fresh, add and remove the table is sound again, and its live items are the model's, with
--- the new one or without the one removed; after load by the laws of images; after each accepted line of a herd list as after an add.
-use Prim.Native.Nat.{ℕ, _^_, _<_}
-use mathlib.Core.Path.{_≡_, refl, sym, _∙_, ap, ap₂}
-use mathlib.Core.Bool.{Bool, true, false, not}
+-- the new one or without the one removed; after load by the laws of images.
+use Prim.Native.Nat.{ℕ, zero, suc, _^_, _<_}
+use mathlib.Core.Path.{_≡_, refl, sym, _∙_, ap, ap₂, subst}
+use mathlib.Core.Bool.{Bool, true, false, not, false≢true}
 use mathlib.Core.List.{List, [], _∷_, map, List·Permᴰ, List·Permᴰ·cons, List·Permᴰ·trans, Permᴰ·symm}
 use mathlib.Core.Option.{Option, none, some}
 use native.Mathlib.Omega.{arith}
@@ -20,33 +20,35 @@ use Rattle.metric_rules.proofs.Codec.{tag-of-row, profile-of-row}
 use Rattle.tree_rules.specs.Layout.{placed}
 use Rattle.tree_rules.proofs.Placed.{tag-placed, profile-placed}
 use Rattle.search_rules.proofs.Selecting.{select-all}
-use Rattle.table_rules.specs.Refusals.{badTag, badMeasure, alreadyLive, notLive, full}
+use Rattle.table_rules.specs.Refusals.{badTag, badMeasure, alreadyLive, notLive, full, unless, when}
 use Rattle.table_rules.specs.Geometry.{room}
 use Rattle.table_rules.specs.Table.{Table}
 use Rattle.table_rules.specs.LookUp.{Place, find, isLiveTag}
-use Rattle.table_rules.specs.Fresh.{freshRefusal, freshTable}
+use Rattle.table_rules.specs.Fresh.{freshRefusal, freshTable, tableAfterFresh}
 use Rattle.table_rules.specs.Add.{added}
 use Rattle.table_rules.specs.Remove.{removed}
 use Rattle.table_rules.proofs.Views.{same-order, same-space}
 use Rattle.table_rules.proofs.Changes.{fresh-order, fresh-space}
 use Rattle.table_rules.proofs.Live.{allLive}
-use Rattle.list_rules.specs.Lines.{ListLine, itemLines}
-use Rattle.list_rules.specs.Lines.ListLine.{anItem, malformed}
-use Rattle.list_rules.proofs.Fitting.{LineFits, lines-fit}
-use Rattle.history.specs.Calls.{Call}
-use Rattle.history.specs.Calls.Call.{fresh, load, add, remove, lookUp, range, nearest, write, readList}
-use Rattle.history.specs.History.{IsCall}
-use Rattle.history.specs.Model.{Item, itemOf, Model, withTag, with, without, itemRefusal, tagRefusal}
+use Rattle.image_rules.specs.Read.{orderIn, spaceIn}
+use Rattle.image_rules.specs.Load.{loadRefusal, liveRows, loadedTable, tableAfterLoad}
+use Rattle.image_rules.proofs.Accepting.{accepted}
+use Rattle.image_rules.proofs.ReadTests.{reads-live}
+use Rattle.image_rules.proofs.Loaded.{loaded, loaded-reads}
+use Rattle.call_rules.specs.Calls.{Begin, beginReply, tableBegun}
+use Rattle.call_rules.specs.Calls.Begin.{fresh, load}
+use Rattle.history.specs.Trace.{beginShown}
+use Rattle.history.specs.History.{IsBegin}
+use Rattle.history.specs.Model.{Item, itemOf, Model, isIn, with, without, itemRefusal, tagRefusal, modelBegun}
 use Rattle.history.specs.Represents.{itemsIn}
 use Rattle.history.proofs.InvariantFresh.{Freshable, freshable, invariant-fresh, fresh-live}
 use Rattle.history.proofs.InvariantAdd.{Addable, invariant-added, added-only, added-live}
 use Rattle.history.proofs.InvariantRemove.{invariant-removed, removed-only, removed-live, removed-tag}
 use Rattle.history.proofs.RefinesLists.{select-no, select-perm}
-use Rattle.history.proofs.RefinesFinding.{rowFound}
 use Rattle.history.proofs.RefinesRepresents.{tags-once}
-use Rattle.history.proofs.RefinesChange.{LineAdds, Change}
-use Rattle.history.proofs.ImagesHistory.{load-matches}
-use Rattle.history.proofs.RefinesItems.{Matches, found-items, live-total}
+use Rattle.history.proofs.ImagesLoaded.{loaded-invariant}
+use Rattle.history.proofs.RefinesItems.{Matches, live-total}
+use Rattle.history.proofs.RefinesRefusals.{live-alike}
 
 item-placed : (m : ℕ) (row : Row) → itemOf (placed m row) ≡ itemOf row
 unfolding itemOf
@@ -71,37 +73,39 @@ matches-fresh order space t h =
       same = perm-of-eq (items-live (freshTable order space t) ∙ ap (map itemOf) (fresh-live order space t ok));
     }
 
+-- a loaded table matches the model that is fed the image
+pub load-matches : (image : List ℕ) (t : Table) → All (λ b. b < 2 ^ 8) image → loadRefusal (length t) image ≡ 0
+    → Matches (loadedTable image t) (record { order = orderIn image; space = spaceIn image; items = map itemOf (liveRows image) })
+unfolding itemsIn
+load-matches image t bytes h =
+    let ok = accepted (length t) image h in
+    let here = loaded image t ok in
+    record {
+      invariant = loaded-invariant image t bytes ok;
+      order = here .order;
+      space = here .space;
+      same = perm-of-eq (ap (map itemOf) (sym (reads-live (loaded-reads image t (loadedTable image t) here))));
+    }
+
 -- what the model asked of an accepted add
 module _ {t : Table} {m : Model} (ok : Matches t m) where
-  not-found : (tag : ℕ) → withTag tag (m .items) ≡ [] → isLiveTag t tag ≡ false
-  unfolding isLiveTag
-  not-found tag e = go (find t tag) (found-items ok tag ∙ e)
-    where
-      go : (o : Option Place) → map itemOf (rowFound o) ≡ [] → elim o as (λ _. Bool) [ some place ↦ true | none ↦ false ] ≡ false
-      go none e = refl
-      go (some place) e = absurd (omega (arith, ap length e))
-
   model-addable : (tag : ℕ) (p : Profile) → itemRefusal m tag p ≡ 0 → Addable t tag p
   unfolding itemRefusal
-  model-addable tag p h = go (validTag tag) refl (validMeasures p) refl (withTag tag (m .items)) refl (leb (room (m .order)) (length (m .items))) refl h
+  model-addable tag p h = go (validTag tag) refl (validMeasures p) refl (isIn m tag) refl (leb (room (m .order)) (length (m .items))) refl h
     where
       go :
-          (a : Bool) → validTag tag ≡ a → (b : Bool) → validMeasures p ≡ b → (is : List Item) → withTag tag (m .items) ≡ is → (f : Bool)
+          (a : Bool) → validTag tag ≡ a → (b : Bool) → validMeasures p ≡ b → (there : Bool) → isIn m tag ≡ there → (f : Bool)
           → leb (room (m .order)) (length (m .items)) ≡ f
-          → _≡_ {A = ℕ} (elim a [
-            | false ↦ badTag
-            | true ↦ elim b [ false ↦ badMeasure | true ↦ elim is [ i ∷ js ↦ alreadyLive | [] ↦ elim f [ true ↦ full | false ↦ 0 ] ] ]
-          ]) 0
-          → Addable t tag p
-      go false ea b eb is ei f ef h = absurd (omega arith)
-      go true ea false eb is ei f ef h = absurd (omega arith)
-      go true ea true eb (i ∷ is) ei f ef h = absurd (omega arith)
-      go true ea true eb [] ei true ef h = absurd (omega arith)
-      go true ea true eb [] ei false ef h =
+          → unless a badTag (unless b badMeasure (when there alreadyLive (when f full 0))) ≡ 0 → Addable t tag p
+      go false ea b eb there ei f ef h = absurd (omega arith)
+      go true ea false eb there ei f ef h = absurd (omega arith)
+      go true ea true eb true ei f ef h = absurd (omega arith)
+      go true ea true eb false ei true ef h = absurd (omega arith)
+      go true ea true eb false ei false ef h =
           record {
             validated = ea;
             measures = eb;
-            new = not-found tag ei;
+            new = live-alike ok tag ∙ ei;
             notFull = rw (ok .order, live-total ok) (leb-false (room (m .order)) (length (m .items)) ef);
           }
 
@@ -136,17 +140,16 @@ struck tag i items stay e p once =
 -- what the model asked of an accepted removal: the table finds the tag
 module _ {t : Table} {m : Model} (ok : Matches t m) where
   model-removable : (tag : ℕ) → tagRefusal m tag ≡ 0 → (place : Place) × (find t tag ≡ some place)
-  unfolding tagRefusal
-  model-removable tag h = go (validTag tag) (withTag tag (m .items)) (find t tag) refl (found-items ok tag) h
+  unfolding tagRefusal isLiveTag
+  model-removable tag h = go (validTag tag) (isIn m tag) (find t tag) refl (live-alike ok tag) h
     where
       go :
-          (a : Bool) (is : List Item) (o : Option Place) → find t tag ≡ o → map itemOf (rowFound o) ≡ is
-          → _≡_ {A = ℕ} (elim a [ false ↦ badTag | true ↦ elim is [ [] ↦ notLive | i ∷ js ↦ 0 ] ]) 0
+          (a there : Bool) (o : Option Place) → find t tag ≡ o → isLiveTag t tag ≡ there → unless a badTag (unless there notLive 0) ≡ 0
           → (place : Place) × (find t tag ≡ some place)
-      go false is o e f h = absurd (omega arith)
-      go true [] o e f h = absurd (omega arith)
-      go true (i ∷ is) none e f h = absurd (omega (arith, ap length f))
-      go true (i ∷ is) (some place) e f h = (place, e)
+      go false there o e f h = absurd (omega arith)
+      go true false o e f h = absurd (omega arith)
+      go true true none e f h = absurd (false≢true (sym (ap (λ (p : Option Place). elim p as (λ _. Bool) [ some place ↦ true | none ↦ false ]) e) ∙ f))
+      go true true (some place) e f h = (place, e)
 
   pub matches-removed : (tag : ℕ) → tagRefusal m tag ≡ 0 → Matches (removed t tag .table) (without tag m)
   unfolding without itemOf
@@ -167,20 +170,19 @@ module _ {t : Table} {m : Model} (ok : Matches t m) where
             (Permᴰ·symm (struck tag (itemOf (place .row)) (m .items) (map itemOf (allLive u)) (removed-tag (ok .invariant) tag place (there .1)) stay (tags-once ok)));
       }
 
--- every line of a herd list that is an item, since the form makes it fit
-lines-add : (lines : List ListLine) → All LineFits lines → All LineAdds lines
-lines-add [] fit = tt
-lines-add (malformed ∷ lines) fit = (tt, lines-add lines (fit .1))
-lines-add (anItem tag p ∷ lines) fit = ((λ t m ok h. matches-added ok tag p (fit .0 .0) (fit .0 .1) h), lines-add lines (fit .1))
+-- an accepted call that begins a table begins the model's, and a refused one leaves what lay there
+pub begin-matches : (b : Begin) → IsBegin b → (t : Table) → beginShown b (beginReply b (length t)) .refusal ≡ 0 → Matches (tableBegun b t) (modelBegun b)
+unfolding beginShown modelBegun tableAfterFresh tableAfterLoad
+begin-matches (fresh order space) is t e =
+    subst (λ (n : ℕ). Matches (elim n as (λ _. Table) [ zero ↦ freshTable order space t | suc j ↦ t ]) (record { order = order; space = space; items = [] })) (sym e)
+    (matches-fresh order space t e)
+begin-matches (load image) is t e =
+    subst
+    (λ (n : ℕ). Matches (elim n as (λ _. Table) [ zero ↦ loadedTable image t | suc j ↦ t ])
+    (record { order = orderIn image; space = spaceIn image; items = map itemOf (liveRows image) })) (sym e)
+    (load-matches image t is e)
 
--- every accepted change
-pub changes : (c : Call) (t : Table) (m : Model) → IsCall c → Change c t m
-changes (fresh order space) t m is = matches-fresh order space t
-changes (load image) t m is = load-matches image t m is
-changes (add tag p) t m is = λ ok h. matches-added ok tag p (is .0) (is .1) h
-changes (remove tag) t m is = λ ok h. matches-removed ok tag h
-changes (lookUp tag) t m is = tt
-changes (range q r) t m is = tt
-changes (nearest q k) t m is = tt
-changes write t m is = tt
-changes (readList list) t m is = lines-add (itemLines list) (lines-fit list)
+pub begin-refused : (b : Begin) (t : Table) (n : ℕ) → beginShown b (beginReply b (length t)) .refusal ≡ suc n → tableBegun b t ≡ t
+unfolding beginShown tableAfterFresh tableAfterLoad
+begin-refused (fresh order space) t n e = ap (λ (k : ℕ). elim k as (λ _. Table) [ zero ↦ freshTable order space t | suc j ↦ t ]) e
+begin-refused (load image) t n e = ap (λ (k : ℕ). elim k as (λ _. Table) [ zero ↦ loadedTable image t | suc j ↦ t ]) e

@@ -10,7 +10,7 @@ use Rattle.tree_rules.specs.Layout.{leftSize, costWithin, cost, rankedFrom, tag
 use Rattle.search_rules.specs.Range.{entry, entryDistance, entryKey, ordered, entersLeft, entersRight, nothing, both, toQuery, entryOf, isHit, visited, rangeWithin, rangeTree}
 use Rattle.search_rules.specs.Nearest.{keep, worst, opens, taken, enterHalf, enterHalves, nearestWithin, nearestTree}
 use Rattle.table_rules.specs.Geometry.{validOrder, room, bucketsOf, headerRow, sizesRow, firstSlot, tableRows, workRows}
-use Rattle.table_rules.specs.Table.{rowAt, orderOf, tableSpace, builtOf, liveOf, inUse, liveTotal, slotsOf, liveSlots, pairRow, headerOf, putSizes, putBucket, emptied, cleared}
+use Rattle.table_rules.specs.Table.{Table, rowAt, orderOf, tableSpace, builtOf, liveOf, inUse, liveTotal, slotsOf, liveSlots, pairRow, headerOf, putSizes, putBucket, emptied, cleared}
 use Rattle.table_rules.specs.Checks.{sizePasses, sizesPass, marksPass, frameRefusal, readRefusal, changeRefusal}
 use Rattle.table_rules.specs.Fresh.{freshRefusal, freshTable, tableAfterFresh}
 use Rattle.table_rules.specs.Rebuild.{liveItems, rebuilt}
@@ -26,9 +26,14 @@ use Rattle.text_rules.specs.Text.{onto, parted, partAt, partsIn, digitOf, isDig
 use Rattle.text_rules.specs.Fields.{isNegative, unsigned, isMeasure, hundredths, measureIn}
 use Rattle.list_rules.specs.Lines.{listHeader, hasHeader, isItemLine, itemTag, itemProfile, lineOf, linesFrom, linesOf, itemLines}
 use Rattle.list_rules.specs.ReadList.{stopped, oneMore, reading, listReading, readListReply, tableAfterReadList, workAfterReadList}
-use Rattle.history.specs.Calls.{Call, Lent, Outcome, withTable, withWork, withResult, withImage, areasAfter, replyTo, outcome}
+use Rattle.call_rules.specs.Calls.{Call, Areas, Reply, replyTo, tableAfter, areasAfter}
 
-unfoldable pub performed : Call → Lent → Outcome
+pub record Performed (c : Call) : Type 0 where
+  pub reply : Reply c
+  pub table : Table
+  pub areas : Areas c
+
+unfoldable pub performed : (c : Call) → Table → Areas c → Performed c
 unfolding
     countFrom total select every flatten alike sameNumbers rowWidth tagAt measuresAt codeAt thresholdAt markAt zeroRow word wide words tagOf
     profileOf thresholdOf markOf measure codeWord rowOf withThreshold withMark nationals countryOf nationalOf lastCountry lastNational validTag
@@ -48,6 +53,5 @@ unfolding
     writeReply imageAfterWrite numberAt fieldsAt headerNumbers orderIn spaceIn zerosIn builtIn liveIn slotsBefore slotsIn rowIn bucketIn
     distinct fieldsPass bucketPasses liveRows slotsPass bodyRefusal loadRefusal loadedTable tableAfterLoad onto parted partAt partsIn digitOf isDigit
     isNumeral numeralAfter numeral isNegative unsigned isMeasure hundredths measureIn listHeader hasHeader isItemLine itemTag itemProfile lineOf
-    linesFrom linesOf itemLines stopped oneMore reading listReading readListReply tableAfterReadList workAfterReadList withTable
-    withWork withResult withImage areasAfter replyTo outcome
-performed c lent = outcome c lent
+    linesFrom linesOf itemLines stopped oneMore reading listReading readListReply tableAfterReadList workAfterReadList
+performed c t areas = record { reply = replyTo c t areas; table = tableAfter c t areas; areas = areasAfter c t areas }

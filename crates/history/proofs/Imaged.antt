@@ -7,9 +7,8 @@ use lib.ListN.{take, drop, set, replicate}
 use Rattle.table_rules.specs.Table.{Table}
 use Rattle.image_rules.specs.Write.{imageOf, imageAfterWrite}
 use Rattle.image_rules.specs.Load.{loadRefusal, tableAfterLoad}
-use Rattle.history.specs.Calls.Call.{fresh, add}
 use Rattle.history.proofs.Computing.{performed}
-use Rattle.history.proofs.Running.{by, tag, valued, scratch, after, removing, table}
+use Rattle.history.proofs.Running.{fresh, add, by, tag, valued, scratch, after, removing, table}
 
 -- 36,000,000,000,000 in bytes, lowest first, is 0, 64, 54, 231, 189, 32, 0, 0, and n below 256 goes into the first
 unfoldable pub tagBytes : ℕ → List ℕ

@@ -17,9 +17,7 @@ use Rattle.image_rules.proofs.ReadBack.{ReadsBack, reads-back}
 use Rattle.image_rules.proofs.Accepting.{accepts}
 use Rattle.image_rules.proofs.Lengths.{length-image-built, image-below}
 use Rattle.image_rules.proofs.Loaded.{load-reads, accepted-image}
-use Rattle.history.specs.Calls.{Lent, outcome, replyTo, areasAfter, withTable}
-use Rattle.history.specs.Calls.Reply.{number, written}
-use Rattle.history.specs.Images.{imageSize, writing, bytesOfImage, LoadsBack}
+use Rattle.history.specs.Images.{imageSize, writing, imageWritten, LoadsBack}
 use Rattle.history.specs.Demands.{AcceptedGivesBack}
 use Rattle.history.proofs.Invariant.{Invariant}
 use Rattle.table_rules.proofs.Geometry.{row-by-row}
@@ -88,35 +86,30 @@ unfolding imageSize
 image-size {t} invariant = length-image-built t (slots-length (invariant-roomy invariant))
 
 -- written and loaded as calls
-module _ {t : Table} (invariant : Invariant t) (lent area : Lent) (rows : tableRows (orderOf t) ≤ length (lent .table)) (long : imageSize t ≤ length (lent .image)) (roomy : tableRows (orderOf t) ≤ length (area .table)) where
-  fits : length (imageOf t) ≤ length (lent .image)
+module _ {t : Table} (invariant : Invariant t) (area other : Table) (image : List ℕ) (rows : tableRows (orderOf t) ≤ length area) (long : imageSize t ≤ length image) (roomy : tableRows (orderOf t) ≤ length other) where
+  fits : length (imageOf t) ≤ length image
   fits = omega (arith, image-size invariant)
 
-  bytes-written : bytesOfImage (imageSize t) (writing t lent) ≡ imageOf t
-  unfolding bytesOfImage
-  bytes-written = ap (λ (n : ℕ). take n (writing t lent .areas .image)) (sym (image-size invariant)) ∙ writing-bytes invariant lent rows fits
+  bytes-written : imageWritten (imageSize t) t area image ≡ imageOf t
+  bytes-written = ap (λ (n : ℕ). imageWritten n t area image) (sym (image-size invariant)) ∙ writing-bytes invariant area image rows fits
 
-  pub loads-back : LoadsBack t lent area
-  unfolding outcome replyTo areasAfter withTable
+  pub loads-back : LoadsBack t area other image
   loads-back =
       record {
-        replied = writing-reply invariant lent rows fits ∙ ap (λ (n : ℕ). written (record { refusal = 0; length = n })) (image-size invariant);
-        accepted = ap (λ (bytes : List ℕ). number (loadRefusal (length (area .table)) bytes)) bytes-written ∙ ap number (image-accepted invariant (area .table) roomy);
-        rows =
-            ap (λ (bytes : List ℕ). take (tableRows (orderOf t)) (tableAfterLoad bytes (area .table))) bytes-written ∙ image-rows invariant (area .table) roomy;
+        replied = writing-reply invariant area image rows fits ∙ ap (λ (n : ℕ). record { refusal = 0; length = n }) (image-size invariant);
+        accepted = ap (loadRefusal (length other)) bytes-written ∙ image-accepted invariant other roomy;
+        rows = ap (λ (bytes : List ℕ). take (tableRows (orderOf t)) (tableAfterLoad bytes other)) bytes-written ∙ image-rows invariant other roomy;
       }
 
 -- an accepted image is given back by writing the loaded table as a call
 pub accepted-gives-back : AcceptedGivesBack
-unfolding replyTo outcome areasAfter withTable bytesOfImage
-accepted-gives-back image area lent bytes ok rows long =
-    let h : loadRefusal (length (area .table)) image ≡ 0 = cc in
-    let t = tableAfterLoad image (area .table) in
-    let invariant : Invariant t = load-invariant image (area .table) bytes h in
-    let same : imageOf t ≡ image = accepted-image image (area .table) bytes h in
-    let fits : tableRows (orderOf t) ≤ length (lent .table) = rw (← load-reads image (area .table) h .order) rows in
-    let room : length (imageOf t) ≤ length (lent .image) = rw same long in
+accepted-gives-back bytes other area image below h rows long =
+    let t = tableAfterLoad bytes other in
+    let invariant : Invariant t = load-invariant bytes other below h in
+    let same : imageOf t ≡ bytes = accepted-image bytes other below h in
+    let fits : tableRows (orderOf t) ≤ length area = rw (← load-reads bytes other h .order) rows in
+    let room : length (imageOf t) ≤ length image = rw same long in
     record {
-      replied = writing-reply invariant lent fits room ∙ ap (λ (bytes : List ℕ). written (record { refusal = 0; length = length bytes })) same;
-      bytes = subst (λ (bytes : List ℕ). take (length bytes) (writing t lent .areas .image) ≡ bytes) same (writing-bytes invariant lent fits room);
+      replied = writing-reply invariant area image fits room ∙ ap (λ (bs : List ℕ). record { refusal = 0; length = length bs }) same;
+      given = subst (λ (bs : List ℕ). imageWritten (length bs) t area image ≡ bs) same (writing-bytes invariant area image fits room);
     }

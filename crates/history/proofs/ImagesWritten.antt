@@ -17,10 +17,8 @@ use Rattle.image_rules.specs.Write.{imageOf, writeRefusal, writeReply, imageAft
 use Rattle.image_rules.proofs.ReadBack.{reads-back}
 use Rattle.image_rules.proofs.Lengths.{image-below}
 use Rattle.image_rules.proofs.GivesBack.{gives-back}
-use Rattle.history.specs.Calls.{Lent, outcome, replyTo, areasAfter, withTable, withImage}
-use Rattle.history.specs.Calls.Reply.{written}
-use Rattle.history.specs.Trace.{overlaid, stepOutcome}
-use Rattle.history.specs.Images.{writing}
+use Rattle.history.specs.Trace.{overlaid}
+use Rattle.history.specs.Images.{writing, imageWritten}
 use Rattle.history.proofs.Invariant.{Invariant}
 use Rattle.history.proofs.InvariantForms.{invariant-roomy}
 use Rattle.history.proofs.ImagesFit.{invariant-fits, invariant-accepted}
@@ -61,31 +59,30 @@ image-own {t} invariant u own =
     })
 
 -- the call as it is lent any areas
-module _ {t : Table} (invariant : Invariant t) (lent : Lent) (rows : tableRows (orderOf t) ≤ length (lent .table)) (long : length (imageOf t) ≤ length (lent .image)) where
+module _ {t : Table} (invariant : Invariant t) (area : Table) (image : List ℕ) (rows : tableRows (orderOf t) ≤ length area) (long : length (imageOf t) ≤ length image) where
   seen : Table
-  seen = overlaid t (lent .table)
+  seen = overlaid t area
 
   seen-own : take (tableRows (orderOf t)) seen ≡ take (tableRows (orderOf t)) t
   unfolding seen
-  seen-own = overlaid-own (tableRows (orderOf t)) t (lent .table) (invariant .long) rows
+  seen-own = overlaid-own (tableRows (orderOf t)) t area (invariant .long) rows
 
   seen-invariant : Invariant seen
   unfolding seen
-  seen-invariant = invariant-own invariant seen seen-own (omega (arith, overlaid-length t (lent .table)))
+  seen-invariant = invariant-own invariant seen seen-own (omega (arith, overlaid-length t area))
 
   seen-image : imageOf seen ≡ imageOf t
   seen-image = image-own invariant seen seen-own
 
-  seen-long : length (imageOf seen) ≤ length (lent .image)
+  seen-long : length (imageOf seen) ≤ length image
   seen-long = rw seen-image long
 
-  pub writing-reply : writing t lent .reply ≡ written (record { refusal = 0; length = length (imageOf t) })
-  unfolding seen writing stepOutcome outcome replyTo withTable
-  writing-reply =
-      ap written (invariant-reply seen-invariant (lent .image) seen-long ∙ ap (λ (bytes : List ℕ). record { refusal = 0; length = length bytes }) seen-image)
+  pub writing-reply : writing t area image ≡ record { refusal = 0; length = length (imageOf t) }
+  unfolding seen writing
+  writing-reply = invariant-reply seen-invariant image seen-long ∙ ap (λ (bytes : List ℕ). record { refusal = 0; length = length bytes }) seen-image
 
-  pub writing-bytes : take (length (imageOf t)) (writing t lent .areas .image) ≡ imageOf t
-  unfolding seen writing stepOutcome outcome areasAfter withTable withImage
+  pub writing-bytes : imageWritten (length (imageOf t)) t area image ≡ imageOf t
+  unfolding seen imageWritten
   writing-bytes =
-      subst (λ (bytes : List ℕ). take (length bytes) (imageAfterWrite seen (lent .image)) ≡ bytes) seen-image
-      (invariant-bytes seen-invariant (lent .image) seen-long)
+      subst (λ (bytes : List ℕ). take (length bytes) (imageAfterWrite seen image) ≡ bytes) seen-image
+      (invariant-bytes seen-invariant image seen-long)

@@ -33,7 +33,6 @@ mod RefinesTable
 mod RefinesFinding
 mod RefinesItems
 mod RefinesRefusals
-mod RefinesChange
 mod RefinesReading
 mod RefinesShown
 mod RefinesOwn

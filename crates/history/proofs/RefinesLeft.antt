@@ -12,22 +12,22 @@ use native.Mathlib.Decide.{decLe}
 use Rattle.metric_rules.specs.Row.{Row}
 use Rattle.table_rules.specs.Geometry.{tableRows}
 use Rattle.table_rules.specs.Table.{Table, orderOf}
-use Rattle.table_rules.specs.Fresh.{tableAfterFresh}
 use Rattle.table_rules.specs.Add.{tableAfterAdd}
 use Rattle.table_rules.specs.Remove.{tableAfterRemove}
-use Rattle.image_rules.specs.Load.{tableAfterLoad}
 use Rattle.list_rules.specs.ReadList.{Reading, stopped, oneMore, tableAfterReadList}
-use Rattle.history.specs.Calls.{Call, Lent, areasAfter, outcome, withTable, withWork, withResult, withImage}
-use Rattle.history.specs.Calls.Call.{fresh, load, add, remove, lookUp, range, nearest, write, readList}
-use Rattle.history.specs.Trace.{Step, State, overlaid, leftBy, stepOutcome, stateAfter}
-use Rattle.history.specs.Model.{Model, Answered, ListAnswered, lengthsOf, canChange, tagRefusal, itemRefusal, addRefusalOf, becomes, finds, unless, stopsAt, oneMoreAdded, answer, answerAt}
+use Rattle.call_rules.specs.Calls.{Begin, beginReply, tableBegun, Change, tableChanged, Call, Areas, tableAfter}
+use Rattle.call_rules.specs.Calls.Change.{add, remove, readList}
+use Rattle.call_rules.specs.Calls.Call.{begin, change, ask, write}
+use Rattle.history.specs.Trace.{Step, State, overlaid, leftBy, beginShown, stateAfter}
+use Rattle.history.specs.Model.{Model, ListAnswered, lengthsOf, canChange, tagRefusal, itemRefusal, addRefusalOf, removeRefusalOf, afterUnless, stopsAt, oneMoreAdded, modelBegun, beginAnswer, changeAnswer, answer, answerAt}
+use Rattle.history.specs.History.{IsBegin, IsChange, IsCall}
 use Rattle.history.proofs.RefinesItems.{Matches}
-use Rattle.history.proofs.RefinesRefusals.{changeable, enough-accepts, add-refusal, remove-refusal}
-use Rattle.history.proofs.RefinesChange.{Change}
+use Rattle.history.proofs.RefinesRefusals.{changeable, long-accepts, add-refusal, remove-refusal}
 use Rattle.history.proofs.RefinesReading.{Reads, reads, reads-matches}
 use Rattle.history.proofs.RefinesReading.Reads.{stops, takesIn}
 use Rattle.history.proofs.RefinesOwn.{matches-own}
 use Rattle.history.proofs.RefinesStep.{overlaid-length, overlaid-lendable}
+use Rattle.history.proofs.Changing.{begin-matches, begin-refused, matches-added, matches-removed}
 
 -- rows past the table do not matter
 pub matches-longer : {t : Table} {m : Model} → Matches t m → (rest : Table) → Matches (t ++ rest) m
@@ -60,20 +60,14 @@ module _ {left : Table} {m : Model} (ok : Matches left m) where
 
   -- a call that changes the table where its refusal is 0, and the model by the same number
   by-refusal : (area : Table) (n r : ℕ) → n ≡ r → (changed : Table) (after : Model) → (r ≡ 0 → Matches changed after)
-      → Matches (leftBy left (elim n as (λ _. Table) [ zero ↦ changed | suc j ↦ overlaid left area ])) (unless r m (becomes after) .model)
-  unfolding unless becomes leftBy
-  by-refusal area n r e changed after h = subst (λ (k : ℕ). Matches (leftBy left (elim k as (λ _. Table) [ zero ↦ changed | suc j ↦ overlaid left area ])) (unless r m (becomes after) .model)) (sym e) (go r h)
+      → Matches (leftBy left (elim n as (λ _. Table) [ zero ↦ changed | suc j ↦ overlaid left area ])) (afterUnless r m after)
+  unfolding afterUnless leftBy
+  by-refusal area n r e changed after h = subst (λ (k : ℕ). Matches (leftBy left (elim k as (λ _. Table) [ zero ↦ changed | suc j ↦ overlaid left area ])) (afterUnless r m after)) (sym e) (go r h)
     where
       go : (k : ℕ) → (k ≡ 0 → Matches changed after)
-          → Matches (leftBy left (elim k as (λ _. Table) [ zero ↦ changed | suc j ↦ overlaid left area ])) (unless k m (becomes after) .model)
+          → Matches (leftBy left (elim k as (λ _. Table) [ zero ↦ changed | suc j ↦ overlaid left area ])) (afterUnless k m after)
       go zero f = matches-longer (f refl) (drop (length changed) left)
       go (suc k) f = matches-left area
-
-  -- a search or a look up changes neither
-  by-reading : (area : Table) (r : ℕ) (a : Answered) → a .model ≡ m → Matches (leftBy left (overlaid left area)) (unless r m a .model)
-  unfolding unless
-  by-reading area zero a e = subst (Matches (leftBy left (overlaid left area))) (sym e) (matches-left area)
-  by-reading area (suc r) a e = matches-left area
 
   -- a herd list stops at once, or goes on from a table that matches
   by-lines : (area : Table) {work : List Row} {r : Reading} {a : ListAnswered} → Reads (overlaid left area) work m r a → Matches (leftBy left (r .table)) (a .model)
@@ -81,39 +75,48 @@ module _ {left : Table} {m : Model} (ok : Matches left m) where
   by-lines area (stops refusal line) = matches-left area
   by-lines area (takesIn {r = r} tag p here accepted next rest) = matches-longer (reads-matches rest next) (drop (length (r .table)) left)
 
-  after-call : (c : Call) (given : Lent)
-      → Change c (overlaid left (given .table)) m
-      → Matches (leftBy left (areasAfter c (withTable (overlaid left (given .table)) given) .table)) (answer m c (lengthsOf (withTable (overlaid left (given .table)) given)) .model)
-  unfolding areasAfter answer withTable withWork withResult withImage lengthsOf finds becomes tableAfterFresh tableAfterLoad tableAfterAdd tableAfterRemove tableAfterReadList addRefusalOf
-  after-call (fresh order space) given change = by-refusal (given .table) _ _ refl _ _ change
-  after-call (load image) given change = by-refusal (given .table) _ _ refl _ _ change
-  after-call (add tag p) given change =
-      let lent = withTable (overlaid left (given .table)) given in
-      let lendable = overlaid-lendable ok (given .table) in
-      by-refusal (given .table) _ _ (add-refusal m lent lendable tag p) _ _
+  after-begin : (b : Begin) → IsBegin b → (area : Table)
+      → Matches (leftBy left (tableBegun b (overlaid left area))) (beginAnswer m b (length (overlaid left area)) .model)
+  unfolding beginAnswer afterUnless leftBy
+  after-begin b is area = go (beginShown b (beginReply b (length (overlaid left area))) .refusal) refl
+    where
+      go : (n : ℕ) → beginShown b (beginReply b (length (overlaid left area))) .refusal ≡ n
+          → Matches (leftBy left (tableBegun b (overlaid left area))) (afterUnless n m (modelBegun b))
+      go zero e = matches-longer (begin-matches b is (overlaid left area) e) (drop (length (tableBegun b (overlaid left area))) left)
+      go (suc n) e = subst (λ (t : Table). Matches (leftBy left t) m) (sym (begin-refused b (overlaid left area) n e)) (matches-left area)
+
+  after-change : (c : Change) → IsChange c → (area : Table) (work : List Row)
+      → Matches (leftBy left (tableChanged c (overlaid left area) work)) (changeAnswer m c (length (overlaid left area)) (length work) .model)
+  unfolding changeAnswer tableAfterAdd tableAfterRemove tableAfterReadList addRefusalOf removeRefusalOf
+  after-change (add tag p) is area work =
+      let t = overlaid left area in
+      let lendable = overlaid-lendable ok area in
+      by-refusal area _ _ (add-refusal m t work lendable tag p) _ _
       (λ e.
-      let accepted = enough-accepts (canChange m (lengthsOf lent)) (itemRefusal m tag p) e in
-      change (changeable m lent lendable (accepted .0)) (accepted .1))
-  after-call (remove tag) given change =
-      let lent = withTable (overlaid left (given .table)) given in
-      let lendable = overlaid-lendable ok (given .table) in
-      by-refusal (given .table) _ _ (remove-refusal m lent lendable tag) _ _
+      let accepted = long-accepts (canChange m (length t) (length work)) (itemRefusal m tag p) e in
+      matches-added (changeable m t work lendable (accepted .0)) tag p (is .0) (is .1) (accepted .1))
+  after-change (remove tag) is area work =
+      let t = overlaid left area in
+      let lendable = overlaid-lendable ok area in
+      by-refusal area _ _ (remove-refusal m t work lendable tag) _ _
       (λ e.
-      let accepted = enough-accepts (canChange m (lengthsOf lent)) (tagRefusal m tag) e in
-      change (changeable m lent lendable (accepted .0)) (accepted .1))
-  after-call (lookUp tag) given change = by-reading (given .table) _ _ refl
-  after-call (range q r) given change = by-reading (given .table) _ _ refl
-  after-call (nearest q k) given change = by-reading (given .table) _ _ refl
-  after-call write given change = matches-left (given .table)
-  after-call (readList list) given change =
-      by-lines (given .table) (reads m (withTable (overlaid left (given .table)) given) (overlaid-lendable ok (given .table)) list change)
+      let accepted = long-accepts (canChange m (length t) (length work)) (tagRefusal m tag) e in
+      matches-removed (changeable m t work lendable (accepted .0)) tag (accepted .1))
+  after-change (readList list) is area work = by-lines area (reads m (overlaid left area) work (overlaid-lendable ok area) list)
+
+  after-call : (c : Call) → IsCall c → (area : Table) (areas : Areas c)
+      → Matches (leftBy left (tableAfter c (overlaid left area) areas)) (answer m c (length (overlaid left area)) (lengthsOf c areas) .model)
+  unfolding answer
+  after-call (begin b) is area none = after-begin b is area
+  after-call (change c) is area work = after-change c is area work
+  after-call (ask q) is area areas = matches-left area
+  after-call write is area image = matches-left area
 
 -- one call of a list: the table after it matches the model after it
-pub step-matches : (state : State) (m : Model) → Matches (state .table) m → (s : Step) → Change (s .call) (overlaid (state .table) (s .lent .table)) m
-    → Matches (stateAfter state s .table) (answerAt m s .model)
-unfolding stateAfter stepOutcome outcome answerAt lengthsOf withTable
-step-matches state m ok s change =
+pub step-matches : (state : State) (m : Model) → Matches (state .table) m → (s : Step) → IsCall (s .call) → Matches (stateAfter state s .table) (answerAt m s .model)
+unfolding stateAfter answerAt
+step-matches state m ok s is =
     subst
-    (λ (n : ℕ). Matches (stateAfter state s .table) (answer m (s .call) (record { table = n; work = length (s .lent .work); result = length (s .lent .result) }) .model))
-    (overlaid-length (state .table) (s .lent .table))
-    (after-call ok (s .call) (s .lent) change)
+    (λ (rows : ℕ). Matches (stateAfter state s .table) (answer m (s .call) rows (lengthsOf (s .call) (s .areas)) .model))
+    (overlaid-length (state .table) (s .table))
+    (after-call ok (s .call) is (s .table) (s .areas))

@@ -13,18 +13,18 @@ use Rattle.lists.specs.Lists.{All}
 use Rattle.lists.proofs.Tests.{and-pass}
 use Rattle.metric_rules.specs.declared.Profile.{Profile}
 use Rattle.metric_rules.specs.Row.{Row, zeroRow}
+use Rattle.table_rules.specs.Refusals.{shortArea, unless}
 use Rattle.table_rules.specs.Geometry.{workRows}
 use Rattle.table_rules.specs.Table.{Table, orderOf, cleared}
 use Rattle.table_rules.specs.Add.{addRefusal, addReply, added, tableAfterAdd, workAfterAdd}
 use Rattle.list_rules.specs.Lines.{ListLine, hasHeader, itemLines}
 use Rattle.list_rules.specs.Lines.ListLine.{anItem, malformed}
 use Rattle.list_rules.specs.ReadList.{Reading, badListHeader, badListLine, stopped, oneMore, reading, listReading}
-use Rattle.history.specs.Calls.{Lent}
-use Rattle.history.specs.Trace.{Shown, showsList}
-use Rattle.history.specs.Model.{Model, Lengths, ListAnswered, lengthsOf, with, canRead, canChange, enough, itemRefusal, addRefusalOf, stopsAt, oneMoreAdded, linesAnswered, listAnswered}
+use Rattle.list_rules.proofs.Fitting.{LineFits, lines-fit}
+use Rattle.history.specs.Model.{Model, ListAnswered, with, canRead, canChange, itemRefusal, addRefusalOf, stopsAt, oneMoreAdded, linesAnswered, listAnswered}
 use Rattle.history.proofs.RefinesItems.{Matches}
-use Rattle.history.proofs.RefinesRefusals.{Lendable, can-read, changeable, add-refusal, enough-accepts}
-use Rattle.history.proofs.RefinesChange.{LineAdds}
+use Rattle.history.proofs.RefinesRefusals.{Lendable, can-read, changeable, add-refusal, long-accepts}
+use Rattle.history.proofs.Changing.{matches-added}
 
 -- the reading of a table and the model's answer go the same way: both stop, or both take an item in and go on
 pub data Reads : Table → List Row → Model → Reading → ListAnswered → Type 0 where
@@ -34,10 +34,6 @@ pub data Reads : Table → List Row → Model → Reading → ListAnswered → T
       → Matches (tableAfterAdd t work tag p) (with (record { tag = tag; profile = p }) m)
       → Reads (tableAfterAdd t work tag p) (workAfterAdd t work tag p) (with (record { tag = tag; profile = p }) m) r a
       → Reads t work m (oneMore (addReply t work tag p .distances) r) (oneMoreAdded a)
-
--- the areas that an add of a line is lent
-abbrev lending : Table → List Row → Lent
-lending t work = record { table = t; work = work; result = []; image = [] }
 
 -- an accepted add leaves room for the next line's
 cleared-room : (n : ℕ) (work : List Row) → n ≤ length (cleared zeroRow n work)
@@ -53,22 +49,22 @@ module _ (t : Table) (work : List Row) (tag : ℕ) (p : Profile) (e : addRefusal
   unfolding workAfterAdd
   accepted-work = ap (λ (k : ℕ). elim k as (λ _. List Row) [ zero ↦ cleared zeroRow (workRows (orderOf t)) work | suc j ↦ work ]) e
 
-can-go-on : {t : Table} {m : Model} → Matches t m → (work : List Row) → workRows (orderOf t) ≤ length work → canChange m (lengthsOf (lending t work)) ≡ true
-unfolding canChange lengthsOf
+can-go-on : {t : Table} {m : Model} → Matches t m → (work : List Row) → workRows (orderOf t) ≤ length work → canChange m (length t) (length work) ≡ true
+unfolding canChange
 can-go-on {t} {m} ok work roomy =
-    and-pass (canRead m (lengthsOf (lending t work))) (leb (workRows (m .order)) (length work)) (can-read m (lending t work) ok)
+    and-pass (canRead m (length t)) (leb (workRows (m .order)) (length work)) (can-read m t ok)
     (le-leb (workRows (m .order)) (length work) (subst (λ (o : ℕ). workRows o ≤ length work) (ok .order) roomy))
 
 -- the lines from one on, in areas that the model's lengths tell as long enough or not
 reads-lines :
-    (lines : List ListLine) → All LineAdds lines → (t : Table) (work : List Row) (m : Model) (n : Lengths) (i : ℕ) → Lendable t m
-    → canChange m (lengthsOf (lending t work)) ≡ canChange m n → Reads t work m (reading t work i lines) (linesAnswered m n i lines)
+    (lines : List ListLine) → All LineFits lines → (t : Table) (work : List Row) (m : Model) (rows room i : ℕ) → Lendable t m
+    → canChange m (length t) (length work) ≡ canChange m rows room → Reads t work m (reading t work i lines) (linesAnswered m rows room i lines)
 unfolding reading linesAnswered addRefusalOf with canChange canRead
-reads-lines [] keeps t work m n i lendable same = stops 0 0
-reads-lines (malformed ∷ lines) keeps t work m n i lendable same = stops badListLine i
-reads-lines (anItem tag p ∷ lines) keeps t work m n i lendable same =
-    subst (λ (k : ℕ). Reads t work m (read k) (answered (addRefusalOf m n tag p))) (sym alike)
-    (go (reads-lines lines (keeps .1) u v after n (suc i)) (addRefusalOf m n tag p) refl)
+reads-lines [] fit t work m rows room i lendable same = stops 0 0
+reads-lines (malformed ∷ lines) fit t work m rows room i lendable same = stops badListLine i
+reads-lines (anItem tag p ∷ lines) fit t work m rows room i lendable same =
+    subst (λ (k : ℕ). Reads t work m (read k) (answered (addRefusalOf m rows room tag p))) (sym alike)
+    (go (reads-lines lines (fit .1) u v after rows room (suc i)) (addRefusalOf m rows room tag p) refl)
   where
     -- what the line's add leaves
     u : Table
@@ -84,44 +80,50 @@ reads-lines (anItem tag p ∷ lines) keeps t work m n i lendable same =
     read k = elim k [ suc r ↦ stopped (suc r) i t work | zero ↦ oneMore (addReply t work tag p .distances) (reading u v (suc i) lines) ]
 
     answered : ℕ → ListAnswered
-    answered k = elim k [ suc r ↦ stopsAt m (suc r) i | zero ↦ oneMoreAdded (linesAnswered after n (suc i) lines) ]
+    answered k = elim k [ suc r ↦ stopsAt m (suc r) i | zero ↦ oneMoreAdded (linesAnswered after rows room (suc i) lines) ]
 
-    alike : addRefusal t work tag p ≡ addRefusalOf m n tag p
-    alike = add-refusal m (lending t work) lendable tag p ∙ ap (λ (can : Bool). enough can (itemRefusal m tag p)) same
+    alike : addRefusal t work tag p ≡ addRefusalOf m rows room tag p
+    alike = add-refusal m t work lendable tag p ∙ ap (λ (can : Bool). unless can shortArea (itemRefusal m tag p)) same
 
     go :
-        (Lendable u after → canChange after (lengthsOf (lending u v)) ≡ canChange after n → Reads u v after (reading u v (suc i) lines) (linesAnswered after n (suc i) lines))
-        → (k : ℕ) → addRefusalOf m n tag p ≡ k → Reads t work m (read k) (answered k)
+        (Lendable u after → canChange after (length u) (length v) ≡ canChange after rows room → Reads u v after (reading u v (suc i) lines) (linesAnswered after rows room (suc i) lines))
+        → (k : ℕ) → addRefusalOf m rows room tag p ≡ k → Reads t work m (read k) (answered k)
     go others (suc r) e = stops (suc r) i
     go others zero e =
-        let asked = enough-accepts (canChange m n) (itemRefusal m tag p) e in
-        let here : Matches t m = changeable m (lending t work) lendable (same ∙ asked .0) in
+        let asked = long-accepts (canChange m rows room) (itemRefusal m tag p) e in
+        let here : Matches t m = changeable m t work lendable (same ∙ asked .0) in
         let accepted : addRefusal t work tag p ≡ 0 = alike ∙ e in
-        let next : Matches u after = subst (λ (x : Table). Matches x after) (sym (accepted-table t work tag p accepted)) (keeps .0 t m here (asked .1)) in
+        let next : Matches u after =
+        subst (λ (x : Table). Matches x after) (sym (accepted-table t work tag p accepted)) (matches-added here tag p (fit .0 .0) (fit .0 .1) (asked .1)) in
         let roomy : workRows (orderOf u) ≤ length v =
         rw (accepted-work t work tag p accepted, next .order, sym (here .order)) (cleared-room (workRows (orderOf t)) work) in
         takesIn tag p here accepted next (others (inl next) (can-go-on next v roomy ∙ sym (asked .0)))
 
 -- the whole list
-pub reads : (m : Model) (lent : Lent) → Lendable (lent .table) m → (list : List ℕ) → All LineAdds (itemLines list)
-    → Reads (lent .table) (lent .work) m (listReading (lent .table) (lent .work) list) (listAnswered m (lengthsOf lent) list)
-unfolding listReading listAnswered lengthsOf canChange canRead
-reads m lent lendable list keeps = go (hasHeader list)
+pub reads : (m : Model) (t : Table) (work : List Row) → Lendable t m → (list : List ℕ)
+    → Reads t work m (listReading t work list) (listAnswered m (length t) (length work) list)
+unfolding listReading listAnswered canChange canRead
+reads m t work lendable list = go (hasHeader list)
   where
     go : (b : Bool)
-        → Reads (lent .table) (lent .work) m
-        (elim b as (λ _. Reading) [ false ↦ stopped badListHeader 1 (lent .table) (lent .work) | true ↦ reading (lent .table) (lent .work) 2 (itemLines list) ])
-        (elim b as (λ _. ListAnswered) [ false ↦ stopsAt m badListHeader 1 | true ↦ linesAnswered m (lengthsOf lent) 2 (itemLines list) ])
+        → Reads t work m
+        (elim b as (λ _. Reading) [ false ↦ stopped badListHeader 1 t work | true ↦ reading t work 2 (itemLines list) ])
+        (elim b as (λ _. ListAnswered) [ false ↦ stopsAt m badListHeader 1 | true ↦ linesAnswered m (length t) (length work) 2 (itemLines list) ])
     go false = stops badListHeader 1
-    go true = reads-lines (itemLines list) keeps (lent .table) (lent .work) m (lengthsOf lent) 2 lendable refl
+    go true = reads-lines (itemLines list) (lines-fit list) t work m (length t) (length work) 2 lendable refl
 
 -- both show the same
-pub reads-shown : {t : Table} {work : List Row} {m : Model} {r : Reading} {a : ListAnswered} → Reads t work m r a
-    → showsList (r .reply .refusal) (r .reply .line) (r .reply .added) ≡ showsList (a .refusal) (a .line) (a .added)
-unfolding stopped stopsAt oneMore oneMoreAdded showsList
-reads-shown (stops refusal line) = refl
-reads-shown (takesIn tag p here accepted next rest) =
-    ap (λ (s : Shown). showsList (s .refusal) (s .line) (suc (s .added))) (reads-shown rest)
+pub record Alike (r : Reading) (a : ListAnswered) : Type 0 where
+  pub refusal : r .reply .refusal ≡ a .refusal
+  pub line : r .reply .line ≡ a .line
+  pub added : r .reply .added ≡ a .added
+
+pub reads-alike : {t : Table} {work : List Row} {m : Model} {r : Reading} {a : ListAnswered} → Reads t work m r a → Alike r a
+unfolding stopped stopsAt oneMore oneMoreAdded
+reads-alike (stops refusal line) = record { refusal = refl; line = refl; added = refl }
+reads-alike (takesIn tag p here accepted next rest) =
+    let same = reads-alike rest in
+    record { refusal = same .refusal; line = same .line; added = ap suc (same .added) }
 
 -- what a reading leaves matches the model again, of the same order
 pub reads-matches : {t : Table} {work : List Row} {m : Model} {r : Reading} {a : ListAnswered} → Reads t work m r a → Matches t m → Matches (r .table) (a .model)

@@ -6,12 +6,13 @@ use mathlib.Core.Logic.{_⊎_, inl, inr}
 use mathlib.Core.Bool.{Bool, true, false, _&&_, false≢true}
 use mathlib.Core.List.{List, [], _∷_, map}
 use mathlib.Core.Option.{Option, none, some}
-use lib.Dec.{leb}
+use lib.Dec.{leb, eqb}
 use lib.ListN.{length}
 use native.Mathlib.Omega.{arith}
-use borrow.Author.Tests.{le-leb, lt-leb, ne-eqb}
+use borrow.Author.Tests.{le-leb, lt-leb}
 use Rattle.lists.proofs.Tests.{and-first, and-pass}
 use Rattle.metric_rules.specs.declared.Profile.{Profile}
+use Rattle.metric_rules.specs.Row.{Row}
 use Rattle.metric_rules.specs.Validity.{validTag, validMeasures}
 use Rattle.metric_rules.specs.Distance.{validSpace}
 use Rattle.search_rules.specs.Range.{Entry}
@@ -22,9 +23,9 @@ use Rattle.table_rules.specs.Checks.{marksPass, frameRefusal, headerPasses, rea
 use Rattle.table_rules.specs.Add.{addRefusal}
 use Rattle.table_rules.specs.Remove.{removeRefusal}
 use Rattle.table_rules.specs.LookUp.{Place, find, isLiveTag, liveTagRefusal, lookUpRefusal}
-use Rattle.table_rules.specs.Search.{fitRefusal, nearestAnswer, rangeRefusal, nearestRefusal}
-use Rattle.history.specs.Calls.{Lent}
-use Rattle.history.specs.Model.{Item, itemOf, Model, lengthsOf, withTag, modelRange, modelNearest, canRead, canChange, enough, tagRefusal, itemRefusal, fits, scanRefusal, countRefusal}
+use Rattle.table_rules.specs.Search.{fitRefusal, rangeRefusal, nearestRefusal}
+use Rattle.call_rules.specs.Calls.Ask.{lookUp, range, nearest}
+use Rattle.history.specs.Model.{Item, itemOf, Model, withTag, isIn, canRead, canChange, tagRefusal, itemRefusal, addRefusalOf, removeRefusalOf, fits, questionRefusal, askRefusal}
 use Rattle.history.proofs.Invariant.{Invariant}
 use Rattle.history.proofs.RefinesFinding.{rowFound}
 use Rattle.history.proofs.RefinesItems.{Matches, range-alike, nearest-alike, found-items, live-total}
@@ -74,120 +75,107 @@ invariant-changes rows t invariant =
     ap (λ (n : ℕ). orElse n (unless roomy shortArea (unless (headerPasses t) badTable (unless (marksPass t) badTable 0)))) (invariant-frame t invariant)
     ∙ ap₂ (λ (a b : Bool). unless roomy shortArea (unless a badTable (unless b badTable 0))) (invariant .sizes) (invariant .marks)
 
-asked : (here model : Bool) → here ≡ model → unless here shortArea 0 ≡ enough model 0
-unfolding enough
-asked true true e = refl
-asked true false e = absurd (false≢true (sym e))
-asked false true e = absurd (false≢true e)
-asked false false e = refl
+asked : (here model : Bool) → here ≡ model → unless here shortArea 0 ≡ unless model shortArea 0
+asked here model e = ap (λ (b : Bool). unless b shortArea 0) e
 
-found-or-not : (o : Option Place) (is : List Item) (a b : ℕ) → map itemOf (rowFound o) ≡ is
-    → _≡_ {A = ℕ} (elim (elim o as (λ _. Bool) [ some place ↦ true | none ↦ false ]) [ false ↦ a | true ↦ b ]) (elim is [ [] ↦ a | i ∷ js ↦ b ])
-found-or-not none [] a b e = refl
-found-or-not none (i ∷ is) a b e = absurd (omega (arith, ap length e))
-found-or-not (some place) [] a b e = absurd (omega (arith, ap length e))
-found-or-not (some place) (i ∷ is) a b e = refl
+found-or-not : (o : Option Place) (is : List Item) → map itemOf (rowFound o) ≡ is
+    → _≡_ {A = Bool} (elim o [ some place ↦ true | none ↦ false ]) (elim is [ [] ↦ false | i ∷ js ↦ true ])
+found-or-not none [] e = refl
+found-or-not none (i ∷ is) e = absurd (omega (arith, ap length e))
+found-or-not (some place) [] e = absurd (omega (arith, ap length e))
+found-or-not (some place) (i ∷ is) e = refl
 
 -- what is asked of a table that matches the model, after 23 and 24
 module _ {t : Table} {m : Model} (matches : Matches t m) where
-  live-or-not : (tag a b : ℕ) → _≡_ {A = ℕ} (elim (isLiveTag t tag) [ false ↦ a | true ↦ b ]) (elim (withTag tag (m .items)) [ [] ↦ a | i ∷ is ↦ b ])
-  unfolding isLiveTag
-  live-or-not tag a b = found-or-not (find t tag) (withTag tag (m .items)) a b (found-items matches tag)
-
-  tag-alike : (tag : ℕ) → liveTagRefusal t tag ≡ tagRefusal m tag
-  unfolding tagRefusal
-  tag-alike tag = ap (λ (n : ℕ). unless (validTag tag) badTag n) (live-or-not tag notLive 0)
+  pub live-alike : (tag : ℕ) → isLiveTag t tag ≡ isIn m tag
+  unfolding isLiveTag isIn
+  live-alike tag = found-or-not (find t tag) (withTag tag (m .items)) (found-items matches tag)
 
   full-alike : leb (room (orderOf t)) (liveTotal t) ≡ leb (room (m .order)) (length (m .items))
   full-alike = ap₂ (λ (order n : ℕ). leb (room order) n) (matches .order) (live-total matches)
+
+  tag-alike : (tag : ℕ) → liveTagRefusal t tag ≡ tagRefusal m tag
+  unfolding tagRefusal
+  tag-alike tag = ap (λ (live : Bool). unless (validTag tag) badTag (unless live notLive 0)) (live-alike tag)
 
   item-alike : (tag : ℕ) (p : Profile)
       → unless (validTag tag) badTag (unless (validMeasures p) badMeasure (when (isLiveTag t tag) alreadyLive (when (leb (room (orderOf t)) (liveTotal t)) full 0)))
       ≡ itemRefusal m tag p
   unfolding itemRefusal
   item-alike tag p =
-      ap (λ (n : ℕ). unless (validTag tag) badTag (unless (validMeasures p) badMeasure n))
-      (ap (λ (isFull : Bool). when (isLiveTag t tag) alreadyLive (when isFull full 0)) full-alike
-      ∙ live-or-not tag (when (leb (room (m .order)) (length (m .items))) full 0) alreadyLive)
+      ap₂ (λ (live isFull : Bool). unless (validTag tag) badTag (unless (validMeasures p) badMeasure (when live alreadyLive (when isFull full 0)))) (live-alike tag) full-alike
 
 -- a table as a call is lent it: it matches the model, or it is too short for its order
 abbrev pub Lendable : Table → Model → Type 0
 Lendable t m = Matches t m ⊎ Short t m
 
-stopped : (stop : ℕ) (can : Bool) (rest model : ℕ) → stop ≡ enough can 0 → (can ≡ true → rest ≡ model) → orElse stop rest ≡ enough can model
-unfolding enough
+stopped : (stop : ℕ) (can : Bool) (rest model : ℕ) → stop ≡ unless can shortArea 0 → (can ≡ true → rest ≡ model) → orElse stop rest ≡ unless can shortArea model
 stopped stop true rest model e f = ap (λ (n : ℕ). orElse n rest) e ∙ f refl
 stopped stop false rest model e f = ap (λ (n : ℕ). orElse n rest) e
 
-pub enough-accepts : (can : Bool) (rest : ℕ) → enough can rest ≡ 0 → (can ≡ true) × (rest ≡ 0)
-unfolding enough
-enough-accepts true rest e = (refl, e)
-enough-accepts false rest e = absurd (omega arith)
+-- a call that is not refused has areas that are long enough, and passes what is asked after that
+pub long-accepts : (can : Bool) (rest : ℕ) → unless can shortArea rest ≡ 0 → (can ≡ true) × (rest ≡ 0)
+long-accepts true rest e = (refl, e)
+long-accepts false rest e = absurd (omega arith)
 
-module _ (m : Model) (lent : Lent) where
-  pub can-read : Matches (lent .table) m → canRead m (lengthsOf lent) ≡ true
-  unfolding canRead lengthsOf
-  can-read ok = ap (λ (n : ℕ). leb (tableRows n) (length (lent .table))) (sym (ok .order)) ∙ le-leb (tableRows (orderOf (lent .table))) (length (lent .table)) (ok .invariant .long)
+module _ (m : Model) (t : Table) where
+  pub can-read : Matches t m → canRead m (length t) ≡ true
+  unfolding canRead
+  can-read ok = ap (λ (n : ℕ). leb (tableRows n) (length t)) (sym (ok .order)) ∙ le-leb (tableRows (orderOf t)) (length t) (ok .invariant .long)
 
-  cannot-read : Short (lent .table) m → canRead m (lengthsOf lent) ≡ false
-  unfolding canRead lengthsOf
-  cannot-read short = lt-leb (tableRows (m .order)) (length (lent .table)) (short .short)
+  cannot-read : Short t m → canRead m (length t) ≡ false
+  unfolding canRead
+  cannot-read short = lt-leb (tableRows (m .order)) (length t) (short .short)
 
-  pub readable : Lendable (lent .table) m → canRead m (lengthsOf lent) ≡ true → Matches (lent .table) m
+  pub readable : Lendable t m → canRead m (length t) ≡ true → Matches t m
   readable (inl ok) e = ok
   readable (inr short) e = absurd (false≢true (sym (cannot-read short) ∙ e))
 
-  pub changeable : Lendable (lent .table) m → canChange m (lengthsOf lent) ≡ true → Matches (lent .table) m
-  unfolding canChange
-  changeable lendable e = readable lendable (and-first (canRead m (lengthsOf lent)) (leb (workRows (m .order)) (lengthsOf lent .work)) e)
-
-  pub read-refusal : Lendable (lent .table) m → readRefusal (lent .table) ≡ enough (canRead m (lengthsOf lent)) 0
-  unfolding readRefusal enough
-  read-refusal (inl ok) = invariant-reads (lent .table) (ok .invariant) ∙ ap (λ (b : Bool). enough b 0) (sym (can-read ok))
+  pub read-refusal : Lendable t m → readRefusal t ≡ unless (canRead m (length t)) shortArea 0
+  unfolding readRefusal
+  read-refusal (inl ok) = invariant-reads t (ok .invariant) ∙ ap (λ (b : Bool). unless b shortArea 0) (sym (can-read ok))
   read-refusal (inr short) =
-      ap (λ (n : ℕ). orElse n (unless (headerPasses (lent .table)) badTable 0)) (short-frame (lent .table) m short) ∙ ap (λ (b : Bool). enough b 0) (sym (cannot-read short))
+      ap (λ (n : ℕ). orElse n (unless (headerPasses t) badTable 0)) (short-frame t m short) ∙ ap (λ (b : Bool). unless b shortArea 0) (sym (cannot-read short))
 
-  pub change-refusal : Lendable (lent .table) m → changeRefusal (length (lent .work)) (lent .table) ≡ enough (canChange m (lengthsOf lent)) 0
-  unfolding changeRefusal enough canChange lengthsOf
-  change-refusal (inl ok) =
-      invariant-changes (length (lent .work)) (lent .table) (ok .invariant)
-      ∙ asked (leb (workRows (orderOf (lent .table))) (length (lent .work))) (leb (workRows (m .order)) (length (lent .work)))
-      (ap (λ (n : ℕ). leb (workRows n) (length (lent .work))) (ok .order))
-      ∙ ap (λ (b : Bool). enough (b && leb (workRows (m .order)) (length (lent .work))) 0) (sym (can-read ok))
-  change-refusal (inr short) =
-      ap (λ (n : ℕ). orElse n (unless (leb (workRows (orderOf (lent .table))) (length (lent .work))) shortArea (unless (headerPasses (lent .table)) badTable (unless (marksPass (lent .table)) badTable 0))))
-      (short-frame (lent .table) m short)
-      ∙ ap (λ (b : Bool). enough (b && leb (workRows (m .order)) (length (lent .work))) 0) (sym (cannot-read short))
+  module _ (work : List Row) where
+    pub changeable : Lendable t m → canChange m (length t) (length work) ≡ true → Matches t m
+    unfolding canChange
+    changeable lendable e = readable lendable (and-first (canRead m (length t)) _ e)
 
-  module _ (lendable : Lendable (lent .table) m) where
-    pub add-refusal : (tag : ℕ) (p : Profile) → addRefusal (lent .table) (lent .work) tag p ≡ enough (canChange m (lengthsOf lent)) (itemRefusal m tag p)
-    unfolding addRefusal
-    add-refusal tag p = stopped (changeRefusal (length (lent .work)) (lent .table)) _ _ (itemRefusal m tag p) (change-refusal lendable) (λ e. item-alike (changeable lendable e) tag p)
+    change-refusal : Lendable t m → changeRefusal (length work) t ≡ unless (canChange m (length t) (length work)) shortArea 0
+    unfolding changeRefusal canChange
+    change-refusal (inl ok) =
+        invariant-changes (length work) t (ok .invariant)
+        ∙ asked (leb (workRows (orderOf t)) (length work)) (leb (workRows (m .order)) (length work)) (ap (λ (n : ℕ). leb (workRows n) (length work)) (ok .order))
+        ∙ ap (λ (b : Bool). unless (b && leb (workRows (m .order)) (length work)) shortArea 0) (sym (can-read ok))
+    change-refusal (inr short) =
+        ap (λ (n : ℕ). orElse n (unless (leb (workRows (orderOf t)) (length work)) shortArea (unless (headerPasses t) badTable (unless (marksPass t) badTable 0))))
+        (short-frame t m short)
+        ∙ ap (λ (b : Bool). unless (b && leb (workRows (m .order)) (length work)) shortArea 0) (sym (cannot-read short))
 
-    pub remove-refusal : (tag : ℕ) → removeRefusal (lent .table) (lent .work) tag ≡ enough (canChange m (lengthsOf lent)) (tagRefusal m tag)
-    unfolding removeRefusal
-    remove-refusal tag = stopped (changeRefusal (length (lent .work)) (lent .table)) _ _ (tagRefusal m tag) (change-refusal lendable) (λ e. tag-alike (changeable lendable e) tag)
+    pub add-refusal : Lendable t m → (tag : ℕ) (p : Profile) → addRefusal t work tag p ≡ addRefusalOf m (length t) (length work) tag p
+    unfolding addRefusal addRefusalOf
+    add-refusal lendable tag p =
+        stopped (changeRefusal (length work) t) _ _ (itemRefusal m tag p) (change-refusal lendable) (λ e. item-alike (changeable lendable e) tag p)
 
-    pub look-up-refusal : (tag : ℕ) → lookUpRefusal (lent .table) tag ≡ enough (canRead m (lengthsOf lent)) (tagRefusal m tag)
-    unfolding lookUpRefusal
-    look-up-refusal tag = stopped (readRefusal (lent .table)) _ _ (tagRefusal m tag) (read-refusal lendable) (λ e. tag-alike (readable lendable e) tag)
+    pub remove-refusal : Lendable t m → (tag : ℕ) → removeRefusal t work tag ≡ removeRefusalOf m (length t) (length work) tag
+    unfolding removeRefusal removeRefusalOf
+    remove-refusal lendable tag =
+        stopped (changeRefusal (length work) t) _ _ (tagRefusal m tag) (change-refusal lendable) (λ e. tag-alike (changeable lendable e) tag)
 
-    pub range-refusal : (q : Profile) (r : ℕ)
-        → rangeRefusal (lent .table) (lent .result) q r
-        ≡ enough (canRead m (lengthsOf lent)) (scanRefusal q (fits (lengthsOf lent .result) (modelRange m q r)))
-    unfolding rangeRefusal scanRefusal fits fitRefusal lengthsOf
-    range-refusal q r =
-        stopped (readRefusal (lent .table)) _ _ _ (read-refusal lendable)
-        (λ e. ap (λ (es : List Entry). unless (validMeasures q) badMeasure (unless (leb (length es) (length (lent .result))) noRoom 0)) (range-alike (readable lendable e) q r))
+  module _ (lendable : Lendable t m) where
+    pub look-up-refusal : (tag : ℕ) → lookUpRefusal t tag ≡ askRefusal m (lookUp tag) (length t) tt
+    unfolding lookUpRefusal askRefusal questionRefusal
+    look-up-refusal tag = stopped (readRefusal t) _ _ (tagRefusal m tag) (read-refusal lendable) (λ e. tag-alike (readable lendable e) tag)
 
-    pub nearest-refusal : (q : Profile) (k : ℕ)
-        → nearestRefusal (lent .table) (lent .result) q k
-        ≡ enough (canRead m (lengthsOf lent)) (scanRefusal q (countRefusal k (fits (lengthsOf lent .result) (modelNearest m q k))))
-    unfolding nearestRefusal scanRefusal countRefusal fits fitRefusal lengthsOf
-    nearest-refusal q zero = stopped (readRefusal (lent .table)) _ _ _ (read-refusal lendable) (λ e. refl)
-    nearest-refusal q (suc k) =
-        stopped (readRefusal (lent .table)) _ _ _ (read-refusal lendable)
-        (
-        λ e. ap (λ (b : Bool). unless (validMeasures q) badMeasure (when b noCount (fitRefusal (lent .result) (nearestAnswer (lent .table) q (suc k))))) (ne-eqb (suc k) 0 (λ z. omega arith))
-        ∙ ap (λ (es : List Entry). unless (validMeasures q) badMeasure (unless (leb (length es) (length (lent .result))) noRoom 0)) (nearest-alike (readable lendable e) q (suc k))
-        )
+    pub range-refusal : (q : Profile) (r : ℕ) (result : List Entry) → rangeRefusal t result q r ≡ askRefusal m (range q r) (length t) (length result)
+    unfolding rangeRefusal fitRefusal askRefusal questionRefusal fits
+    range-refusal q r result =
+        stopped (readRefusal t) _ _ _ (read-refusal lendable)
+        (λ e. ap (λ (es : List Entry). unless (validMeasures q) badMeasure (unless (leb (length es) (length result)) noRoom 0)) (range-alike (readable lendable e) q r))
+
+    pub nearest-refusal : (q : Profile) (k : ℕ) (result : List Entry) → nearestRefusal t result q k ≡ askRefusal m (nearest q k) (length t) (length result)
+    unfolding nearestRefusal fitRefusal askRefusal questionRefusal fits
+    nearest-refusal q k result =
+        stopped (readRefusal t) _ _ _ (read-refusal lendable)
+        (λ e. ap (λ (es : List Entry). unless (validMeasures q) badMeasure (when (eqb k 0) noCount (unless (leb (length es) (length result)) noRoom 0))) (nearest-alike (readable lendable e) q k))

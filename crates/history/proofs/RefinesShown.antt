@@ -2,73 +2,69 @@
 -- list's line and number added. Each call by its refusal, which is the model's; an accepted look up has found the item, an accepted search shows its entries and no
 -- zeros, and a herd list goes as the model's.
 use Prim.Native.Nat.{ℕ, zero, suc, _-_}
-use mathlib.Core.Path.{_≡_, refl, sym, _∙_, ap}
+use mathlib.Core.Path.{_≡_, refl, sym, _∙_, ap, ap₂}
 use mathlib.Core.Bool.{Bool, true, false}
 use mathlib.Core.List.{List, [], _∷_, map}
 use mathlib.Core.Option.{Option, none, some}
-use lib.ListN.{length, replicate}
+use lib.ListN.{length, take, replicate}
 use lib.Seq.{take-append-seam}
 use native.Mathlib.Omega.{arith}
-use Rattle.metric_rules.specs.declared.Profile.{Profile}
-use Rattle.metric_rules.specs.Row.{profileOf}
+use Rattle.metric_rules.specs.Row.{Row, profileOf}
 use Rattle.metric_rules.specs.Validity.{validTag}
 use Rattle.search_rules.specs.Range.{Entry}
 use Rattle.table_rules.specs.declared.Added.{Added}
 use Rattle.table_rules.specs.declared.Removed.{Removed}
 use Rattle.table_rules.specs.declared.LookedUp.{LookedUp}
-use Rattle.table_rules.specs.Refusals.{badTag, notLive}
+use Rattle.table_rules.specs.Refusals.{badTag, notLive, unless}
+use Rattle.table_rules.specs.Table.{Table}
 use Rattle.table_rules.specs.Add.{addRefusal, addReply}
 use Rattle.table_rules.specs.Remove.{removeRefusal, removeReply}
 use Rattle.table_rules.specs.LookUp.{Place, find, notFound, lookUpReply}
 use Rattle.table_rules.specs.Search.{Answer, rangeAnswer, nearestAnswer, rangeRefusal, nearestRefusal, searchReply, zeroEntry, resultAfter, rangeReply, resultAfterRange, nearestReply, resultAfterNearest}
-use Rattle.table_rules.specs.Fresh.{freshRefusal}
-use Rattle.image_rules.specs.Load.{loadRefusal}
 use Rattle.list_rules.specs.ReadList.{readListReply}
-use Rattle.history.specs.Calls.{Call, Lent, replyTo, areasAfter, withTable, withWork, withResult, withImage}
-use Rattle.history.specs.Calls.Call.{fresh, load, add, remove, lookUp, range, nearest, write, readList}
-use Rattle.history.specs.Calls.Reply.{searched}
-use Rattle.history.specs.Trace.{showsRefusal, showsProfile, showsEntries, shown}
-use Rattle.history.specs.Model.{Item, itemOf, Model, lengthsOf, withTag, profileIn, modelRange, modelNearest, canRead, canChange, enough, tagRefusal, itemRefusal, addRefusalOf, becomes, finds, unless, answer}
-use Rattle.history.specs.History.{CanBegin}
+use Rattle.call_rules.specs.Calls.{Change, changeReply, Ask, AskAreas, askReply, areasAnswered, Call, Areas, replyTo, areasAfter}
+use Rattle.call_rules.specs.Calls.Change.{add, remove, readList}
+use Rattle.call_rules.specs.Calls.Ask.{lookUp, range, nearest}
+use Rattle.call_rules.specs.Calls.Call.{begin, change, ask, write}
+use Rattle.history.specs.Trace.{zeroed, shows, changeShown, askShown, shown}
+use Rattle.history.specs.Trace.Payload.{bare, aProfile, someEntries, aListRead}
+use Rattle.history.specs.Model.{Item, itemOf, Model, AskLengths, askLengths, lengthsOf, withTag, isIn, profileIn, modelRange, modelNearest, canRead, tagRefusal, questionRefusal, askRefusal, found, answerTo, showsUnless, beginAnswer, changeAnswer, answer}
 use Rattle.history.proofs.RefinesFinding.{rowFound}
 use Rattle.history.proofs.RefinesItems.{Matches, range-alike, nearest-alike, found-items}
-use Rattle.history.proofs.RefinesRefusals.{Lendable, readable, enough-accepts, add-refusal, remove-refusal, look-up-refusal, range-refusal, nearest-refusal}
-use Rattle.history.proofs.RefinesChange.{Change}
-use Rattle.history.proofs.RefinesReading.{reads, reads-shown}
-
--- an answer that shows no more than its refusal
-shows-number : (n : ℕ) (m after : Model) → showsRefusal n ≡ unless n m (becomes after) .shows
-unfolding unless becomes
-shows-number zero m after = refl
-shows-number (suc n) m after = refl
+use Rattle.history.proofs.RefinesRefusals.{Lendable, readable, long-accepts, add-refusal, remove-refusal, look-up-refusal, range-refusal, nearest-refusal}
+use Rattle.history.proofs.RefinesReading.{reads, reads-alike}
 
 -- a search shows its entries where it is accepted
-shows-found : (n : ℕ) (m : Model) (area : List Entry) (a : Answer) (es : List Entry) → (n ≡ 0 → a .entries ≡ es)
-    → shown (searched (searchReply n a)) (resultAfter n area a) ≡ unless n m (finds m es) .shows
-unfolding shown searchReply resultAfter unless finds showsEntries showsRefusal
-shows-found zero m area a es e =
-    ap (λ (l : List Entry). showsEntries 0 (length (a .entries)) l) (take-append-seam (a .entries) (replicate (length area - length (a .entries)) zeroEntry))
-    ∙ ap (λ (l : List Entry). showsEntries 0 (length l) l) (e refl)
-shows-found (suc n) m area a es e = refl
+shows-found : (n : ℕ) (area : List Entry) (a : Answer) (es : List Entry) → (n ≡ 0 → a .entries ≡ es)
+    → shows (searchReply n a .refusal) (someEntries (searchReply n a .found) (take (searchReply n a .found) (resultAfter n area a))) ≡ showsUnless n (found es)
+unfolding searchReply resultAfter showsUnless zeroed found
+shows-found zero area a es e =
+    ap (λ (l : List Entry). shows 0 (someEntries (length (a .entries)) l)) (take-append-seam (a .entries) (replicate (length area - length (a .entries)) zeroEntry))
+    ∙ ap (λ (l : List Entry). shows 0 (someEntries (length l) l)) (e refl)
+shows-found (suc n) area a es e = refl
 
 -- a look up shows the profile of what it found, where it is accepted and so has found something
-shows-profile : (n : ℕ) (m : Model) (o : Option Place) (is : List Item) → (n ≡ 0 → (map itemOf (rowFound o) ≡ is) × (is ≡ [] → ⊥)) → (reply : LookedUp)
+shows-profile : (n : ℕ) (o : Option Place) (is : List Item) → (n ≡ 0 → (map itemOf (rowFound o) ≡ is) × (is ≡ [] → ⊥)) → (reply : LookedUp)
     → reply ≡ elim n [
       | suc j ↦ notFound (suc j)
       | zero ↦ elim o [ some place ↦ record { refusal = 0; bucket = place .bucket; profile = profileOf (place .row) } | none ↦ notFound notLive ]
     ]
-    → showsProfile (reply .refusal) (reply .profile) ≡ unless n m (record { model = m; shows = showsProfile 0 (profileIn is) }) .shows
-unfolding notFound unless showsProfile showsRefusal profileIn itemOf
-shows-profile (suc n) m o is e reply f = ap (λ (l : LookedUp). showsProfile (l .refusal) (l .profile)) f
-shows-profile zero m none is e reply f = absurd (e refl .1 (sym (e refl .0)))
-shows-profile zero m (some place) is e reply f =
-    ap (λ (l : LookedUp). showsProfile (l .refusal) (l .profile)) f ∙ ap (λ (js : List Item). showsProfile 0 (profileIn js)) (e refl .0)
+    → shows (reply .refusal) (aProfile (reply .profile)) ≡ showsUnless n (aProfile (profileIn is))
+unfolding notFound showsUnless zeroed profileIn itemOf
+shows-profile (suc n) o is e reply f = ap (λ (l : LookedUp). shows (l .refusal) (aProfile (l .profile))) f
+shows-profile zero none is e reply f = absurd (e refl .1 (sym (e refl .0)))
+shows-profile zero (some place) is e reply f =
+    ap (λ (l : LookedUp). shows (l .refusal) (aProfile (l .profile))) f ∙ ap (λ (js : List Item). shows 0 (aProfile (profileIn js))) (e refl .0)
 
 -- an accepted tag is there
-tag-there : (valid : Bool) (is : List Item) → _≡_ {A = ℕ} (elim valid [ false ↦ badTag | true ↦ elim is [ [] ↦ notLive | i ∷ js ↦ 0 ] ]) 0 → is ≡ [] → ⊥
-tag-there false is e f = omega arith
-tag-there true [] e f = omega arith
-tag-there true (i ∷ is) e f = omega (arith, ap length f)
+tag-there : (m : Model) (tag : ℕ) → tagRefusal m tag ≡ 0 → withTag tag (m .items) ≡ [] → ⊥
+unfolding tagRefusal isIn
+tag-there m tag e = go (validTag tag) (withTag tag (m .items)) e
+  where
+    go : (valid : Bool) (is : List Item) → unless valid badTag (unless (elim is [ [] ↦ false | i ∷ js ↦ true ]) notLive 0) ≡ 0 → is ≡ [] → ⊥
+    go false is e f = omega arith
+    go true [] e f = omega arith
+    go true (i ∷ is) e f = omega (arith, ap length f)
 
 add-number : (n bucket distances : ℕ)
     → (elim n as (λ _. Added) [
@@ -84,62 +80,57 @@ remove-number : (n distances : ℕ)
 remove-number zero distances = refl
 remove-number (suc n) distances = refl
 
--- a call that can begin a table reads nothing of it but its length
-pub begin-shown : (m : Model) (lent : Lent) (c : Call) → CanBegin c → shown (replyTo c lent) (areasAfter c lent .result) ≡ answer m c (lengthsOf lent) .shows
-unfolding replyTo areasAfter shown answer withTable lengthsOf
-begin-shown m lent (fresh order space) h = shows-number (freshRefusal (length (lent .table)) order space) m _
-begin-shown m lent (load image) h = shows-number (loadRefusal (length (lent .table)) image) m _
-begin-shown m lent (add tag p) h = absurd h
-begin-shown m lent (remove tag) h = absurd h
-begin-shown m lent (lookUp tag) h = absurd h
-begin-shown m lent (range q r) h = absurd h
-begin-shown m lent (nearest q k) h = absurd h
-begin-shown m lent write h = absurd h
-begin-shown m lent (readList list) h = absurd h
+module _ (m : Model) (t : Table) (lendable : Lendable t m) where
+  -- each change
+  change-shown : (c : Change) (work : List Row) → changeShown c (changeReply c t work) ≡ changeAnswer m c (length t) (length work) .shows
+  unfolding changeShown changeAnswer addReply removeReply readListReply
+  change-shown (add tag p) work =
+      ap (λ (n : ℕ). shows n bare) (add-number (addRefusal t work tag p) _ _ ∙ add-refusal m t work lendable tag p)
+  change-shown (remove tag) work =
+      ap (λ (n : ℕ). shows n bare) (remove-number (removeRefusal t work tag) _ ∙ remove-refusal m t work lendable tag)
+  change-shown (readList list) work =
+      let alike = reads-alike (reads m t work lendable list) in
+      ap₂ shows (alike .refusal) (ap₂ aListRead (alike .line) (alike .added))
 
-module _ (m : Model) (lent : Lent) (lendable : Lendable (lent .table) m) where
-  add-shown : (tag : ℕ) (p : Profile) → addReply (lent .table) (lent .work) tag p .refusal ≡ enough (canChange m (lengthsOf lent)) (itemRefusal m tag p)
-  unfolding addReply
-  add-shown tag p = add-number (addRefusal (lent .table) (lent .work) tag p) _ _ ∙ add-refusal m lent lendable tag p
+  -- an accepted question is asked of a table that matches the model
+  accepted-ask : (q : Ask) (n : AskLengths q) → askRefusal m q (length t) n ≡ 0 → Matches t m
+  unfolding askRefusal
+  accepted-ask q n e = readable m t lendable (long-accepts (canRead m (length t)) (questionRefusal m q n) e .0)
 
-  remove-shown : (tag : ℕ) → removeReply (lent .table) (lent .work) tag .refusal ≡ enough (canChange m (lengthsOf lent)) (tagRefusal m tag)
-  unfolding removeReply
-  remove-shown tag = remove-number (removeRefusal (lent .table) (lent .work) tag) _ ∙ remove-refusal m lent lendable tag
+  asked-tag : (tag : ℕ) → askRefusal m (lookUp tag) (length t) tt ≡ 0 → tagRefusal m tag ≡ 0
+  unfolding askRefusal questionRefusal
+  asked-tag tag e = long-accepts (canRead m (length t)) (tagRefusal m tag) e .1
 
-  look-up-shown : (tag : ℕ)
-      → showsProfile (lookUpReply (lent .table) tag .refusal) (lookUpReply (lent .table) tag .profile)
-      ≡ unless (enough (canRead m (lengthsOf lent)) (tagRefusal m tag)) m (record { model = m; shows = showsProfile 0 (profileIn (withTag tag (m .items))) }) .shows
-  unfolding lookUpReply tagRefusal
-  look-up-shown tag =
-      shows-profile (enough (canRead m (lengthsOf lent)) (tagRefusal m tag)) m (find (lent .table) tag) (withTag tag (m .items))
-      (λ e.
-      let ok = enough-accepts (canRead m (lengthsOf lent)) (tagRefusal m tag) e in
-      (found-items (readable m lent lendable (ok .0)) tag, tag-there (validTag tag) (withTag tag (m .items)) (ok .1)))
-      (lookUpReply (lent .table) tag)
+  found-shown : (q : Ask) (n : AskLengths q) (refusal : ℕ) (result : List Entry) (a : Answer) (es : List Entry) → refusal ≡ askRefusal m q (length t) n
+      → (Matches t m → a .entries ≡ es)
+      → shows (searchReply refusal a .refusal) (someEntries (searchReply refusal a .found) (take (searchReply refusal a .found) (resultAfter refusal result a)))
+      ≡ showsUnless (askRefusal m q (length t) n) (found es)
+  found-shown q n refusal result a es e alike =
+      shows-found refusal result a es (λ z. alike (accepted-ask q n (sym e ∙ z))) ∙ ap (λ (k : ℕ). showsUnless k (found es)) e
+
+  -- each question
+  ask-shown : (q : Ask) (areas : AskAreas q)
+      → askShown q (askReply q t areas) (areasAnswered q t areas) ≡ showsUnless (askRefusal m q (length t) (askLengths q areas)) (answerTo m q)
+  unfolding askShown answerTo rangeReply resultAfterRange nearestReply resultAfterNearest lookUpReply
+  ask-shown (lookUp tag) areas =
+      shows-profile (askRefusal m (lookUp tag) (length t) tt) (find t tag) (withTag tag (m .items))
+      (λ e. (found-items (accepted-ask (lookUp tag) tt e) tag, tag-there m tag (asked-tag tag e)))
+      (lookUpReply t tag)
       (ap (λ (n : ℕ). elim n as (λ _. LookedUp) [
         | suc j ↦ notFound (suc j)
-        | zero ↦ elim (find (lent .table) tag) [ some place ↦ record { refusal = 0; bucket = place .bucket; profile = profileOf (place .row) } | none ↦ notFound notLive ]
-      ]) (look-up-refusal m lent lendable tag))
-
-  search-shown : (n rest : ℕ) (a : Answer) (es : List Entry) → n ≡ enough (canRead m (lengthsOf lent)) rest → (Matches (lent .table) m → a .entries ≡ es)
-      → shown (searched (searchReply n a)) (resultAfter n (lent .result) a) ≡ unless (enough (canRead m (lengthsOf lent)) rest) m (finds m es) .shows
-  search-shown n rest a es e alike =
-      shows-found n m (lent .result) a es (λ z. alike (readable m lent lendable (enough-accepts (canRead m (lengthsOf lent)) rest (sym e ∙ z) .0)))
-      ∙ ap (λ (x : ℕ). unless x m (finds m es) .shows) e
-
-  -- what each call shows
-  pub shown-alike : (c : Call) → Change c (lent .table) m → shown (replyTo c lent) (areasAfter c lent .result) ≡ answer m c (lengthsOf lent) .shows
-  unfolding replyTo areasAfter shown answer withTable withWork withResult withImage lengthsOf becomes rangeReply resultAfterRange nearestReply resultAfterNearest readListReply addRefusalOf
-  shown-alike (fresh order space) change = begin-shown m lent (fresh order space) tt
-  shown-alike (load image) change = begin-shown m lent (load image) tt
-  shown-alike (add tag p) change = ap showsRefusal (add-shown tag p) ∙ shows-number (enough (canChange m (lengthsOf lent)) (itemRefusal m tag p)) m _
-  shown-alike (remove tag) change = ap showsRefusal (remove-shown tag) ∙ shows-number (enough (canChange m (lengthsOf lent)) (tagRefusal m tag)) m _
-  shown-alike (lookUp tag) change = look-up-shown tag
-  shown-alike (range q r) change =
-      search-shown (rangeRefusal (lent .table) (lent .result) q r) _ (rangeAnswer (lent .table) q r) (modelRange m q r) (range-refusal m lent lendable q r)
+        | zero ↦ elim (find t tag) [ some place ↦ record { refusal = 0; bucket = place .bucket; profile = profileOf (place .row) } | none ↦ notFound notLive ]
+      ]) (look-up-refusal m t lendable tag))
+  ask-shown (range q r) result =
+      found-shown (range q r) (length result) (rangeRefusal t result q r) result (rangeAnswer t q r) (modelRange m q r) (range-refusal m t lendable q r result)
       (λ ok. range-alike ok q r)
-  shown-alike (nearest q k) change =
-      search-shown (nearestRefusal (lent .table) (lent .result) q k) _ (nearestAnswer (lent .table) q k) (modelNearest m q k) (nearest-refusal m lent lendable q k)
+  ask-shown (nearest q k) result =
+      found-shown (nearest q k) (length result) (nearestRefusal t result q k) result (nearestAnswer t q k) (modelNearest m q k) (nearest-refusal m t lendable q k result)
       (λ ok. nearest-alike ok q k)
-  shown-alike write change = refl
-  shown-alike (readList list) change = reads-shown (reads m lent lendable list change)
+
+  -- what each call shows; a call that begins a table reads nothing of it but its length
+  pub shown-alike : (c : Call) (areas : Areas c) → shown c (replyTo c t areas) (areasAfter c t areas) ≡ answer m c (length t) (lengthsOf c areas) .shows
+  unfolding shown answer beginAnswer
+  shown-alike (begin b) areas = refl
+  shown-alike (change c) work = change-shown c work
+  shown-alike (ask q) areas = ask-shown q areas
+  shown-alike write image = refl

@@ -13,12 +13,10 @@ use Rattle.metric_rules.specs.Distance.{validSpace}
 use Rattle.table_rules.specs.Geometry.{validOrder, tableRows, headerRow}
 use Rattle.table_rules.specs.Table.{Table, rowAt, orderOf}
 use Rattle.table_rules.proofs.Views.{SameHeader, same-order, same-space}
-use Rattle.history.specs.Calls.{outcome, withTable}
-use Rattle.history.specs.Trace.{Step, State, overlaid, stepOutcome, shownAt}
+use Rattle.history.specs.Trace.{Step, State, overlaid, shownAt}
 use Rattle.history.specs.Model.{Model, lengthsOf, answer, answerAt}
 use Rattle.history.proofs.RefinesItems.{Matches}
 use Rattle.history.proofs.RefinesRefusals.{Lendable, rows-some}
-use Rattle.history.proofs.RefinesChange.{Change}
 use Rattle.history.proofs.RefinesShown.{shown-alike}
 use Rattle.history.proofs.RefinesOwn.{matches-own}
 
@@ -59,11 +57,8 @@ overlaid-lendable {left} {m} ok area =
     ]
 
 -- what a call shows
-pub step-shown : (state : State) (m : Model) → Matches (state .table) m → (s : Step) → Change (s .call) (overlaid (state .table) (s .lent .table)) m
-    → shownAt state s ≡ answerAt m s .shows
-unfolding shownAt stepOutcome outcome answerAt withTable lengthsOf
-step-shown state m ok s change =
-    let lent = withTable (overlaid (state .table) (s .lent .table)) (s .lent) in
-    shown-alike m lent (overlaid-lendable ok (s .lent .table)) (s .call) change
-    ∙ ap (λ (n : ℕ). answer m (s .call) (record { table = n; work = length (s .lent .work); result = length (s .lent .result) }) .shows)
-    (overlaid-length (state .table) (s .lent .table))
+pub step-shown : (state : State) (m : Model) → Matches (state .table) m → (s : Step) → shownAt state s ≡ answerAt m s .shows
+unfolding shownAt answerAt
+step-shown state m ok s =
+    shown-alike m (overlaid (state .table) (s .table)) (overlaid-lendable ok (s .table)) (s .call) (s .areas)
+    ∙ ap (λ (rows : ℕ). answer m (s .call) rows (lengthsOf (s .call) (s .areas)) .shows) (overlaid-length (state .table) (s .table))

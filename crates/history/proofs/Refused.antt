@@ -2,19 +2,18 @@
 -- was, but 6 on range and nearest leaves the result area all zero. Each is a run that antt computes.
 use Prim.Native.Nat.{ℕ, _+_, _^_}
 use mathlib.Core.Path.{_≡_, refl}
-use mathlib.Core.List.{List, [], _∷_, _++_}
+use mathlib.Core.List.{List, [], _∷_, _++_, map}
 use lib.IntN.{pos, negsuc}
 use lib.ListN.{set, take, replicate}
 use Rattle.metric_rules.specs.declared.Profile.{Profile}
 use Rattle.metric_rules.specs.Row.{zeroRow, rowOf, withMark}
 use Rattle.table_rules.specs.Geometry.{firstSlot}
 use Rattle.table_rules.specs.Table.{Table, rowAt, pairRow, putSizes}
-use Rattle.table_rules.specs.LookUp.{notFound}
-use Rattle.history.specs.Calls.{Call, Lent, Reply, Outcome}
-use Rattle.history.specs.Calls.Call.{fresh, load, add, remove, lookUp, range, nearest, write, readList}
-use Rattle.history.specs.Calls.Reply.{number, added, removed, lookedUp, searched, written, listRead}
+use Rattle.table_rules.specs.LookUp.{notFound, lookUpReply}
+use Rattle.call_rules.specs.Calls.{Call, Areas}
+use Rattle.call_rules.specs.Calls.Call.{write}
 use Rattle.history.proofs.Computing.{performed}
-use Rattle.history.proofs.Running.{by, tag, valued, areas, listOf, itemLine, table}
+use Rattle.history.proofs.Running.{fresh, load, add, remove, readList, lookUp, range, nearest, by, tag, valued, areasFor, areaRows, replyNumbers, listOf, itemLine, table}
 
 -- the table of the four items, written out, so that no try works it out again; and that it is theirs
 laid : Table
@@ -31,49 +30,57 @@ table-laid = refl
 -- a call with the areas lent to it
 record Try : Type 0 where
   call : Call
-  lent : Lent
+  table : Table
+  areas : Areas call
 
 on : Table → Call → Try
-unfolding areas
-on t c = record { call = c; lent = areas t }
+unfolding areasFor
+on t c = record { call = c; table = t; areas = areasFor 9 c }
 
-outcomes : List Try → List Outcome
-unfolding performed
+-- what a call left, in numbers: its reply, the table and its own areas
+record Left : Type 0 where
+  reply : List ℕ
+  table : Table
+  areas : List (List ℕ)
+
+outcomes : List Try → List Left
+unfolding performed replyNumbers areaRows
 outcomes [] = []
-outcomes (x ∷ xs) = performed (x .call) (x .lent) ∷ outcomes xs
+outcomes (x ∷ xs) =
+    let o = performed (x .call) (x .table) (x .areas) in
+    record { reply = replyNumbers (x .call) (o .reply) (o .areas); table = o .table; areas = areaRows (x .call) (o .areas) } ∷ outcomes xs
 
 -- every area as it was, with these replies
-refusals : List Reply → List Try → List Outcome
+refusals : List (List ℕ) → List Try → List Left
+unfolding areaRows
 refusals [] xs = []
 refusals (r ∷ rs) [] = []
-refusals (r ∷ rs) (x ∷ xs) = record { reply = r; areas = x .lent } ∷ refusals rs xs
+refusals (r ∷ rs) (x ∷ xs) = record { reply = r; table = x .table; areas = areaRows (x .call) (x .areas) } ∷ refusals rs xs
 
-noAdd : ℕ → Reply
-noAdd n = added (record { refusal = n; bucket = 0; distances = 0 })
+number : ℕ → List ℕ
+number n = n ∷ []
 
-noRemove : ℕ → Reply
-noRemove n = removed (record { refusal = n; distances = 0 })
+noAdd : ℕ → List ℕ
+noAdd n = n ∷ 0 ∷ 0 ∷ []
 
-noProfile : ℕ → Reply
-unfolding notFound
-noProfile n = lookedUp (notFound n)
+noRemove : ℕ → List ℕ
+noRemove n = n ∷ 0 ∷ []
 
-noSearch : ℕ → Reply
-noSearch n = searched (record { refusal = n; found = 0; distances = 0 })
+noProfile : ℕ → List ℕ
+noProfile n = n ∷ 0 ∷ []
 
-noImage : ℕ → Reply
-noImage n = written (record { refusal = n; length = 0 })
+noSearch : ℕ → List ℕ
+noSearch n = n ∷ 0 ∷ 0 ∷ []
+
+noImage : ℕ → List ℕ
+noImage n = n ∷ 0 ∷ []
 
 -- a herd list refused at a line with nothing added
-noList : ℕ → ℕ → Reply
-noList n line = listRead (record { refusal = n; line = line; added = 0; distances = 0 })
+noList : ℕ → ℕ → List ℕ
+noList n line = n ∷ line ∷ 0 ∷ 0 ∷ []
 
 below : Profile
 below = record { measures = pos 0 ∷ pos 0 ∷ pos 0 ∷ negsuc 1_000_000 ∷ []; code = 0 ∷ 0 ∷ [] }
-
-shortWork : Lent
-unfolding laid
-shortWork = record { table = laid; work = replicate 3 (replicate 12 7); result = []; image = [] }
 
 -- that table with another header; other sizes in bucket 2, or a fifth live item in bucket 0; and a mark that is neither 0 nor 1
 headed : ℕ → ℕ → Table
@@ -89,7 +96,7 @@ unfolding withMark rowAt firstSlot laid
 misMarked = let at = firstSlot 2 2 + 1 in set laid at (withMark 2 (rowAt laid at))
 
 tries : List Try
-unfolding on laid tag valued below shortWork headed sized misMarked listOf itemLine
+unfolding on laid tag valued below headed sized misMarked listOf itemLine
 tries =
     on laid (add (10 ^ 12) (valued 1_000_001))
     ∷ on laid (add 999_999_999_999 (valued 1_000_001))
@@ -118,7 +125,7 @@ tries =
     ∷ on [] (add 0 below)
     ∷ on (take 10 laid) (lookUp 0)
     ∷ on (take 10 laid) (fresh 2 (by 0))
-    ∷ record { call = add (tag 5) (valued 0); lent = shortWork }
+    ∷ record { call = add (tag 5) (valued 0); table = laid; areas = replicate 3 (replicate 12 7) }
     ∷ on (take 1 (headed 13 0)) (remove 0)
     ∷ on (headed 2 3) (range below 0)
     ∷ on (headed 2 2) (range below 0)
@@ -136,8 +143,8 @@ tries =
     ∷ []
 
 -- in the order of the tries: the first number that applies
-expected : List Reply
-unfolding noAdd noRemove noProfile noSearch noImage noList
+expected : List (List ℕ)
+unfolding number noAdd noRemove noProfile noSearch noImage noList
 expected =
     noAdd 2
     ∷ noAdd 1
@@ -187,13 +194,21 @@ unchanged : outcomes tries ≡ refusals expected tries
 unfolding outcomes refusals tries expected
 unchanged = refl
 
+-- a refused look up has no profile either
+profiles : map (lookUpReply laid) (0 ∷ tag 5 ∷ []) ≡ notFound 1 ∷ notFound 21 ∷ []
+unfolding performed laid tag
+profiles = refl
+
 -- 6 on range and nearest: four and two entries for an area of one
-shortResult : ℕ → Lent
-unfolding laid
-shortResult n = record { table = laid; work = []; result = (n ∷ n ∷ []) ∷ []; image = [] }
+emptied : Left
+unfolding laid noSearch
+emptied = record { reply = noSearch 6; table = laid; areas = (0 ∷ 0 ∷ []) ∷ [] }
 
 zeroed :
-    outcomes (record { call = range (valued 0) 99; lent = shortResult 8 } ∷ record { call = nearest (valued 0) 2; lent = shortResult 8 } ∷ [])
-    ≡ record { reply = noSearch 6; areas = shortResult 0 } ∷ record { reply = noSearch 6; areas = shortResult 0 } ∷ []
-unfolding outcomes valued shortResult noSearch
+    outcomes
+    (record { call = range (valued 0) 99; table = laid; areas = (8 ∷ 8 ∷ []) ∷ [] }
+    ∷ record { call = nearest (valued 0) 2; table = laid; areas = (8 ∷ 8 ∷ []) ∷ [] }
+    ∷ [])
+    ≡ emptied ∷ emptied ∷ []
+unfolding outcomes valued emptied
 zeroed = refl

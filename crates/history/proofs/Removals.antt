@@ -4,8 +4,7 @@ use Prim.Native.Nat.{ℕ}
 use mathlib.Core.Path.{_≡_, refl}
 use mathlib.Core.List.{List, [], _∷_, _++_}
 use Rattle.table_rules.specs.Table.{Table}
-use Rattle.history.specs.Calls.Call.{fresh}
-use Rattle.history.proofs.Running.{by, tag, scratch, replies, after, contents, adding, removing, table}
+use Rattle.history.proofs.Running.{fresh, by, tag, scratch, replies, after, contents, adding, removing, table}
 
 -- order 2, the four items less 3 and 4, and then 5 and 6 (values 5 and 6) in bucket 1
 paired : Table

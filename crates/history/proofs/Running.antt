@@ -7,14 +7,12 @@ use Rattle.metric_rules.specs.declared.Profile.{Profile}
 use Rattle.metric_rules.specs.Row.{tagOf, thresholdOf, markOf}
 use Rattle.metric_rules.specs.Validity.{nationals}
 use Rattle.metric_rules.specs.Distance.{Space}
-use Rattle.search_rules.specs.Range.{Entry}
 use Rattle.table_rules.specs.Table.{Table, slotsOf, builtOf, liveOf}
 use Rattle.text_rules.specs.Text.{lineFeed, digits}
 use Rattle.list_rules.specs.Lines.{semicolon, comma, listHeader}
-use Rattle.history.specs.Calls.{Call, Lent, Reply}
-use Rattle.history.specs.Calls.Call.{fresh, add, remove}
+use Rattle.call_rules.specs.Calls.{Begin, BeginReply, Change, ChangeReply, Ask, AskAreas, AskReply, Call, Areas, Reply}
+use Rattle.call_rules.specs.Calls.Call.{begin, change, ask, write}
 use Rattle.history.proofs.Computing.{performed}
-use Rattle.history.specs.Calls.Reply.{number, added, removed, lookedUp, searched, written, listRead}
 
 -- what distances depend on, by a metric's number
 abbrev pub by : ℕ → Space
@@ -28,35 +26,95 @@ tag n = 36 * nationals + n
 unfoldable pub valued : ℕ → Profile
 valued v = record { measures = pos v ∷ pos 0 ∷ pos 0 ∷ pos 0 ∷ []; code = 0 ∷ 0 ∷ [] }
 
--- a table area for order 3, work and result areas with room, and bytes for an image; all hold other content before
-unfoldable pub areas : Table → Lent
-areas t = record { table = t; work = replicate 9 (replicate 12 7); result = replicate 9 (8 ∷ 8 ∷ []); image = replicate 9 5 }
+-- the calls, each as one of its group
+abbrev pub fresh : ℕ → Space → Call
+fresh order space = begin (Begin.fresh order space)
 
+abbrev pub load : List ℕ → Call
+load image = begin (Begin.load image)
+
+abbrev pub add : ℕ → Profile → Call
+add n p = change (Change.add n p)
+
+abbrev pub remove : ℕ → Call
+remove n = change (Change.remove n)
+
+abbrev pub readList : List ℕ → Call
+readList list = change (Change.readList list)
+
+abbrev pub lookUp : ℕ → Call
+lookUp n = ask (Ask.lookUp n)
+
+abbrev pub range : Profile → ℕ → Call
+range q r = ask (Ask.range q r)
+
+abbrev pub nearest : Profile → ℕ → Call
+nearest q k = ask (Ask.nearest q k)
+
+-- a table area for order 3; and areas of n rows, entries or bytes for a call. All hold other content before
 unfoldable pub scratch : Table
 scratch = replicate 21 (replicate 12 6)
 
-unfoldable pub replyNumbers : Reply → List Entry → List ℕ
-unfolding flatten
-replyNumbers (number n) area = n ∷ []
-replyNumbers (added a) area = a .refusal ∷ a .bucket ∷ a .distances ∷ []
-replyNumbers (removed r) area = r .refusal ∷ r .distances ∷ []
-replyNumbers (lookedUp l) area = l .refusal ∷ l .bucket ∷ []
-replyNumbers (searched s) area = s .refusal ∷ s .found ∷ s .distances ∷ flatten (take (s .found) area)
-replyNumbers (written w) area = w .refusal ∷ w .length ∷ []
-replyNumbers (listRead r) area = r .refusal ∷ r .line ∷ r .added ∷ r .distances ∷ []
+unfoldable pub askAreas : ℕ → (q : Ask) → AskAreas q
+askAreas n (Ask.lookUp t) = tt
+askAreas n (Ask.range q r) = replicate n (8 ∷ 8 ∷ [])
+askAreas n (Ask.nearest q k) = replicate n (8 ∷ 8 ∷ [])
 
--- the replies of some calls in a row, as numbers, and the table after them
+unfoldable pub areasFor : ℕ → (c : Call) → Areas c
+unfolding askAreas
+areasFor n (begin b) = tt
+areasFor n (change c) = replicate n (replicate 12 7)
+areasFor n (ask q) = askAreas n q
+areasFor n write = replicate n 5
+
+-- a call's own areas as lists of numbers
+unfoldable pub askRows : (q : Ask) → AskAreas q → List (List ℕ)
+askRows (Ask.lookUp t) none = []
+askRows (Ask.range q r) result = result
+askRows (Ask.nearest q k) result = result
+
+unfoldable pub areaRows : (c : Call) → Areas c → List (List ℕ)
+unfolding askRows
+areaRows (begin b) none = []
+areaRows (change c) work = work
+areaRows (ask q) areas = askRows q areas
+areaRows write image = image ∷ []
+
+-- a reply as numbers, with the entries that a search found
+unfoldable pub beginNumbers : (b : Begin) → BeginReply b → List ℕ
+beginNumbers (Begin.fresh order space) n = n ∷ []
+beginNumbers (Begin.load image) n = n ∷ []
+
+unfoldable pub changeNumbers : (c : Change) → ChangeReply c → List ℕ
+changeNumbers (Change.add t p) a = a .refusal ∷ a .bucket ∷ a .distances ∷ []
+changeNumbers (Change.remove t) r = r .refusal ∷ r .distances ∷ []
+changeNumbers (Change.readList list) r = r .refusal ∷ r .line ∷ r .added ∷ r .distances ∷ []
+
+unfoldable pub askNumbers : (q : Ask) → AskReply q → AskAreas q → List ℕ
+unfolding flatten
+askNumbers (Ask.lookUp t) l none = l .refusal ∷ l .bucket ∷ []
+askNumbers (Ask.range q r) s result = s .refusal ∷ s .found ∷ s .distances ∷ flatten (take (s .found) result)
+askNumbers (Ask.nearest q k) s result = s .refusal ∷ s .found ∷ s .distances ∷ flatten (take (s .found) result)
+
+unfoldable pub replyNumbers : (c : Call) → Reply c → Areas c → List ℕ
+unfolding beginNumbers changeNumbers askNumbers
+replyNumbers (begin b) n none = beginNumbers b n
+replyNumbers (change c) r work = changeNumbers c r
+replyNumbers (ask q) r areas = askNumbers q r areas
+replyNumbers write w image = w .refusal ∷ w .length ∷ []
+
+-- the replies of some calls in a row, in areas with room, and the table after them
 unfoldable pub replies : Table → List Call → List (List ℕ)
-unfolding performed areas replyNumbers
+unfolding performed areasFor replyNumbers
 replies t [] = []
 replies t (c ∷ cs) =
-    let o = performed c (areas t) in
-    replyNumbers (o .reply) (o .areas .result) ∷ replies (o .areas .table) cs
+    let o = performed c t (areasFor 9 c) in
+    replyNumbers c (o .reply) (o .areas) ∷ replies (o .table) cs
 
 unfoldable pub after : Table → List Call → Table
-unfolding performed areas
+unfolding performed areasFor
 after t [] = t
-after t (c ∷ cs) = after (performed c (areas t) .areas .table) cs
+after t (c ∷ cs) = after (performed c t (areasFor 9 c) .table) cs
 
 -- of a bucket: its sizes, then tag, threshold and mark of each built slot
 unfoldable pub contents : Table → ℕ → List (List ℕ)

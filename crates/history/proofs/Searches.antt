@@ -12,8 +12,7 @@ use Rattle.metric_rules.specs.Distance.{distance, measureDistance, largest, wor
 use Rattle.tree_rules.specs.Layout.{layout}
 use Rattle.table_rules.specs.Geometry.{firstSlot}
 use Rattle.table_rules.specs.Table.{Table, rowAt}
-use Rattle.history.specs.Calls.Call.{fresh, add, lookUp, range, nearest}
-use Rattle.history.proofs.Running.{by, tag, valued, scratch, replies, after, removing, table}
+use Rattle.history.proofs.Running.{fresh, add, lookUp, range, nearest, by, tag, valued, scratch, replies, after, removing, table}
 
 -- four items in one tree of order 2, by their nationals and values
 four : ℕ → ℕ → ℕ → ℕ → ℕ → ℕ → ℕ → ℕ → Table

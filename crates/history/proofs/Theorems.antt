@@ -3,13 +3,12 @@ use Rattle.metric_rules.proofs.Laws.{distance-metric}
 use Rattle.table_rules.proofs.Visits.{range-visits}
 use Rattle.table_rules.proofs.Keeping.{nearest-size}
 use Rattle.history.specs.Demands.{CountsVisits, KeepsEnough, AnswersAscend, AnyDistance, EachMetric, EveryList, EveryReport, WrittenLoads}
-use Rattle.history.proofs.Ordering.{range-ascends, answer-ascends, model-range-ascends, model-nearest-ascends}
 use Rattle.history.proofs.AnyDistance.{tree-facts}
-use Rattle.history.proofs.Changing.{changes}
 use Rattle.history.proofs.RefinesHistory.{history-traces, history-matches, history-represents}
 use Rattle.history.proofs.AmortizedHistory.{history-bound}
 use Rattle.history.proofs.Reporting.{reports}
 use Rattle.history.proofs.ImagesHistory.{written-loads-where}
+use Rattle.history.proofs.Ordering.{range-ascends, answer-ascends, model-range-ascends, model-nearest-ascends}
 pub use Rattle.history.proofs.ImagesBack.{accepted-gives-back}
 
 pub counts-visits : CountsVisits
@@ -29,10 +28,10 @@ pub each-metric : EachMetric
 each-metric = distance-metric
 
 pub every-list : EveryList
-every-list h = record { traces = history-traces changes h; represents = history-represents changes h; bound = history-bound changes h }
+every-list h = record { traces = history-traces h; represents = history-represents h; bound = history-bound h }
 
 pub every-report : EveryReport
-every-report lent = reports (lent .table) (lent .work)
+every-report = reports
 
 pub written-loads : WrittenLoads
-written-loads = written-loads-where (history-matches changes)
+written-loads = written-loads-where history-matches

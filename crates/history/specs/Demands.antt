@@ -1,15 +1,16 @@
 -- START HERE. What is claimed of the index (RULES 17), one demand after the other; the theorem that proves a claim stands in proofs/Theorems under the
 -- name given.
 --
--- Demand 1 (RULES 17.1). Every call, for every input and every lent area, replies and leaves what the rules say: the refusal that comes first in
--- their order and only under its condition, and every reply, count and area. It is the contract of each public call, which has no `requires` and
--- cites the definitions that `specs/Calls` joins: `replyTo` and `areasAfter`.
+-- Demand 1. Every call, for every input and every lent area, replies and leaves what the rules say: the refusal that comes first in their order
+-- and only under its condition, and every reply, count and area. It is the contract of each public call, which has no `requires` and is an equation with
+-- the definitions of `call_rules`: `replyTo`, `tableAfter` and `areasAfter` are these, for all calls.
 use Prim.Native.Nat.{ℕ, _^_, _≤_, _<_, min}
 use mathlib.Core.Path.{_≡_}
 use mathlib.Core.List.{List, map}
 use lib.ListN.{length}
 use Rattle.lists.specs.Lists.{total, All}
 use Rattle.metric_rules.specs.declared.Profile.{Profile}
+use Rattle.metric_rules.specs.Row.{Row}
 use Rattle.metric_rules.specs.Distance.{Space, distance, Metric}
 use Rattle.search_rules.specs.Range.{Ascending}
 use Rattle.search_rules.specs.Reached.{reached}
@@ -17,9 +18,8 @@ use Rattle.table_rules.specs.Geometry.{tableRows}
 use Rattle.table_rules.specs.Table.{Table, tableSpace, slotsOf, liveSlots}
 use Rattle.table_rules.specs.Search.{bucketsDown, rangeAnswer, nearestAnswer}
 use Rattle.image_rules.specs.Read.{orderIn}
-use Rattle.history.specs.Calls.{Lent, replyTo}
-use Rattle.history.specs.Calls.Call.{load}
-use Rattle.history.specs.Calls.Reply.{number}
+use Rattle.call_rules.specs.Calls.{beginReply}
+use Rattle.call_rules.specs.Calls.Begin.{load}
 use Rattle.history.specs.Model.{Model, modelRange, modelNearest}
 use Rattle.history.specs.History.{History, finalState, finalModel}
 use Rattle.history.specs.Images.{imageSize, LoadsBack, GivesBack}
@@ -58,10 +58,10 @@ AnyDistance = (dist : Profile → Profile → ℕ) → Metric dist → TreeFacts
 abbrev pub EachMetric : Type 0
 EachMetric = (space : Space) → Metric (distance space)
 
--- Demands 2 and 3 (RULES 17.2 to 17.4, 17.6 to 17.8), one claim over every list of calls on one table, refused ones and herd lists read too, that an
--- accepted fresh or load began (`History`): at each call table and reference model show the same; after the list the table is a valid one of the
--- published method (which buckets a call builds is settled by the definitions that `areasAfter` joins), it holds the model's items, range and nearest
--- answer as a scan of them, and all rebuilds together keep within 4·T·(T+1)·A + 11·T·R distances.
+-- Demands 2 and 3, one claim over every list of calls on one table, refused ones and herd lists read too, that an accepted fresh or load began (`History`):
+-- at each call table and reference model show the same; after the list the table is a valid one of the published method (which buckets a call builds is
+-- settled by the definitions that `tableAfter` joins), it holds the model's items, range and nearest answer as a scan of them, and all rebuilds together
+-- keep within 4·T·(T+1)·A + 11·T·R distances.
 -- Theorem: `every-list`
 abbrev pub EveryList : Type 0
 EveryList = (h : History) → Holds h
@@ -70,20 +70,20 @@ EveryList = (h : History) → Holds h
 -- 0 where they built none; the reading of a herd list reports the sum of c(n) of what the adds of its accepted lines built.
 -- Theorem: `every-report`
 abbrev pub EveryReport : Type 0
-EveryReport = (lent : Lent) → ReportsBuilds (lent .table) (lent .work)
+EveryReport = (t : Table) (work : List Row) → ReportsBuilds t work
 
 -- Demand 2 (RULES 17.5), images. After every such list, writing is accepted wherever table area and byte area are long enough, and what it wrote
 -- loads, into any table area that is long enough, as the table it came from.
 -- Theorem: `written-loads`
 abbrev pub WrittenLoads : Type 0
 WrittenLoads =
-    (h : History) (lent area : Lent) → tableRows (finalModel h .order) ≤ length (lent .table) → imageSize (finalState h .table) ≤ length (lent .image)
-    → tableRows (finalModel h .order) ≤ length (area .table) → LoadsBack (finalState h .table) lent area
+    (h : History) (area other : Table) (image : List ℕ) → tableRows (finalModel h .order) ≤ length area → imageSize (finalState h .table) ≤ length image
+    → tableRows (finalModel h .order) ≤ length other → LoadsBack (finalState h .table) area other image
 
 -- RULES 17.5, and whatever bytes are handed to load: they are accepted only if writing the loaded table, into any areas that are long enough, gives
 -- them back.
 -- Theorem: `accepted-gives-back`
 abbrev pub AcceptedGivesBack : Type 0
 AcceptedGivesBack =
-    (image : List ℕ) (area lent : Lent) → All (λ b. b < 2 ^ 8) image → replyTo (load image) area ≡ number 0
-    → tableRows (orderIn image) ≤ length (lent .table) → length image ≤ length (lent .image) → GivesBack image area lent
+    (bytes : List ℕ) (other area : Table) (image : List ℕ) → All (λ b. b < 2 ^ 8) bytes → beginReply (load bytes) (length other) ≡ 0
+    → tableRows (orderIn bytes) ≤ length area → length bytes ≤ length image → GivesBack bytes other area image

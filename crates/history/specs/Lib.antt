@@ -1,4 +1,3 @@
-pub mod Calls
 pub mod Trace
 pub mod Model
 pub mod History

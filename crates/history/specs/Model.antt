@@ -11,18 +11,21 @@ use Rattle.metric_rules.specs.Row.{Row, tagOf, profileOf}
 use Rattle.metric_rules.specs.Validity.{validTag, validMeasures}
 use Rattle.metric_rules.specs.Distance.{Space, distance}
 use Rattle.search_rules.specs.Range.{Entry, entry, entryDistance, ordered}
-use Rattle.table_rules.specs.Refusals.{badTag, badMeasure, noCount, noRoom, alreadyLive, notLive, full, shortArea}
+use Rattle.table_rules.specs.Refusals.{badTag, badMeasure, noCount, noRoom, alreadyLive, notLive, full, shortArea, unless, when}
 use Rattle.table_rules.specs.Geometry.{room, tableRows, workRows}
 use Rattle.table_rules.specs.LookUp.{noProfile}
-use Rattle.table_rules.specs.Fresh.{freshRefusal}
 use Rattle.image_rules.specs.Read.{orderIn, spaceIn}
-use Rattle.image_rules.specs.Load.{loadRefusal, liveRows}
+use Rattle.image_rules.specs.Load.{liveRows}
 use Rattle.list_rules.specs.Lines.{ListLine, hasHeader, itemLines}
 use Rattle.list_rules.specs.Lines.ListLine.{anItem, malformed}
 use Rattle.list_rules.specs.ReadList.{badListHeader, badListLine}
-use Rattle.history.specs.Calls.{Call, Lent}
-use Rattle.history.specs.Calls.Call.{fresh, load, add, remove, lookUp, range, nearest, write, readList}
-use Rattle.history.specs.Trace.{Step, Shown, showsRefusal, showsProfile, showsEntries, showsList}
+use Rattle.call_rules.specs.Calls.{Begin, beginReply, Change, Ask, AskAreas, Call, Areas}
+use Rattle.call_rules.specs.Calls.Begin.{fresh, load}
+use Rattle.call_rules.specs.Calls.Change.{add, remove, readList}
+use Rattle.call_rules.specs.Calls.Ask.{lookUp, range, nearest}
+use Rattle.call_rules.specs.Calls.Call.{begin, change, ask, write}
+use Rattle.history.specs.Trace.{Step, Payload, Shown, zeroed, shows, beginShown}
+use Rattle.history.specs.Trace.Payload.{bare, aProfile, someEntries, aListRead}
 
 -- RULES 2.7: an item as handed over; and the item of a slot's row
 pub record Item : Type 0 where
@@ -38,18 +41,35 @@ pub record Model : Type 0 where
   pub space : Space
   pub items : List Item
 
--- RULES 16.2: the lengths of the lent areas
-pub record Lengths : Type 0 where
-  pub table : ℕ
-  pub work : ℕ
-  pub result : ℕ
+-- of the areas lent to a call it is told the lengths alone
+abbrev pub AskLengths : Ask → Type 0
+AskLengths (lookUp tag) = Unit {0}
+AskLengths (range q r) = ℕ
+AskLengths (nearest q k) = ℕ
 
-unfoldable pub lengthsOf : Lent → Lengths
-lengthsOf lent = record { table = length (lent .table); work = length (lent .work); result = length (lent .result) }
+abbrev pub askLengths : (q : Ask) → AskAreas q → AskLengths q
+askLengths (lookUp tag) none = tt
+askLengths (range q r) result = length result
+askLengths (nearest q k) result = length result
+
+abbrev pub Lengths : Call → Type 0
+Lengths (begin b) = Unit {0}
+Lengths (change c) = ℕ
+Lengths (ask q) = AskLengths q
+Lengths write = ℕ
+
+abbrev pub lengthsOf : (c : Call) → Areas c → Lengths c
+lengthsOf (begin b) none = tt
+lengthsOf (change c) work = length work
+lengthsOf (ask q) areas = askLengths q areas
+lengthsOf write image = length image
 
 -- RULES 16.3, the items with a tag: live means in the list
 unfoldable pub withTag : ℕ → List Item → List Item
 withTag tag items = select (λ i. eqb (i .tag) tag) items
+
+unfoldable pub isIn : Model → ℕ → Bool
+isIn m tag = elim (withTag tag (m .items)) [ [] ↦ false | i ∷ is ↦ true ]
 
 -- RULES 16.4: add puts the item in, remove strikes it out, look up gives its profile
 unfoldable pub with : Item → Model → Model
@@ -72,68 +92,73 @@ modelRange m q r = ordered (select (λ e. leb (entryDistance e) r) (scanned m q)
 unfoldable pub modelNearest : Model → Profile → ℕ → List Entry
 modelNearest m q k = take k (ordered (scanned m q))
 
--- RULES 16.3, 14.5: 23 for a short table area, in add and remove for a short work area too; then what comes after it
-unfoldable pub canRead : Model → Lengths → Bool
-canRead m n = leb (tableRows (m .order)) (n .table)
+-- a table area of so many rows, and in add and remove a work area, are long enough; else 23
+unfoldable pub canRead : Model → ℕ → Bool
+canRead m rows = leb (tableRows (m .order)) rows
 
-unfoldable pub canChange : Model → Lengths → Bool
-canChange m n = canRead m n && leb (workRows (m .order)) (n .work)
-
-unfoldable pub enough : Bool → ℕ → ℕ
-enough false rest = shortArea
-enough true rest = rest
+unfoldable pub canChange : Model → ℕ → ℕ → Bool
+canChange m rows work = canRead m rows && leb (workRows (m .order)) work
 
 -- RULES 14.4, remove and look up: 1, then 21
 unfoldable pub tagRefusal : Model → ℕ → ℕ
-tagRefusal m tag = elim (validTag tag) [ false ↦ badTag | true ↦ elim (withTag tag (m .items)) [ [] ↦ notLive | i ∷ is ↦ 0 ] ]
+tagRefusal m tag = unless (validTag tag) badTag (unless (isIn m tag) notLive 0)
 
 -- RULES 14.4, add: 1, 2, 20, 22
 unfoldable pub itemRefusal : Model → ℕ → Profile → ℕ
 itemRefusal m tag p =
-    elim (validTag tag) [
-      | false ↦ badTag
-      | true ↦
-          elim (validMeasures p) [
-            | false ↦ badMeasure
-            | true ↦
-                elim (withTag tag (m .items)) [
-                  | i ∷ is ↦ alreadyLive
-                  | [] ↦ elim (leb (room (m .order)) (length (m .items))) [ true ↦ full | false ↦ 0 ]
-                ]
-          ]
-    ]
+    unless (validTag tag) badTag
+    (unless (validMeasures p) badMeasure
+    (when (isIn m tag) alreadyLive
+    (when (leb (room (m .order)) (length (m .items))) full
+    0)))
+
+-- add and remove: 23 first
+unfoldable pub addRefusalOf : Model → ℕ → ℕ → ℕ → Profile → ℕ
+addRefusalOf m rows work tag p = unless (canChange m rows work) shortArea (itemRefusal m tag p)
+
+unfoldable pub removeRefusalOf : Model → ℕ → ℕ → ℕ → ℕ
+removeRefusalOf m rows work tag = unless (canChange m rows work) shortArea (tagRefusal m tag)
 
 -- RULES 11.11, refusal 6: fewer entries in the area than in the reply
 unfoldable pub fits : ℕ → List Entry → ℕ
-fits area entries = elim (leb (length entries) area) [ true ↦ 0 | false ↦ noRoom ]
+fits area entries = unless (leb (length entries) area) noRoom 0
 
--- RULES 14.4, range: 2, 6; nearest: 2, 5, 6
-unfoldable pub scanRefusal : Profile → ℕ → ℕ
-scanRefusal q rest = elim (validMeasures q) [ false ↦ badMeasure | true ↦ rest ]
+-- the questions, after 23: look up 1, 21; range 2, 6; nearest 2, 5, 6
+unfoldable pub questionRefusal : Model → (q : Ask) → AskLengths q → ℕ
+questionRefusal m (lookUp tag) none = tagRefusal m tag
+questionRefusal m (range q r) area =
+    unless (validMeasures q) badMeasure
+    (fits area (modelRange m q r))
+questionRefusal m (nearest q k) area =
+    unless (validMeasures q) badMeasure
+    (when (eqb k 0) noCount
+    (fits area (modelNearest m q k)))
 
-unfoldable pub countRefusal : ℕ → ℕ → ℕ
-countRefusal zero rest = noCount
-countRefusal (suc k) rest = rest
+unfoldable pub askRefusal : Model → (q : Ask) → ℕ → AskLengths q → ℕ
+askRefusal m q rows n = unless (canRead m rows) shortArea (questionRefusal m q n)
+
+-- what an accepted question shows; a refused one shows its number and zeros
+unfoldable pub found : List Entry → Payload
+found entries = someEntries (length entries) entries
+
+unfoldable pub answerTo : Model → Ask → Payload
+answerTo m (lookUp tag) = aProfile (profileIn (withTag tag (m .items)))
+answerTo m (range q r) = found (modelRange m q r)
+answerTo m (nearest q k) = found (modelNearest m q k)
+
+unfoldable pub showsUnless : ℕ → Payload → Shown
+showsUnless zero payload = shows 0 payload
+showsUnless (suc n) payload = shows (suc n) (zeroed payload)
+
+-- "it refuses by the numbers above .. and then stays as it was"
+unfoldable pub afterUnless : ℕ → Model → Model → Model
+afterUnless zero m after = after
+afterUnless (suc n) m after = m
 
 -- RULES 16, the model's answer to a call: the model after it, and what it shows
 pub record Answered : Type 0 where
   pub model : Model
   pub shows : Shown
-
-unfoldable pub becomes : Model → Answered
-becomes m = record { model = m; shows = showsRefusal 0 }
-
-unfoldable pub finds : Model → List Entry → Answered
-finds m entries = record { model = m; shows = showsEntries 0 (length entries) entries }
-
--- RULES 16.3: refused, it stays as it was
-unfoldable pub unless : ℕ → Model → Answered → Answered
-unless zero m a = a
-unless (suc n) m a = record { model = m; shows = showsRefusal (suc n) }
-
--- RULES 14.4, an add's refusal: 23 for a short area, then 1, 2, 20, 22
-unfoldable pub addRefusalOf : Model → Lengths → ℕ → Profile → ℕ
-addRefusalOf m n tag p = enough (canChange m n) (itemRefusal m tag p)
 
 -- RULES 16.4, a herd list: the model after it, the refusal and its line, and the number added
 pub record ListAnswered : Type 0 where
@@ -149,43 +174,50 @@ unfoldable pub oneMoreAdded : ListAnswered → ListAnswered
 oneMoreAdded a = record { model = a .model; refusal = a .refusal; line = a .line; added = suc (a .added) }
 
 -- RULES 16.4, its lines from number i on: those accepted stay, also where a later line is refused
-unfoldable pub linesAnswered : Model → Lengths → ℕ → List ListLine → ListAnswered
-linesAnswered m n i [] = stopsAt m 0 0
-linesAnswered m n i (malformed ∷ lines) = stopsAt m badListLine i
-linesAnswered m n i (anItem tag p ∷ lines) =
-    elim (addRefusalOf m n tag p) [
+unfoldable pub linesAnswered : Model → ℕ → ℕ → ℕ → List ListLine → ListAnswered
+linesAnswered m rows work i [] = stopsAt m 0 0
+linesAnswered m rows work i (malformed ∷ lines) = stopsAt m badListLine i
+linesAnswered m rows work i (anItem tag p ∷ lines) =
+    elim (addRefusalOf m rows work tag p) [
       | suc r ↦ stopsAt m (suc r) i
-      | zero ↦ oneMoreAdded (linesAnswered (with (record { tag = tag; profile = p }) m) n (suc i) lines)
+      | zero ↦ oneMoreAdded (linesAnswered (with (record { tag = tag; profile = p }) m) rows work (suc i) lines)
     ]
 
-unfoldable pub listAnswered : Model → Lengths → List ℕ → ListAnswered
-listAnswered m n list = elim (hasHeader list) [ false ↦ stopsAt m badListHeader 1 | true ↦ linesAnswered m n 2 (itemLines list) ]
+unfoldable pub listAnswered : Model → ℕ → ℕ → List ℕ → ListAnswered
+listAnswered m rows work list =
+    elim (hasHeader list) [ false ↦ stopsAt m badListHeader 1 | true ↦ linesAnswered m rows work 2 (itemLines list) ]
 
--- RULES 16.3 to 16.5: the answer to each call
-unfoldable pub answer : Model → Call → Lengths → Answered
-answer m (fresh order space) n = unless (freshRefusal (n .table) order space) m (becomes (record { order = order; space = space; items = [] }))
-answer m (load image) n =
-    unless (loadRefusal (n .table) image) m
-    (becomes (record { order = orderIn image; space = spaceIn image; items = map itemOf (liveRows image) }))
-answer m (add tag p) n = unless (addRefusalOf m n tag p) m (becomes (with (record { tag = tag; profile = p }) m))
-answer m (remove tag) n = unless (enough (canChange m n) (tagRefusal m tag)) m (becomes (without tag m))
-answer m (lookUp tag) n =
-    unless (enough (canRead m n) (tagRefusal m tag)) m
-    (record { model = m; shows = showsProfile 0 (profileIn (withTag tag (m .items))) })
-answer m (range q r) n =
-    let found = modelRange m q r in
-    unless (enough (canRead m n) (scanRefusal q (fits (n .result) found))) m (finds m found)
-answer m (nearest q k) n =
-    let found = modelNearest m q k in
-    unless (enough (canRead m n) (scanRefusal q (countRefusal k (fits (n .result) found)))) m (finds m found)
-answer m write n = becomes m
-answer m (readList list) n =
-    let a = listAnswered m n list in
-    record { model = a .model; shows = showsList (a .refusal) (a .line) (a .added) }
+-- fresh: "order and metric as given, no head"; load: "those of the image, with its head of mark 0"
+unfoldable pub modelBegun : Begin → Model
+modelBegun (fresh order space) = record { order = order; space = space; items = [] }
+modelBegun (load image) = record { order = orderIn image; space = spaceIn image; items = map itemOf (liveRows image) }
+
+unfoldable pub beginAnswer : Model → Begin → ℕ → Answered
+beginAnswer m b rows =
+    let s = beginShown b (beginReply b rows) in
+    record { model = afterUnless (s .refusal) m (modelBegun b); shows = s }
+
+unfoldable pub changeAnswer : Model → Change → ℕ → ℕ → Answered
+changeAnswer m (add tag p) rows work =
+    let n = addRefusalOf m rows work tag p in
+    record { model = afterUnless n m (with (record { tag = tag; profile = p }) m); shows = shows n bare }
+changeAnswer m (remove tag) rows work =
+    let n = removeRefusalOf m rows work tag in
+    record { model = afterUnless n m (without tag m); shows = shows n bare }
+changeAnswer m (readList list) rows work =
+    let a = listAnswered m rows work list in
+    record { model = a .model; shows = shows (a .refusal) (aListRead (a .line) (a .added)) }
+
+-- the rows of the table area, then the lengths of the call's own areas. "Writing changes nothing"
+unfoldable pub answer : Model → (c : Call) → ℕ → Lengths c → Answered
+answer m (begin b) rows none = beginAnswer m b rows
+answer m (change c) rows work = changeAnswer m c rows work
+answer m (ask q) rows n = record { model = m; shows = showsUnless (askRefusal m q rows n) (answerTo m q) }
+answer m write rows n = record { model = m; shows = shows 0 bare }
 
 -- the answer to one call of a list, and the whole list: the model after it, and the trace of what it showed
 unfoldable pub answerAt : Model → Step → Answered
-answerAt m s = answer m (s .call) (lengthsOf (s .lent))
+answerAt m s = answer m (s .call) (length (s .table)) (lengthsOf (s .call) (s .areas))
 
 unfoldable pub modelAfterAll : Model → List Step → Model
 modelAfterAll m [] = m

@@ -1,6 +1,5 @@
 -- RULES 17.2, 17.6, 17.7, a list of calls on one table: what each shows, and the table with its sums between calls.
 use Prim.Native.Nat.{ℕ, zero, suc, _+_, _-_}
-use mathlib.Core.Bool.{Bool, true, false}
 use mathlib.Core.List.{List, [], _∷_, _++_}
 use lib.ListN.{length, take, drop}
 use Rattle.metric_rules.specs.declared.Profile.{Profile}
@@ -9,14 +8,17 @@ use Rattle.table_rules.specs.Table.{Table}
 use Rattle.table_rules.specs.LookUp.{noProfile}
 use Rattle.image_rules.specs.Read.{slotsIn}
 use Rattle.image_rules.specs.Load.{liveRows}
-use Rattle.history.specs.Calls.{Call, Lent, Reply, Outcome, outcome, withTable}
-use Rattle.history.specs.Calls.Call.{fresh, load, add, remove, lookUp, range, nearest, write, readList}
-use Rattle.history.specs.Calls.Reply.{number, added, removed, lookedUp, searched, written, listRead}
+use Rattle.call_rules.specs.Calls.{Begin, BeginReply, Change, ChangeReply, Ask, AskAreas, AskReply, Call, Areas, Reply, replyTo, tableAfter, areasAfter}
+use Rattle.call_rules.specs.Calls.Begin.{fresh, load}
+use Rattle.call_rules.specs.Calls.Change.{add, remove, readList}
+use Rattle.call_rules.specs.Calls.Ask.{lookUp, range, nearest}
+use Rattle.call_rules.specs.Calls.Call.{begin, change, ask, write}
 
 -- RULES 17.2, one call of a list: each may be lent other areas of any length and content
 pub record Step : Type 0 where
   pub call : Call
-  pub lent : Lent
+  pub table : Table
+  pub areas : Areas call
 
 -- RULES 17.2, the table as a call is lent it: what the call before left, as far as both reach, and the lent area's own rows after that
 unfoldable pub overlaid : Table → Table → Table
@@ -26,40 +28,49 @@ overlaid left area = take (length area) left ++ drop (length left) area
 unfoldable pub leftBy : Table → Table → Table
 leftBy left area = area ++ drop (length area) left
 
-unfoldable pub stepOutcome : Table → Step → Outcome
-stepOutcome left s = outcome (s .call) (withTable (overlaid left (s .lent .table)) (s .lent))
+-- what a call shows besides its refusal, by kind: look up's profile, the number found and the entries, a herd list's line and the number added
+pub data Payload : Type 0 where
+  bare : Payload
+  aProfile : Profile → Payload
+  someEntries : (found : ℕ) → List Entry → Payload
+  aListRead : (line added : ℕ) → Payload
 
--- RULES 17.6, what table and model are alike in at a call: the refusal, look up's profile, the number found and the entries, a herd list's line and the number
--- added; zeros where a call has none of these. Writing's refusal is excepted
+-- the zeros that a refusal has in its place
+unfoldable pub zeroed : Payload → Payload
+zeroed bare = bare
+zeroed (aProfile p) = aProfile noProfile
+zeroed (someEntries found entries) = someEntries 0 []
+zeroed (aListRead line added) = aListRead 0 0
+
+-- what table and model are "alike in" at a call
 pub record Shown : Type 0 where
   pub refusal : ℕ
-  pub profile : Profile
-  pub found : ℕ
-  pub entries : List Entry
-  pub line : ℕ
-  pub added : ℕ
+  pub payload : Payload
 
-unfoldable pub showsRefusal : ℕ → Shown
-showsRefusal n = record { refusal = n; profile = noProfile; found = 0; entries = []; line = 0; added = 0 }
+abbrev pub shows : ℕ → Payload → Shown
+shows n payload = record { refusal = n; payload = payload }
 
-unfoldable pub showsProfile : ℕ → Profile → Shown
-showsProfile n p = record { refusal = n; profile = p; found = 0; entries = []; line = 0; added = 0 }
+-- of a reply, with the call's areas after it
+unfoldable pub beginShown : (b : Begin) → BeginReply b → Shown
+beginShown (fresh order space) n = shows n bare
+beginShown (load image) n = shows n bare
 
-unfoldable pub showsEntries : ℕ → ℕ → List Entry → Shown
-showsEntries n found entries = record { refusal = n; profile = noProfile; found = found; entries = entries; line = 0; added = 0 }
+unfoldable pub changeShown : (c : Change) → ChangeReply c → Shown
+changeShown (add tag p) a = shows (a .refusal) bare
+changeShown (remove tag) r = shows (r .refusal) bare
+changeShown (readList list) r = shows (r .refusal) (aListRead (r .line) (r .added))
 
-unfoldable pub showsList : ℕ → ℕ → ℕ → Shown
-showsList n line more = record { refusal = n; profile = noProfile; found = 0; entries = []; line = line; added = more }
+unfoldable pub askShown : (q : Ask) → AskReply q → AskAreas q → Shown
+askShown (lookUp tag) l none = shows (l .refusal) (aProfile (l .profile))
+askShown (range q r) s result = shows (s .refusal) (someEntries (s .found) (take (s .found) result))
+askShown (nearest q k) s result = shows (s .refusal) (someEntries (s .found) (take (s .found) result))
 
--- RULES 17.6: of a reply, with the result area after the call
-unfoldable pub shown : Reply → List Entry → Shown
-shown (number n) area = showsRefusal n
-shown (added a) area = showsRefusal (a .refusal)
-shown (removed r) area = showsRefusal (r .refusal)
-shown (lookedUp l) area = showsProfile (l .refusal) (l .profile)
-shown (searched s) area = showsEntries (s .refusal) (s .found) (take (s .found) area)
-shown (written w) area = showsRefusal 0
-shown (listRead r) area = showsList (r .refusal) (r .line) (r .added)
+-- writing's refusal is excepted
+unfoldable pub shown : (c : Call) → Reply c → Areas c → Shown
+shown (begin b) reply areas = beginShown b reply
+shown (change c) reply work = changeShown c reply
+shown (ask q) reply areas = askShown q reply areas
+shown write reply image = shows 0 bare
 
 -- RULES 17.7: A, R, and the distances that add, remove and the reading of a herd list report, since the last fresh or load
 pub record Sums : Type 0 where
@@ -70,49 +81,38 @@ pub record Sums : Type 0 where
 unfoldable pub noSums : Sums
 noSums = record { adds = 0; removals = 0; distances = 0 }
 
--- what a call adds to the sums, and whether it starts them afresh
-pub record Increment : Type 0 where
-  pub afresh : Bool
-  pub more : Sums
-
-unfoldable pub counts : ℕ → ℕ → ℕ → Increment
-counts adds removals distances = record { afresh = false; more = record { adds = adds; removals = removals; distances = distances } }
-
--- RULES 17.7: a refused call is in no sum; a herd list's accepted lines are, also where a later line is refused
-unfoldable pub ifAccepted : ℕ → Increment → Increment
-ifAccepted zero i = i
-ifAccepted (suc n) i = counts 0 0 0
+unfoldable pub plus : Sums → Sums → Sums
+plus sums more =
+    record {
+      adds = sums .adds + more .adds;
+      removals = sums .removals + more .removals;
+      distances = sums .distances + more .distances;
+    }
 
 -- RULES 17.7: fresh and load start the sums afresh, a load with its live items as adds and its dead ones as removals
-unfoldable pub starting : Call → Sums
+unfoldable pub starting : Begin → Sums
 starting (fresh order space) = noSums
 starting (load image) = let live = length (liveRows image) in record { adds = live; removals = slotsIn image - live; distances = 0 }
-starting (add tag p) = noSums
-starting (remove tag) = noSums
-starting (lookUp tag) = noSums
-starting (range q r) = noSums
-starting (nearest q k) = noSums
-starting write = noSums
-starting (readList list) = noSums
 
--- by a call and its reply; a reply that is a number alone is fresh's or load's
-unfoldable pub increment : Call → Reply → Increment
-increment c (number n) = ifAccepted n (record { afresh = true; more = starting c })
-increment c (added a) = ifAccepted (a .refusal) (counts 1 0 (a .distances))
-increment c (removed r) = ifAccepted (r .refusal) (counts 0 1 (r .distances))
-increment c (lookedUp l) = counts 0 0 0
-increment c (searched s) = counts 0 0 0
-increment c (written w) = counts 0 0 0
-increment c (listRead r) = counts (r .added) 0 (r .distances)
+unfoldable pub begunSums : ℕ → Begin → Sums → Sums
+begunSums zero b sums = starting b
+begunSums (suc n) b sums = sums
 
-unfoldable pub plus : Sums → Increment → Sums
-plus sums i =
-    let from : Sums = elim (i .afresh) [ true ↦ noSums | false ↦ sums ] in
-    record {
-      adds = from .adds + i .more .adds;
-      removals = from .removals + i .more .removals;
-      distances = from .distances + i .more .distances;
-    }
+-- what a change adds to the sums: a refused one nothing; a herd list its accepted lines, also where a later line is refused
+unfoldable pub ifAccepted : ℕ → Sums → Sums
+ifAccepted zero more = more
+ifAccepted (suc n) more = noSums
+
+unfoldable pub counted : (c : Change) → ChangeReply c → Sums
+counted (add tag p) a = ifAccepted (a .refusal) (record { adds = 1; removals = 0; distances = a .distances })
+counted (remove tag) r = ifAccepted (r .refusal) (record { adds = 0; removals = 1; distances = r .distances })
+counted (readList list) r = record { adds = r .added; removals = 0; distances = r .distances }
+
+unfoldable pub sumsAfter : (c : Call) → Reply c → Sums → Sums
+sumsAfter (begin b) reply sums = begunSums (beginShown b reply .refusal) b sums
+sumsAfter (change c) reply sums = plus sums (counted c reply)
+sumsAfter (ask q) reply sums = sums
+sumsAfter write reply sums = sums
 
 -- the state between calls: the table's rows and the sums
 pub record State : Type 0 where
@@ -122,11 +122,16 @@ pub record State : Type 0 where
 -- one call, and what it shows
 unfoldable pub stateAfter : State → Step → State
 stateAfter state s =
-    let o = stepOutcome (state .table) s in
-    record { table = leftBy (state .table) (o .areas .table); sums = plus (state .sums) (increment (s .call) (o .reply)) }
+    let t = overlaid (state .table) (s .table) in
+    record {
+      table = leftBy (state .table) (tableAfter (s .call) t (s .areas));
+      sums = sumsAfter (s .call) (replyTo (s .call) t (s .areas)) (state .sums);
+    }
 
 unfoldable pub shownAt : State → Step → Shown
-shownAt state s = let o = stepOutcome (state .table) s in shown (o .reply) (o .areas .result)
+shownAt state s =
+    let t = overlaid (state .table) (s .table) in
+    shown (s .call) (replyTo (s .call) t (s .areas)) (areasAfter (s .call) t (s .areas))
 
 -- the whole list: the state after it, and the trace of what each call showed
 unfoldable pub stateAfterAll : State → List Step → State

@@ -1,0 +1,130 @@
+-- The calls on a table, in four groups: those that begin a table, those that change it, those that only ask, and writing. Each with its arguments, the areas
+-- lent to it, and what it leaves: its reply, the table and the areas. The contracts of `vpindex` are these definitions, and the demands speak of them.
+use Prim.Native.Nat.{ℕ}
+use mathlib.Core.List.{List}
+use lib.ListN.{length}
+use Rattle.metric_rules.specs.declared.Profile.{Profile}
+use Rattle.metric_rules.specs.Row.{Row}
+use Rattle.metric_rules.specs.Distance.{Space}
+use Rattle.search_rules.specs.Range.{Entry}
+use Rattle.table_rules.specs.declared.Added.{Added}
+use Rattle.table_rules.specs.declared.Removed.{Removed}
+use Rattle.table_rules.specs.declared.LookedUp.{LookedUp}
+use Rattle.table_rules.specs.declared.Searched.{Searched}
+use Rattle.table_rules.specs.Table.{Table}
+use Rattle.table_rules.specs.Fresh.{freshRefusal, tableAfterFresh}
+use Rattle.table_rules.specs.Add.{addReply, tableAfterAdd, workAfterAdd}
+use Rattle.table_rules.specs.Remove.{removeReply, tableAfterRemove, workAfterRemove}
+use Rattle.table_rules.specs.LookUp.{lookUpReply}
+use Rattle.table_rules.specs.Search.{rangeReply, resultAfterRange, nearestReply, resultAfterNearest}
+use Rattle.image_rules.specs.declared.Written.{Written}
+use Rattle.image_rules.specs.Write.{writeReply, imageAfterWrite}
+use Rattle.image_rules.specs.Load.{loadRefusal, tableAfterLoad}
+use Rattle.list_rules.specs.declared.ListRead.{ListRead}
+use Rattle.list_rules.specs.ReadList.{readListReply, tableAfterReadList, workAfterReadList}
+
+-- The calls that begin a table. They read nothing of what lay there but its length; a load's image is an argument
+pub data Begin : Type 0 where
+  fresh : (order : ℕ) (space : Space) → Begin
+  load : (image : List ℕ) → Begin
+
+abbrev pub BeginReply : Begin → Type 0
+BeginReply (fresh order space) = ℕ
+BeginReply (load image) = ℕ
+
+abbrev pub beginReply : (b : Begin) → ℕ → BeginReply b
+beginReply (fresh order space) rows = freshRefusal rows order space
+beginReply (load image) rows = loadRefusal rows image
+
+abbrev pub tableBegun : Begin → Table → Table
+tableBegun (fresh order space) t = tableAfterFresh order space t
+tableBegun (load image) t = tableAfterLoad image t
+
+-- The calls that change a table. Each is lent a work area; a herd list's bytes are an argument
+pub data Change : Type 0 where
+  add : (tag : ℕ) (profile : Profile) → Change
+  remove : (tag : ℕ) → Change
+  readList : (list : List ℕ) → Change
+
+abbrev pub ChangeReply : Change → Type 0
+ChangeReply (add tag profile) = Added
+ChangeReply (remove tag) = Removed
+ChangeReply (readList list) = ListRead
+
+abbrev pub changeReply : (c : Change) → Table → List Row → ChangeReply c
+changeReply (add tag profile) t work = addReply t work tag profile
+changeReply (remove tag) t work = removeReply t work tag
+changeReply (readList list) t work = readListReply t work list
+
+abbrev pub tableChanged : Change → Table → List Row → Table
+tableChanged (add tag profile) t work = tableAfterAdd t work tag profile
+tableChanged (remove tag) t work = tableAfterRemove t work tag
+tableChanged (readList list) t work = tableAfterReadList t work list
+
+abbrev pub workChanged : Change → Table → List Row → List Row
+workChanged (add tag profile) t work = workAfterAdd t work tag profile
+workChanged (remove tag) t work = workAfterRemove t work tag
+workChanged (readList list) t work = workAfterReadList t work list
+
+-- The calls that only ask: they leave the table as it is. Each is lent areas of its own to answer in
+pub data Ask : Type 0 where
+  lookUp : (tag : ℕ) → Ask
+  range : (query : Profile) (radius : ℕ) → Ask
+  nearest : (query : Profile) (k : ℕ) → Ask
+
+abbrev pub AskAreas : Ask → Type 0
+AskAreas (lookUp tag) = Unit {0}
+AskAreas (range query radius) = List Entry
+AskAreas (nearest query k) = List Entry
+
+abbrev pub AskReply : Ask → Type 0
+AskReply (lookUp tag) = LookedUp
+AskReply (range query radius) = Searched
+AskReply (nearest query k) = Searched
+
+abbrev pub askReply : (q : Ask) → Table → AskAreas q → AskReply q
+askReply (lookUp tag) t none = lookUpReply t tag
+askReply (range query radius) t result = rangeReply t result query radius
+askReply (nearest query k) t result = nearestReply t result query k
+
+abbrev pub areasAnswered : (q : Ask) → Table → AskAreas q → AskAreas q
+areasAnswered (lookUp tag) t none = none
+areasAnswered (range query radius) t result = resultAfterRange t result query radius
+areasAnswered (nearest query k) t result = resultAfterNearest t result query k
+
+-- The four groups as one: a call, the areas lent to it besides the table, and what it leaves
+pub data Call : Type 0 where
+  begin : Begin → Call
+  change : Change → Call
+  ask : Ask → Call
+  write : Call
+
+abbrev pub Areas : Call → Type 0
+Areas (begin b) = Unit {0}
+Areas (change c) = List Row
+Areas (ask q) = AskAreas q
+Areas write = List ℕ
+
+abbrev pub Reply : Call → Type 0
+Reply (begin b) = BeginReply b
+Reply (change c) = ChangeReply c
+Reply (ask q) = AskReply q
+Reply write = Written
+
+abbrev pub replyTo : (c : Call) → Table → Areas c → Reply c
+replyTo (begin b) t none = beginReply b (length t)
+replyTo (change c) t work = changeReply c t work
+replyTo (ask q) t areas = askReply q t areas
+replyTo write t image = writeReply t image
+
+abbrev pub tableAfter : (c : Call) → Table → Areas c → Table
+tableAfter (begin b) t none = tableBegun b t
+tableAfter (change c) t work = tableChanged c t work
+tableAfter (ask q) t areas = t
+tableAfter write t image = t
+
+abbrev pub areasAfter : (c : Call) → Table → Areas c → Areas c
+areasAfter (begin b) t none = none
+areasAfter (change c) t work = workChanged c t work
+areasAfter (ask q) t areas = areasAnswered q t areas
+areasAfter write t image = imageAfterWrite t image
