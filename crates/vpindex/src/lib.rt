@@ -1,15 +1,12 @@
 // The calls of the index as they ship, under their C names: every value of every argument, lent areas of any length and content, no condition on
-// the caller. Each contract is the definition of its call, the one that the demands' theorems speak of (crates/history/specs/Calls).
+// the caller. Each contract is its call of crates/call_rules/specs/Calls, the one that the demands' theorems speak of.
 ghost use mathlib.Core.Path.{_≡_};
 ghost use lib.ListN.{length};
-ghost use Rattle.table_rules.specs.Fresh.{freshRefusal, tableAfterFresh};
-ghost use Rattle.table_rules.specs.Add.{addReply, tableAfterAdd, workAfterAdd};
-ghost use Rattle.table_rules.specs.Remove.{removeReply, tableAfterRemove, workAfterRemove};
-ghost use Rattle.table_rules.specs.LookUp.{lookUpReply};
-ghost use Rattle.table_rules.specs.Search.{rangeReply, resultAfterRange, nearestReply, resultAfterNearest};
-ghost use Rattle.image_rules.specs.Write.{writeReply, imageAfterWrite};
-ghost use Rattle.image_rules.specs.Load.{loadRefusal, tableAfterLoad};
-ghost use Rattle.list_rules.specs.ReadList.{readListReply, tableAfterReadList, workAfterReadList};
+ghost use Rattle.call_rules.specs.Calls.{beginReply, tableBegun, changeReply, tableChanged, workChanged, askReply, areasAnswered, replyTo, areasAfter};
+ghost use Rattle.call_rules.specs.Calls.Begin.{fresh, load};
+ghost use Rattle.call_rules.specs.Calls.Change.{add, remove, readList};
+ghost use Rattle.call_rules.specs.Calls.Ask.{lookUp, range, nearest};
+ghost use Rattle.call_rules.specs.Calls.Call.{write};
 use image_rules::Written;
 use list_rules::ListRead;
 use metric_rules::Profile;
@@ -23,8 +20,8 @@ use table_rules::Searched;
 // A table of this order and metric with no item in it. The reply is the refusal: 3, 4, 23, or 0.
 #[no_mangle]
 pub extern "C" fn vpindex_fresh(table: &mut [Row], order: u32, metric: u32) -> u32
-    ensures reply { λ r. ⌜ r ≡ freshRefusal (length (now (table .entry))) order (record { metric = metric }) ⌝ }
-    ensures table { λ _. ⌜ now (table .exit) ≡ tableAfterFresh order (record { metric = metric }) (now (table .entry)) ⌝ }
+    ensures reply { λ r. ⌜ r ≡ beginReply (fresh order (record { metric = metric })) (length (now (table .entry))) ⌝ }
+    ensures table { λ _. ⌜ now (table .exit) ≡ tableBegun (fresh order (record { metric = metric })) (now (table .entry)) ⌝ }
 {
     table_fresh::fresh(table, order, metric)
 }
@@ -32,8 +29,8 @@ pub extern "C" fn vpindex_fresh(table: &mut [Row], order: u32, metric: u32) -> u
 // The table that these bytes are the image of. The reply is the refusal: 7, 3, 4, 8, 7, 24, 7, 23, 8, or 0.
 #[no_mangle]
 pub extern "C" fn vpindex_load(table: &mut [Row], image: &[u8]) -> u32
-    ensures reply { λ r. ⌜ r ≡ loadRefusal (length (now (table .entry))) (now (image .entry)) ⌝ }
-    ensures table { λ _. ⌜ now (table .exit) ≡ tableAfterLoad (now (image .entry)) (now (table .entry)) ⌝ }
+    ensures reply { λ r. ⌜ r ≡ beginReply (load (now (image .entry))) (length (now (table .entry))) ⌝ }
+    ensures table { λ _. ⌜ now (table .exit) ≡ tableBegun (load (now (image .entry))) (now (table .entry)) ⌝ }
 {
     image_load::load(table, image)
 }
@@ -46,9 +43,9 @@ pub extern "C" fn vpindex_add(
     tag: u64,
     profile: Profile,
 ) -> Added
-    ensures reply { λ r. ⌜ r ≡ addReply (now (table .entry)) (now (work .entry)) tag profile ⌝ }
-    ensures table { λ _. ⌜ now (table .exit) ≡ tableAfterAdd (now (table .entry)) (now (work .entry)) tag profile ⌝ }
-    ensures work { λ _. ⌜ now (work .exit) ≡ workAfterAdd (now (table .entry)) (now (work .entry)) tag profile ⌝ }
+    ensures reply { λ r. ⌜ r ≡ changeReply (add tag profile) (now (table .entry)) (now (work .entry)) ⌝ }
+    ensures table { λ _. ⌜ now (table .exit) ≡ tableChanged (add tag profile) (now (table .entry)) (now (work .entry)) ⌝ }
+    ensures work { λ _. ⌜ now (work .exit) ≡ workChanged (add tag profile) (now (table .entry)) (now (work .entry)) ⌝ }
 {
     table_add::add(table, work, tag, profile)
 }
@@ -56,9 +53,9 @@ pub extern "C" fn vpindex_add(
 // An item struck out; the reply has the distances that a build worked out, 0 where none was built.
 #[no_mangle]
 pub extern "C" fn vpindex_remove(table: &mut [Row], work: &mut [Row], tag: u64) -> Removed
-    ensures reply { λ r. ⌜ r ≡ removeReply (now (table .entry)) (now (work .entry)) tag ⌝ }
-    ensures table { λ _. ⌜ now (table .exit) ≡ tableAfterRemove (now (table .entry)) (now (work .entry)) tag ⌝ }
-    ensures work { λ _. ⌜ now (work .exit) ≡ workAfterRemove (now (table .entry)) (now (work .entry)) tag ⌝ }
+    ensures reply { λ r. ⌜ r ≡ changeReply (remove tag) (now (table .entry)) (now (work .entry)) ⌝ }
+    ensures table { λ _. ⌜ now (table .exit) ≡ tableChanged (remove tag) (now (table .entry)) (now (work .entry)) ⌝ }
+    ensures work { λ _. ⌜ now (work .exit) ≡ workChanged (remove tag) (now (table .entry)) (now (work .entry)) ⌝ }
 {
     table_remove::remove(table, work, tag)
 }
@@ -66,7 +63,7 @@ pub extern "C" fn vpindex_remove(table: &mut [Row], work: &mut [Row], tag: u64) 
 // The bucket and the profile of the live item with this tag.
 #[no_mangle]
 pub extern "C" fn vpindex_look_up(table: &[Row], tag: u64) -> LookedUp
-    ensures reply { λ r. ⌜ r ≡ lookUpReply (now (table .entry)) tag ⌝ }
+    ensures reply { λ r. ⌜ r ≡ askReply (lookUp tag) (now (table .entry)) tt ⌝ }
 {
     table_look_up::look_up(table, tag)
 }
@@ -79,8 +76,8 @@ pub extern "C" fn vpindex_range(
     query: Profile,
     radius: u32,
 ) -> Searched
-    ensures reply { λ r. ⌜ r ≡ rangeReply (now (table .entry)) (now (result .entry)) query radius ⌝ }
-    ensures result { λ _. ⌜ now (result .exit) ≡ resultAfterRange (now (table .entry)) (now (result .entry)) query radius ⌝ }
+    ensures reply { λ r. ⌜ r ≡ askReply (range query radius) (now (table .entry)) (now (result .entry)) ⌝ }
+    ensures result { λ _. ⌜ now (result .exit) ≡ areasAnswered (range query radius) (now (table .entry)) (now (result .entry)) ⌝ }
 {
     table_range::range(table, result, query, radius)
 }
@@ -93,8 +90,8 @@ pub extern "C" fn vpindex_nearest(
     query: Profile,
     k: u32,
 ) -> Searched
-    ensures reply { λ r. ⌜ r ≡ nearestReply (now (table .entry)) (now (result .entry)) query k ⌝ }
-    ensures result { λ _. ⌜ now (result .exit) ≡ resultAfterNearest (now (table .entry)) (now (result .entry)) query k ⌝ }
+    ensures reply { λ r. ⌜ r ≡ askReply (nearest query k) (now (table .entry)) (now (result .entry)) ⌝ }
+    ensures result { λ _. ⌜ now (result .exit) ≡ areasAnswered (nearest query k) (now (table .entry)) (now (result .entry)) ⌝ }
 {
     table_nearest::nearest(table, result, query, k)
 }
@@ -102,8 +99,8 @@ pub extern "C" fn vpindex_nearest(
 // The image of the table, its length in the reply; bytes after it are unchanged.
 #[no_mangle]
 pub extern "C" fn vpindex_write(table: &[Row], image: &mut [u8]) -> Written
-    ensures reply { λ r. ⌜ r ≡ writeReply (now (table .entry)) (now (image .entry)) ⌝ }
-    ensures image { λ _. ⌜ now (image .exit) ≡ imageAfterWrite (now (table .entry)) (now (image .entry)) ⌝ }
+    ensures reply { λ r. ⌜ r ≡ replyTo write (now (table .entry)) (now (image .entry)) ⌝ }
+    ensures image { λ _. ⌜ now (image .exit) ≡ areasAfter write (now (table .entry)) (now (image .entry)) ⌝ }
 {
     image_write::write(table, image)
 }
@@ -111,9 +108,9 @@ pub extern "C" fn vpindex_write(table: &[Row], image: &mut [u8]) -> Written
 // A herd list: each line an add, up to the first line refused. The reply has that line's refusal and number, the items added and their distances.
 #[no_mangle]
 pub extern "C" fn vpindex_read_list(table: &mut [Row], work: &mut [Row], list: &[u8]) -> ListRead
-    ensures reply { λ r. ⌜ r ≡ readListReply (now (table .entry)) (now (work .entry)) (now (list .entry)) ⌝ }
-    ensures table { λ _. ⌜ now (table .exit) ≡ tableAfterReadList (now (table .entry)) (now (work .entry)) (now (list .entry)) ⌝ }
-    ensures work { λ _. ⌜ now (work .exit) ≡ workAfterReadList (now (table .entry)) (now (work .entry)) (now (list .entry)) ⌝ }
+    ensures reply { λ r. ⌜ r ≡ changeReply (readList (now (list .entry))) (now (table .entry)) (now (work .entry)) ⌝ }
+    ensures table { λ _. ⌜ now (table .exit) ≡ tableChanged (readList (now (list .entry))) (now (table .entry)) (now (work .entry)) ⌝ }
+    ensures work { λ _. ⌜ now (work .exit) ≡ workChanged (readList (now (list .entry))) (now (table .entry)) (now (work .entry)) ⌝ }
 {
     list_read::read_list(table, work, list)
 }
