@@ -49,10 +49,10 @@ impl Archive {
 impl Index for Archive {
     fn new(order: u32, metric: u32) -> Archive {
         let n = 1 << order;
-        let mut table = vec![[0; 12]; order as usize + 1 + 2 * n];
+        let mut table = vec![[0; ffi::ROW_WORDS]; order as usize + 1 + 2 * n];
         assert_eq!(ffi::fresh(&mut table, order, metric), 0);
         let image = vec![0; 4 + 4 * (order as usize + 1) + 48 * (2 * n - 1)];
-        Archive { table, work: vec![[0; 12]; n], result: vec![[0; 2]; n], found: 0, image, length: 0 }
+        Archive { table, work: vec![[0; ffi::ROW_WORDS]; n], result: vec![[0; 2]; n], found: 0, image, length: 0 }
     }
 
     fn add(&mut self, tag: u64, profile: &Profile) -> u32 {

@@ -8,7 +8,7 @@ use lib.ListN.{length, drop, length-map}
 use lib.Seq.{take-append-le}
 use Rattle.lists.specs.Lists.{All}
 use Rattle.metric_rules.specs.Row.{Row}
-use Rattle.metric_rules.specs.Distance.{Space}
+use Rattle.metric_rules.specs.declared.Space.{Space}
 use Rattle.table_rules.specs.Geometry.{bucketsOf, tableRows}
 use Rattle.table_rules.specs.Table.{Table, orderOf, builtOf, liveOf, liveTotal}
 use Rattle.table_rules.proofs.Sizes.{size-room, sizes-at}

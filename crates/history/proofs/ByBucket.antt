@@ -9,7 +9,8 @@ use native.Mathlib.Omega.{arith}
 use lib.ListN.{length}
 use Rattle.lists.specs.Lists.{every, select, distinct, All}
 use Rattle.metric_rules.specs.Row.{Row, IsRow, tagOf, isLive}
-use Rattle.metric_rules.specs.Distance.{Space, distance, validSpace}
+use Rattle.metric_rules.specs.declared.Space.{Space}
+use Rattle.metric_rules.specs.Distance.{distance, validSpace}
 use Rattle.tree_rules.specs.Layout.{isLayout}
 use Rattle.table_rules.specs.Geometry.{validOrder, headerRow, tableRows}
 use Rattle.table_rules.specs.Table.{Table, rowAt, orderOf, tableSpace, headerOf}

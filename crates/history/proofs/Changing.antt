@@ -13,9 +13,9 @@ use Rattle.lists.specs.Lists.{select, distinct, All}
 use Rattle.lists.proofs.Lists.{all-weaken, all-of-map, perm-map, perm-of-eq}
 use Rattle.lists.proofs.Distinct.{distinct-perm, distinct-pairs}
 use Rattle.metric_rules.specs.declared.Profile.{Profile}
-use Rattle.metric_rules.specs.Row.{Row, IsProfile, rowOf}
+use Rattle.metric_rules.specs.Row.{Row, IsProfile, newRow}
 use Rattle.metric_rules.specs.Validity.{validTag, validMeasures}
-use Rattle.metric_rules.specs.Distance.{Space}
+use Rattle.metric_rules.specs.declared.Space.{Space}
 use Rattle.metric_rules.proofs.Codec.{tag-of-row, profile-of-row}
 use Rattle.tree_rules.specs.Layout.{placed}
 use Rattle.tree_rules.proofs.Placed.{tag-placed, profile-placed}
@@ -54,7 +54,7 @@ item-placed : (m : ℕ) (row : Row) → itemOf (placed m row) ≡ itemOf row
 unfolding itemOf
 item-placed m row = ap₂ (λ (n : ℕ) (p : Profile). record { tag = n; profile = p }) (tag-placed m row) (profile-placed m row)
 
-new-item : (tag : ℕ) (p : Profile) → IsProfile p → itemOf (rowOf tag p 0 0) ≡ record { tag = tag; profile = p }
+new-item : (tag : ℕ) (p : Profile) → IsProfile p → itemOf (newRow tag p) ≡ record { tag = tag; profile = p }
 unfolding itemOf
 new-item tag p is = ap₂ (λ (n : ℕ) (q : Profile). record { tag = n; profile = q }) (tag-of-row tag p 0 0) (profile-of-row tag p 0 0 is)
 

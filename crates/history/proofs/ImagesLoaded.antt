@@ -14,7 +14,8 @@ use Rattle.lists.proofs.Lists.{all-weaken}
 use Rattle.lists.proofs.Tests.{and-first, and-second, and-pass, every-all, all-every}
 use Rattle.metric_rules.specs.Row.{Row, IsRow, tagOf, profileOf}
 use Rattle.metric_rules.specs.Validity.{validTag, validMeasures, validMark}
-use Rattle.metric_rules.specs.Distance.{Space, distance, validSpace}
+use Rattle.metric_rules.specs.declared.Space.{Space}
+use Rattle.metric_rules.specs.Distance.{distance, validSpace}
 use Rattle.tree_rules.specs.Layout.{isLayout}
 use Rattle.table_rules.specs.Geometry.{validOrder, room, bucketsOf, headerRow, sizesRow, firstSlot, tableRows}
 use Rattle.table_rules.specs.Table.{Table, rowAt, orderOf, tableSpace, builtOf, liveOf, slotsOf, pairRow, headerOf}

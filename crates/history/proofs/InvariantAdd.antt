@@ -13,7 +13,7 @@ use Rattle.lists.proofs.Lists.{all-map, all-weaken}
 use Rattle.lists.proofs.Tests.{and-pass}
 use Rattle.lists.proofs.Distinct.{distinct-pairs, pairs-distinct}
 use Rattle.metric_rules.specs.declared.Profile.{Profile}
-use Rattle.metric_rules.specs.Row.{Row, IsRow, IsProfile, rowOf, tagOf, profileOf}
+use Rattle.metric_rules.specs.Row.{Row, IsRow, IsProfile, newRow, tagOf, profileOf}
 use Rattle.metric_rules.specs.Validity.{validTag, validMeasures}
 use Rattle.metric_rules.proofs.Codec.{tag-of-row, profile-of-row, row-fits}
 use Rattle.tree_rules.specs.Layout.{placed}
@@ -55,16 +55,16 @@ addable t work tag p h =
 
 -- the row that an add stores
 module _ (tag : ℕ) (p : Profile) (isProfile : IsProfile p) where
-  pub new-item : {B : Type 0} (f : ℕ → Profile → B) → f (tagOf (rowOf tag p 0 0)) (profileOf (rowOf tag p 0 0)) ≡ f tag p
+  pub new-item : {B : Type 0} (f : ℕ → Profile → B) → f (tagOf (newRow tag p)) (profileOf (newRow tag p)) ≡ f tag p
   new-item f = ap₂ f (tag-of-row tag p 0 0) (profile-of-row tag p 0 0 isProfile)
 
-  new-valid : validTag tag ≡ true → validMeasures p ≡ true → validRow (rowOf tag p 0 0) ≡ true
+  new-valid : validTag tag ≡ true → validMeasures p ≡ true → validRow (newRow tag p) ≡ true
   unfolding validRow
   new-valid a b = new-item (λ n q. validTag n && validMeasures q) ∙ and-pass (validTag tag) (validMeasures p) a b
 
 module _ {t : Table} (invariant : Invariant t) (tag : ℕ) (p : Profile) (fits : tag < 2 ^ 64) (isProfile : IsProfile p) (ok : Addable t tag p) where
   abbrev new : List Row
-  new = rowOf tag p 0 0 ∷ []
+  new = newRow tag p ∷ []
 
   abbrev below : List ℕ
   below = countFrom 0 (lowestEmpty t)
@@ -80,7 +80,7 @@ module _ {t : Table} (invariant : Invariant t) (tag : ℕ) (p : Profile) (fits :
   unfolding allLive
   new-once =
       pairs-distinct (map tagOf (new ++ allLive t)) (
-        all-map tagOf (λ n. tagOf (rowOf tag p 0 0) ≡ n → ⊥) (allLive t)
+        all-map tagOf (λ n. tagOf (newRow tag p) ≡ n → ⊥) (allLive t)
             (all-weaken (λ r a e. a (sym e ∙ tag-of-row tag p 0 0)) (allLive t) (no-live-tag t tag (ok .new))),
         distinct-pairs (map tagOf (allLive t)) (invariant .once),
       )
@@ -123,7 +123,7 @@ module _ {t : Table} (invariant : Invariant t) (tag : ℕ) (p : Profile) (fits :
   -- the live items: the new one and those before, whatever a row has besides threshold and mark
   pub added-live :
       {B : Type 0} (f : Row → B) → ((m : ℕ) (row : Row) → f (placed m row) ≡ f row)
-      → List·Permᴰ (map f (allLive (added t tag p .table))) (f (rowOf tag p 0 0) ∷ map f (allLive t))
+      → List·Permᴰ (map f (allLive (added t tag p .table))) (f (newRow tag p) ∷ map f (allLive t))
   added-live f kept =
       rw added-steps
       (rebuilt-live (invariant-by-bucket invariant) below (gathered-buckets t) (count-apart 0 (lowestEmpty t)) new new-rows

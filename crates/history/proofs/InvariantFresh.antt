@@ -9,7 +9,8 @@ use lib.ListN.{length}
 use borrow.Author.Tests.{leb-true}
 use Rattle.lists.specs.Lists.{distinct, select, All}
 use Rattle.metric_rules.specs.Row.{Row}
-use Rattle.metric_rules.specs.Distance.{Space, validSpace}
+use Rattle.metric_rules.specs.declared.Space.{Space}
+use Rattle.metric_rules.specs.Distance.{validSpace}
 use Rattle.table_rules.specs.Refusals.{badOrder, badMetric, shortArea}
 use Rattle.table_rules.specs.Geometry.{validOrder, bucketsOf, tableRows}
 use Rattle.table_rules.specs.Table.{Table, orderOf, liveSlots, headerOf}

@@ -16,7 +16,8 @@ use Rattle.lists.proofs.Tests.{and-first, and-pass, every-all, all-every}
 use Rattle.lists.proofs.Distinct.{distinct-perm, distinct-left, distinct-of}
 use Rattle.metric_rules.specs.Row.{Row, IsRow, tagOf, profileOf, markOf, isLive}
 use Rattle.metric_rules.specs.Validity.{validTag, validMeasures}
-use Rattle.metric_rules.specs.Distance.{Space, distance}
+use Rattle.metric_rules.specs.declared.Space.{Space}
+use Rattle.metric_rules.specs.Distance.{distance}
 use Rattle.metric_rules.proofs.Laws.{distance-metric}
 use Rattle.tree_rules.specs.Layout.{layout, placed}
 use Rattle.tree_rules.proofs.Placed.{tag-placed, profile-placed}

@@ -11,7 +11,8 @@ use Rattle.lists.proofs.Lists.{all-weaken, perm-length, perm-map}
 use Rattle.lists.proofs.Tests.{and-second, every-all}
 use Rattle.metric_rules.specs.declared.Profile.{Profile}
 use Rattle.metric_rules.specs.Row.{tagOf}
-use Rattle.metric_rules.specs.Distance.{Space, distance}
+use Rattle.metric_rules.specs.declared.Space.{Space}
+use Rattle.metric_rules.specs.Distance.{distance}
 use Rattle.search_rules.specs.Range.{Entry, entry, ordered, entryOf, toQuery}
 use Rattle.search_rules.specs.Nearest.{keep}
 use Rattle.search_rules.proofs.Keep.{keep-permuted}

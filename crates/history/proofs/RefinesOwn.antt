@@ -9,7 +9,8 @@ use lib.ListN.{length, take}
 use native.Mathlib.Omega.{arith}
 use Rattle.lists.specs.Lists.{every, total, distinct, All}
 use Rattle.metric_rules.specs.Row.{Row, IsRow, tagOf}
-use Rattle.metric_rules.specs.Distance.{Space, distance, validSpace}
+use Rattle.metric_rules.specs.declared.Space.{Space}
+use Rattle.metric_rules.specs.Distance.{distance, validSpace}
 use Rattle.tree_rules.specs.Layout.{isLayout}
 use Rattle.table_rules.specs.Geometry.{validOrder, room, bucketsOf, tableRows}
 use Rattle.table_rules.specs.Table.{Table, orderOf, tableSpace, builtOf, liveOf, slotsOf, liveSlots, pairRow, headerOf}

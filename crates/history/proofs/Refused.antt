@@ -6,7 +6,7 @@ use mathlib.Core.List.{List, [], _∷_, _++_, map}
 use lib.IntN.{pos, negsuc}
 use lib.ListN.{set, take, replicate}
 use Rattle.metric_rules.specs.declared.Profile.{Profile}
-use Rattle.metric_rules.specs.Row.{zeroRow, rowOf, withMark}
+use Rattle.metric_rules.specs.Row.{rowWidth, zeroRow, rowOf, withMark}
 use Rattle.table_rules.specs.Geometry.{firstSlot}
 use Rattle.table_rules.specs.Table.{Table, rowAt, pairRow, putSizes}
 use Rattle.table_rules.specs.LookUp.{notFound, lookUpReply}
@@ -21,7 +21,7 @@ unfolding rowOf tag valued zeroRow pairRow
 laid =
     (pairRow 2 0 ∷ zeroRow ∷ zeroRow ∷ pairRow 4 4 ∷ zeroRow ∷ zeroRow ∷ zeroRow ∷ [])
     ++ (rowOf (tag 1) (valued 10) 3 0 ∷ rowOf (tag 2) (valued 13) 0 0 ∷ rowOf (tag 3) (valued 13) 0 0 ∷ rowOf (tag 4) (valued 20) 0 0 ∷ [])
-    ++ replicate 10 (replicate 12 6)
+    ++ replicate 10 (replicate rowWidth 6)
 
 table-laid : table ≡ laid
 unfolding table laid
@@ -125,7 +125,7 @@ tries =
     ∷ on [] (add 0 below)
     ∷ on (take 10 laid) (lookUp 0)
     ∷ on (take 10 laid) (fresh 2 (by 0))
-    ∷ record { call = add (tag 5) (valued 0); table = laid; areas = replicate 3 (replicate 12 7) }
+    ∷ record { call = add (tag 5) (valued 0); table = laid; areas = replicate 3 (replicate rowWidth 7) }
     ∷ on (take 1 (headed 13 0)) (remove 0)
     ∷ on (headed 2 3) (range below 0)
     ∷ on (headed 2 2) (range below 0)

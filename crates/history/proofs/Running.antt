@@ -4,9 +4,9 @@ use mathlib.Core.List.{List, [], _∷_, _++_, map, flatten}
 use lib.IntN.{pos}
 use lib.ListN.{replicate, take}
 use Rattle.metric_rules.specs.declared.Profile.{Profile}
-use Rattle.metric_rules.specs.Row.{tagOf, thresholdOf, markOf}
+use Rattle.metric_rules.specs.Row.{rowWidth, tagOf, thresholdOf, markOf}
 use Rattle.metric_rules.specs.Validity.{nationals}
-use Rattle.metric_rules.specs.Distance.{Space}
+use Rattle.metric_rules.specs.declared.Space.{Space}
 use Rattle.table_rules.specs.Table.{Table, slotsOf, builtOf, liveOf}
 use Rattle.text_rules.specs.Text.{lineFeed, digits}
 use Rattle.list_rules.specs.Lines.{semicolon, comma, listHeader}
@@ -53,7 +53,7 @@ nearest q k = ask (Ask.nearest q k)
 
 -- a table area for order 3; and areas of n rows, entries or bytes for a call. All hold other content before
 unfoldable pub scratch : Table
-scratch = replicate 21 (replicate 12 6)
+scratch = replicate 21 (replicate rowWidth 6)
 
 unfoldable pub askAreas : ℕ → (q : Ask) → AskAreas q
 askAreas n (Ask.lookUp t) = tt
@@ -63,7 +63,7 @@ askAreas n (Ask.nearest q k) = replicate n (8 ∷ 8 ∷ [])
 unfoldable pub areasFor : ℕ → (c : Call) → Areas c
 unfolding askAreas
 areasFor n (begin b) = tt
-areasFor n (change c) = replicate n (replicate 12 7)
+areasFor n (change c) = replicate n (replicate rowWidth 7)
 areasFor n (ask q) = askAreas n q
 areasFor n write = replicate n 5
 

@@ -11,7 +11,8 @@ use lib.ListN.{length}
 use Rattle.lists.specs.Lists.{total, All}
 use Rattle.metric_rules.specs.declared.Profile.{Profile}
 use Rattle.metric_rules.specs.Row.{Row}
-use Rattle.metric_rules.specs.Distance.{Space, distance, Metric}
+use Rattle.metric_rules.specs.declared.Space.{Space}
+use Rattle.metric_rules.specs.Distance.{distance, Metric}
 use Rattle.search_rules.specs.Range.{Ascending}
 use Rattle.search_rules.specs.Reached.{reached}
 use Rattle.table_rules.specs.Geometry.{tableRows}

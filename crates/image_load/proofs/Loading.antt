@@ -5,7 +5,8 @@ use mathlib.Core.List.{List, foldl}
 use borrow.Author.Tests.{le-leb}
 use lib.ListN.{length}
 use Rattle.metric_rules.specs.Row.{rowWidth, zeroRow, word}
-use Rattle.metric_rules.specs.Distance.{Space, metricAt, spaceOf}
+use Rattle.metric_rules.specs.declared.Space.{Space}
+use Rattle.metric_rules.specs.Distance.{metricAt, spaceOf}
 use Rattle.table_rules.specs.Geometry.{bucketsOf, tableRows}
 use Rattle.table_rules.specs.Table.{Table, headerOf, putBucket}
 use Rattle.table_rules.specs.Fresh.{freshRefusal, freshTable, tableAfterFresh}

@@ -9,7 +9,7 @@ use lib.Dec.{leb, ltb, eqb}
 use lib.ListN.{length}
 use lib.Pow.{pow-mono}
 use Rattle.lists.specs.Lists.{total}
-use Rattle.metric_rules.specs.Distance.{validSpace}
+use Rattle.metric_rules.specs.Distance.{validMetric}
 use Rattle.table_rules.specs.Refusals.{badOrder, badMetric, badLength, badImage, shortArea, badTable, unless, when}
 use Rattle.table_rules.specs.Geometry.{validOrder, room, tableRows}
 use Rattle.table_rules.specs.Checks.{sizesPass}
@@ -72,7 +72,7 @@ module _ (rows : ℕ) (image : List ℕ) where
   pub load-steps : loadRefusal rows image ≡ andThen (headerRefusal image) (andThen (sizesRefusal rows image) (slotsBy (slotsPass image)))
   unfolding loadRefusal bodyRefusal headerRefusal sizesRefusal
   load-steps =
-      by-steps (ltb (length image) headerBytes) (validOrder (orderIn image)) (validSpace (spaceIn image)) (eqb (zerosIn image) 0)
+      by-steps (ltb (length image) headerBytes) (validOrder (orderIn image)) (validMetric (spaceIn image)) (eqb (zerosIn image) 0)
       (leb (sizesEnd (orderIn image)) (length image)) (sizesPass (orderIn image) (builtIn image) (liveIn image))
       (eqb (length image) (imageLength (orderIn image) (slotsIn image))) (leb (tableRows (orderIn image)) rows) (slotsPass image)
 

@@ -4,7 +4,7 @@ use mathlib.Core.Bool.{Bool}
 use mathlib.Core.List.{List}
 use lib.ListN.{length}
 use lib.Dec.{leb, ltb, eqb}
-use Rattle.metric_rules.specs.Distance.{validSpace}
+use Rattle.metric_rules.specs.Distance.{validMetric}
 use Rattle.table_rules.specs.Refusals.{badOrder, badMetric, badLength, badImage, shortArea, badTable, unless, when}
 use Rattle.table_rules.specs.Geometry.{validOrder, tableRows}
 use Rattle.table_rules.specs.Checks.{sizesPass}
@@ -20,7 +20,7 @@ headerBy short order space zeros =
     0)))
 
 unfoldable pub headerRefusal : List ℕ → ℕ
-headerRefusal image = headerBy (ltb (length image) headerBytes) (validOrder (orderIn image)) (validSpace (spaceIn image)) (eqb (zerosIn image) 0)
+headerRefusal image = headerBy (ltb (length image) headerBytes) (validOrder (orderIn image)) (validMetric (spaceIn image)) (eqb (zerosIn image) 0)
 
 unfoldable pub sizesBy : Bool → Bool → Bool → Bool → ℕ
 sizesBy pairs sizes whole roomy =

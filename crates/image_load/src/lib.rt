@@ -6,7 +6,7 @@ ghost use lib.ListN.{length};
 ghost use Rattle.table_rules.specs.Geometry.{validOrder};
 ghost use Rattle.table_rules.specs.Checks.{sizesPass};
 ghost use Rattle.image_rules.specs.Bytes.{headerBytes};
-ghost use Rattle.image_rules.specs.Read.{orderIn, builtIn, liveIn};
+ghost use Rattle.image_rules.specs.Read.{orderIn, spaceIn, builtIn, liveIn};
 ghost use Rattle.image_rules.specs.Load.{slotsPass, loadRefusal, tableAfterLoad};
 ghost use Rattle.image_read.specs.Places.{Places};
 ghost use Rattle.image_load.specs.Steps.{headerRefusal, sizesRefusal};
@@ -24,6 +24,7 @@ use image_rules::SLOT_BYTES;
 use image_rules::TAG_BYTES;
 use image_test::trees_valid;
 use metric_rules::Row;
+use metric_rules::Space;
 use table_fresh::fresh;
 use table_fresh::header_row;
 use table_order::Order;
@@ -45,6 +46,16 @@ fn is_order(t: u32) -> bool
     }
 }
 
+// What distances depend on, as the header has it.
+fn space_in(image: &[u8]) -> Space
+    requires { ⌜ headerBytes ≤ length (now image) ⌝ }
+    ensures { λ r. ⌜ r ≡ spaceIn (now (image .entry)) ⌝ }
+{
+    Space {
+        metric: metric_in(image),
+    }
+}
+
 // The header's checks: under 4 bytes 7, order 3, metric 4, zero bytes 8.
 fn header_refusal(image: &[u8]) -> u32
     ensures { λ r. ⌜ r ≡ headerRefusal (now (image .entry)) ⌝ }
@@ -55,7 +66,7 @@ fn header_refusal(image: &[u8]) -> u32
     if !is_order(order_in(image)) {
         return BAD_ORDER;
     }
-    if !valid_metric(metric_in(image)) {
+    if !valid_metric(space_in(image)) {
         return BAD_METRIC;
     }
     if zeros_in(image) != 0 {
@@ -94,7 +105,7 @@ fn slots_pass(image: &[u8], tags: usize, records: usize) -> bool
     if !buckets_read(image, tags, records) {
         return false;
     }
-    let header = header_row(order_in(image), metric_in(image));
+    let header = header_row(order_in(image), space_in(image));
     trees_valid(image, tags, records, &header)
 }
 
@@ -128,7 +139,7 @@ pub fn load(table: &mut [Row], image: &[u8]) -> u32
         return refusal;
     }
     let order = Order { t: order_in(image) };
-    fresh(table, order.t, metric_in(image));
+    fresh(table, order.t, space_in(image));
     let tags = sizes_end(order.t);
     put_buckets(
         table,

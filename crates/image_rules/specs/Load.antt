@@ -7,7 +7,8 @@ use lib.Dec.{leb, ltb, eqb}
 use Rattle.lists.specs.Lists.{every, select, distinct}
 use Rattle.metric_rules.specs.Row.{Row, tagOf, profileOf, isLive}
 use Rattle.metric_rules.specs.Validity.{validTag, validMeasures, validMark}
-use Rattle.metric_rules.specs.Distance.{Space, validSpace, distance}
+use Rattle.metric_rules.specs.declared.Space.{Space}
+use Rattle.metric_rules.specs.Distance.{validMetric, distance}
 use Rattle.tree_rules.specs.Layout.{isLayout}
 use Rattle.table_rules.specs.Refusals.{badOrder, badMetric, badLength, badImage, shortArea, badTable, unless, when}
 use Rattle.table_rules.specs.Geometry.{validOrder, bucketsOf, tableRows}
@@ -51,7 +52,7 @@ unfoldable pub loadRefusal : ℕ → List ℕ → ℕ
 loadRefusal rows image =
     when (ltb (length image) headerBytes) badLength
     (unless (validOrder (orderIn image)) badOrder
-    (unless (validSpace (spaceIn image)) badMetric
+    (unless (validMetric (spaceIn image)) badMetric
     (unless (eqb (zerosIn image) 0) badImage
     (bodyRefusal rows image))))
 

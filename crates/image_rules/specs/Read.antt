@@ -4,7 +4,7 @@ use mathlib.Core.List.{List, [], _∷_, _++_, map}
 use lib.ListN.{getD, take, drop}
 use Rattle.lists.specs.Lists.{total, countFrom}
 use Rattle.metric_rules.specs.Row.{Row}
-use Rattle.metric_rules.specs.Distance.{Space}
+use Rattle.metric_rules.specs.declared.Space.{Space}
 use Rattle.image_rules.specs.Bytes.{numberOf, headerFields, tagFields, recordFields, headerBytes, tagBytes, recordBytes, sizeBytes, pairBytes, sizesEnd}
 
 -- the w bytes at a place as a number, and the numbers of some fields from a place on

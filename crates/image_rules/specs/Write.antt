@@ -4,7 +4,7 @@ use mathlib.Core.List.{List, [], _∷_, _++_, map, flatten}
 use lib.ListN.{length, take, drop}
 use lib.Dec.{leb}
 use Rattle.metric_rules.specs.Row.{Row}
-use Rattle.metric_rules.specs.Distance.{Space}
+use Rattle.metric_rules.specs.declared.Space.{Space}
 use Rattle.table_rules.specs.Refusals.{noRoom, unless, orElse}
 use Rattle.table_rules.specs.Geometry.{bucketsOf}
 use Rattle.table_rules.specs.Table.{Table, orderOf, tableSpace, builtOf, liveOf, slotsOf}

@@ -8,7 +8,8 @@ use mathlib.Core.List.{List, _∷_, _++_, map, flatten, map-append}
 use lib.ListN.{length, getD, take, length-take}
 use Rattle.lists.specs.Lists.{countFrom, total, select, distinct}
 use Rattle.metric_rules.specs.Row.{Row, tagOf, isLive}
-use Rattle.metric_rules.specs.Distance.{Space, distance}
+use Rattle.metric_rules.specs.declared.Space.{Space}
+use Rattle.metric_rules.specs.Distance.{distance}
 use Rattle.tree_rules.specs.Layout.{isLayout}
 use Rattle.search_rules.specs.Range.{Entry}
 use Rattle.search_rules.proofs.Selecting.{select-append}

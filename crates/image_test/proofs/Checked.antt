@@ -14,7 +14,8 @@ use Rattle.lists.proofs.Lists.{all-of-map}
 use Rattle.lists.proofs.Tests.{and-first, and-second, every-all}
 use Rattle.metric_rules.specs.Row.{Row, tagOf, profileOf, markOf, isLive}
 use Rattle.metric_rules.specs.Validity.{validTag, validMeasures}
-use Rattle.metric_rules.specs.Distance.{Space, distance}
+use Rattle.metric_rules.specs.declared.Space.{Space}
+use Rattle.metric_rules.specs.Distance.{distance}
 use Rattle.metric_rules.proofs.Ranges.{tag-below}
 use Rattle.tree_rules.specs.Layout.{isLayout}
 use Rattle.table_rules.specs.Geometry.{mostOrder, room, bucketsOf}

@@ -5,7 +5,8 @@ use mathlib.Core.Bool.{Bool, _&&_}
 use mathlib.Core.List.{List, map}
 use Rattle.lists.specs.Lists.{every, distinct}
 use Rattle.metric_rules.specs.Row.{Row, tagOf}
-use Rattle.metric_rules.specs.Distance.{Space, distance}
+use Rattle.metric_rules.specs.declared.Space.{Space}
+use Rattle.metric_rules.specs.Distance.{distance}
 use Rattle.tree_rules.specs.Layout.{isLayout}
 use Rattle.search_rules.specs.Range.{Entry}
 use Rattle.table_rules.specs.Geometry.{bucketsOf}

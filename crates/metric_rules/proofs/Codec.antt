@@ -59,10 +59,10 @@ module _ (x y : Row) where
   tags-alike h l = ap₂ wide l h
 
 module _ (row : Row) (is : IsRow row) where
-  -- a row is the list of its twelve words
-  twelve : map (word row) (countFrom 0 12) ≡ row
-  unfolding word rowWidth
-  twelve = elements 0 12 row (is .width)
+  -- a row is the list of its by-words words
+  by-words : map (word row) (countFrom 0 rowWidth) ≡ row
+  unfolding word
+  by-words = elements 0 rowWidth row (is .width)
 
   low : (i b : ℕ) → wide (word row i) b % 2 ^ 32 ≡ word row i
   low i b = low-word (word row i) b (is .fits i)
@@ -88,7 +88,7 @@ module _ (row : Row) (is : IsRow row) where
         high 6 (word row 7),
         low 8 (word row 9),
         high 8 (word row 9),
-        twelve,
+        by-words,
       )
 
 -- the fields of a row of given fields
@@ -124,7 +124,7 @@ module _ (tag : ℕ) (p : Profile) (threshold mark : ℕ) where
     profile-of-row = λ i. record { measures = same-measures i; code = same-code i }
 
     pub row-fits : tag < 2 ^ 64 → threshold < 2 ^ 32 → mark < 2 ^ 32 → IsRow (rowOf tag p threshold mark)
-    unfolding rowOf word rowWidth
+    unfolding rowOf word
     row-fits ht hm hk =
         record {
           width = refl;
@@ -163,7 +163,7 @@ module _ (row : Row) (n : ℕ) where
 
   -- with another threshold
   pub threshold-with-threshold : length row ≡ rowWidth → thresholdOf (withThreshold n row) ≡ n
-  unfolding thresholdOf withThreshold rowWidth
+  unfolding thresholdOf withThreshold
   threshold-with-threshold e = getD-set-same row thresholdAt n 0 (omega arith)
 
   pub tag-with-threshold : tagOf (withThreshold n row) ≡ tagOf row
@@ -184,7 +184,7 @@ module _ (row : Row) (n : ℕ) where
 
   -- with another mark
   pub mark-with-mark : length row ≡ rowWidth → markOf (withMark n row) ≡ n
-  unfolding markOf withMark rowWidth
+  unfolding markOf withMark
   mark-with-mark e = getD-set-same row markAt n 0 (omega arith)
 
   pub tag-with-mark : tagOf (withMark n row) ≡ tagOf row

@@ -9,7 +9,8 @@ use borrow.Author.Tests.{leb-true}
 use Rattle.metric_rules.specs.declared.Profile.{Profile}
 use Rattle.metric_rules.specs.Row.{IsProfile, measure, codeWord}
 use Rattle.metric_rules.specs.Validity.{validMeasure, validMeasures, measureLimit}
-use Rattle.metric_rules.specs.Distance.{Metric, saturated, gap, measureDistance, differing, codeDistance, largest, worstDistance, Space, distanceBy, distance, lastMetric, validSpace}
+use Rattle.metric_rules.specs.declared.Space.{Space}
+use Rattle.metric_rules.specs.Distance.{Metric, saturated, gap, measureDistance, differing, codeDistance, largest, worstDistance, distanceBy, distance, lastMetric, validMetric}
 use Rattle.metric_rules.proofs.Elements.{every-at}
 use Rattle.metric_rules.proofs.Apart.{abs-self, abs-swap, abs-triangle, abs-sum}
 use Rattle.metric_rules.proofs.Words.{signed-apart}
@@ -145,6 +146,6 @@ distance-metric space = go (space .metric)
     go (suc (suc metric)) = worst-metric
 
 -- a valid metric's number is one byte, as the image stores it
-pub metric-byte : (space : Space) → validSpace space ≡ true → space .metric < 256
-unfolding validSpace lastMetric
+pub metric-byte : (space : Space) → validMetric space ≡ true → space .metric < 256
+unfolding validMetric lastMetric
 metric-byte space e = omega (arith, leb-true (space .metric) lastMetric e)

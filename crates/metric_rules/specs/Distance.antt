@@ -6,6 +6,7 @@ use lib.Bits.{differ}
 use lib.Dec.{leb}
 use mathlib.Core.Bool.{Bool}
 use Rattle.metric_rules.specs.declared.Profile.{Profile}
+use Rattle.metric_rules.specs.declared.Space.{Space}
 use Rattle.metric_rules.specs.Row.{Row, word, measure, codeWord}
 
 -- RULES 3.1, 3.2: a distance is an unsigned number of 32 bits, and a larger sum is taken as the largest of them
@@ -50,10 +51,7 @@ distanceBy zero = measureDistance
 distanceBy (suc zero) = codeDistance
 distanceBy (suc (suc metric)) = worstDistance
 
--- RULES 3.1: what a distance depends on, in one value: a table's metric
-pub record Space : Type 0 where
-  pub metric : ℕ
-
+-- the distance by what it depends on: a table's metric ("A table has one metric, set when fresh")
 unfoldable pub distance : Space → Profile → Profile → ℕ
 unfolding distanceBy
 distance space = distanceBy (space .metric)
@@ -71,9 +69,13 @@ spaceOf header = record { metric = word header metricAt }
 unfoldable pub lastMetric : ℕ
 lastMetric = 2
 
-unfoldable pub validSpace : Space → Bool
+unfoldable pub validMetric : Space → Bool
 unfolding lastMetric
-validSpace space = leb (space .metric) lastMetric
+validMetric space = leb (space .metric) lastMetric
+
+-- every part of what a distance depends on is valid: the metric is all of it
+abbrev pub validSpace : Space → Bool
+validSpace space = validMetric space
 
 -- RULES 3.6, what trees, searches and costs rest on: an unsigned 32-bit distance with the three laws
 pub record Metric (dist : Profile → Profile → ℕ) : Type 0 where

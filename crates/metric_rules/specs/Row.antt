@@ -17,7 +17,8 @@ use Rattle.metric_rules.specs.declared.Profile.{Profile}
 abbrev pub Row : Type 0
 Row = List ℕ
 
-unfoldable pub rowWidth : ℕ
+-- the words of a row; in the code it is `ROW_WIDTH`
+abbrev pub rowWidth : ℕ
 rowWidth = 12
 
 -- RULES 4.2: the places of the tag's two words, of the four measures, of the code's four words, of the threshold and of the mark
@@ -37,7 +38,6 @@ unfoldable pub markAt : ℕ
 markAt = 11
 
 unfoldable pub zeroRow : Row
-unfolding rowWidth
 zeroRow = replicate rowWidth 0
 
 -- word i of a row
@@ -95,6 +95,14 @@ rowOf tag p threshold mark =
     ++ words (codeWord p 0)
     ++ words (codeWord p 1)
     ++ (threshold ∷ mark ∷ [])
+
+-- the row of a new item: no threshold yet, and live
+abbrev pub newRow : ℕ → Profile → Row
+newRow tag p = rowOf tag p 0 0
+
+-- the row that a search makes of its query: no tag, and the radius in the threshold's place
+abbrev pub queryRow : Profile → ℕ → Row
+queryRow query radius = rowOf 0 query radius 0
 
 -- a row with another threshold, or another mark, and every other word kept
 unfoldable pub withThreshold : ℕ → Row → Row

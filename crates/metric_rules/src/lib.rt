@@ -1,6 +1,7 @@
 // Profiles and rows: what the other crates' definitions and code name them by.
 
-// RULES 4.2: the words of a slot's row, and the place of each: the tag's two, the four measures, the two of each code word, the threshold and the mark.
+// The words of a slot's row, the definitions' `rowWidth`, and the place of each: the tag's two, the four measures, the two of each code word, the
+// threshold and the mark.
 pub const ROW_WIDTH: usize = 12;
 
 pub const TAG_LOW: usize = 0;
@@ -32,6 +33,11 @@ pub const METRIC_AT: usize = 1;
 
 // A slot of a table: twelve words of 32 bits. Every twelve words are some slot.
 pub type Row = [u32; ROW_WIDTH];
+
+// What a distance depends on, in one value: a table's metric.
+pub struct Space {
+    pub metric: u32,
+}
 
 // RULES 2.6: four measures in hundredths and the coat code, handed over as one value.
 #[repr(C)]

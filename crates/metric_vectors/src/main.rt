@@ -3,6 +3,7 @@ mod vectors;
 
 use libc::STDOUT_FILENO;
 use metric_rules::Profile;
+use metric_rules::ROW_WIDTH;
 use metric_rules::Row;
 use vectors::COUNT;
 
@@ -30,7 +31,7 @@ fn print_word(n: u32) {
 
 // The table's row, profile, tag, threshold and mark of object i.
 fn row_at(i: usize) -> Row {
-    let at = i % COUNT * 12;
+    let at = i % COUNT * ROW_WIDTH;
     let w = vectors::WORDS;
     [
         w[at],
@@ -132,7 +133,7 @@ fn between(metric: u32, a: Row, b: Row) -> u64 {
 }
 
 fn to_query(metric: u32, a: Row, query: Profile) -> u64 {
-    between(metric, a, rows::row_of(0, query, 0, 0))
+    between(metric, a, rows::query_row(query, 0))
 }
 
 // The distances of objects i and j: by each metric and by a number that is none, then from a row to a query.

@@ -3,7 +3,7 @@ ghost use mathlib.Core.Path.{_≡_};
 ghost use Prim.Native.Nat.{_+_, _*_, _/_, _%_, _^_};
 ghost use mir.Syntax.{w32};
 ghost use mir.Val.{toZ, ofZ};
-ghost use Rattle.metric_rules.specs.Row.{tagOf, profileOf, thresholdOf, markOf, isLive, rowOf};
+ghost use Rattle.metric_rules.specs.Row.{tagOf, profileOf, thresholdOf, markOf, isLive, rowOf, newRow, queryRow};
 use metric_rules::CODE_0_HIGH;
 use metric_rules::CODE_0_LOW;
 use metric_rules::CODE_1_HIGH;
@@ -120,4 +120,18 @@ pub fn row_of(tag: u64, profile: Profile, threshold: u32, mark: u32) -> Row
         threshold,
         mark,
     ]
+}
+
+// The row of a new item: no threshold yet, and live.
+pub fn new_row(tag: u64, profile: Profile) -> Row
+    ensures { λ r. ⌜ r ≡ newRow tag profile ⌝ }
+{
+    row_of(tag, profile, 0, 0)
+}
+
+// The row that a search makes of its query: no tag, and the radius in the threshold's place.
+pub fn query_row(query: Profile, radius: u32) -> Row
+    ensures { λ r. ⌜ r ≡ queryRow query radius ⌝ }
+{
+    row_of(0, query, radius, 0)
 }

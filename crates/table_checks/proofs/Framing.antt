@@ -5,7 +5,7 @@ use mathlib.Core.Path.{_≡_, refl, _∙_, ap}
 use mathlib.Core.Bool.{Bool, true, false, _&&_}
 use lib.Dec.{leb}
 use lib.ListN.{length}
-use Rattle.metric_rules.specs.Distance.{validSpace}
+use Rattle.metric_rules.specs.Distance.{validMetric}
 use Rattle.table_rules.specs.Refusals.{shortArea, badTable, unless, orElse}
 use Rattle.table_rules.specs.Geometry.{validOrder, sizesRow, tableRows, workRows}
 use Rattle.table_rules.specs.Table.{Table, orderOf, tableSpace}
@@ -13,33 +13,33 @@ use Rattle.table_rules.specs.Checks.{marksPass, frameRefusal, headerPasses, rea
 use Rattle.table_rules.proofs.Passing.{sizes-inside, frame-tests, framed}
 
 frameBy : Bool → Bool → Bool → ℕ
-frameBy order space long = unless (order && space) badTable (unless long shortArea 0)
+frameBy order metric long = unless (order && metric) badTable (unless long shortArea 0)
 
-by-frame : (t : Table) → 0 < length t → frameRefusal t ≡ frameBy (validOrder (orderOf t)) (validSpace (tableSpace t)) (leb (tableRows (orderOf t)) (length t))
+by-frame : (t : Table) → 0 < length t → frameRefusal t ≡ frameBy (validOrder (orderOf t)) (validMetric (tableSpace t)) (leb (tableRows (orderOf t)) (length t))
 unfolding frameBy
 by-frame t some = frame-tests t some
 
 module _ (t : Table) (some : 0 < length t) where
-  frame-when : (o s l : Bool) → validOrder (orderOf t) ≡ o → validSpace (tableSpace t) ≡ s → leb (tableRows (orderOf t)) (length t) ≡ l → frameRefusal t ≡ frameBy o s l
+  frame-when : (o s l : Bool) → validOrder (orderOf t) ≡ o → validMetric (tableSpace t) ≡ s → leb (tableRows (orderOf t)) (length t) ≡ l → frameRefusal t ≡ frameBy o s l
   frame-when o s l e f g = by-frame t some ∙ (rw (e, f, g))
 
-  no-space : (o l : Bool) → frameBy o false l ≡ badTable
+  no-metric : (o l : Bool) → frameBy o false l ≡ badTable
   unfolding frameBy
-  no-space true l = refl
-  no-space false l = refl
+  no-metric true l = refl
+  no-metric false l = refl
 
-  pub space-breaks : validSpace (tableSpace t) ≡ false → frameRefusal t ≡ badTable
-  space-breaks e = frame-when _ false _ refl e refl ∙ no-space (validOrder (orderOf t)) (leb (tableRows (orderOf t)) (length t))
+  pub metric-breaks : validMetric (tableSpace t) ≡ false → frameRefusal t ≡ badTable
+  metric-breaks e = frame-when _ false _ refl e refl ∙ no-metric (validOrder (orderOf t)) (leb (tableRows (orderOf t)) (length t))
 
   pub order-breaks : validOrder (orderOf t) ≡ false → frameRefusal t ≡ badTable
   unfolding frameBy
   order-breaks e = frame-when false _ _ e refl refl
 
-  pub too-short : validOrder (orderOf t) ≡ true → validSpace (tableSpace t) ≡ true → leb (tableRows (orderOf t)) (length t) ≡ false → frameRefusal t ≡ shortArea
+  pub too-short : validOrder (orderOf t) ≡ true → validMetric (tableSpace t) ≡ true → leb (tableRows (orderOf t)) (length t) ≡ false → frameRefusal t ≡ shortArea
   unfolding frameBy
   too-short e f g = frame-when true true false e f g
 
-  pub frame-stands : validOrder (orderOf t) ≡ true → validSpace (tableSpace t) ≡ true → leb (tableRows (orderOf t)) (length t) ≡ true → frameRefusal t ≡ 0
+  pub frame-stands : validOrder (orderOf t) ≡ true → validMetric (tableSpace t) ≡ true → leb (tableRows (orderOf t)) (length t) ≡ true → frameRefusal t ≡ 0
   unfolding frameBy
   frame-stands e f g = frame-when true true true e f g
 

@@ -16,12 +16,12 @@ use table_rules::BAD_TABLE;
 use table_rules::SHORT_AREA;
 use table_views::HEADER_ROW;
 use table_views::built_of;
+use table_views::has_metric;
 use table_views::live_of;
 use table_views::live_total;
 use table_views::order_in;
 use table_views::order_of;
 use table_views::slots_of;
-use table_views::valid_space;
 
 // A bucket's sizes are words of any value, and four times a word fits 64 bits.
 pub fn size_passes(k: u32, built: u32, live: u32) -> bool
@@ -98,7 +98,7 @@ fn frame_refusal(table: &[Row]) -> u32
     if table.len() == 0 {
         return SHORT_AREA;
     }
-    if !valid_space(table[HEADER_ROW]) {
+    if !has_metric(table[HEADER_ROW]) {
         return BAD_TABLE;
     }
     match Order::new(order_of(table)) {

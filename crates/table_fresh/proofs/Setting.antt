@@ -8,7 +8,8 @@ use mathlib.Core.List.{_∷_, _++_}
 use lib.Dec.{leb}
 use lib.ListN.{length, take, drop, set, replicate, length-take}
 use Rattle.metric_rules.specs.Row.{Row, zeroRow}
-use Rattle.metric_rules.specs.Distance.{Space, validSpace}
+use Rattle.metric_rules.specs.declared.Space.{Space}
+use Rattle.metric_rules.specs.Distance.{validMetric}
 use Rattle.table_rules.specs.Refusals.{badOrder, badMetric, shortArea, unless}
 use Rattle.table_rules.specs.Geometry.{validOrder, tableRows}
 use Rattle.table_rules.specs.Table.{Table, headerOf}
@@ -19,11 +20,11 @@ freshBy order space long =
     unless order badOrder (unless space badMetric (unless long shortArea 0))
 
 module _ (order : ℕ) (space : Space) (t : Table) where
-  refusal-tests : freshRefusal (length t) order space ≡ freshBy (validOrder order) (validSpace space) (leb (tableRows order) (length t))
+  refusal-tests : freshRefusal (length t) order space ≡ freshBy (validOrder order) (validMetric space) (leb (tableRows order) (length t))
   unfolding freshRefusal freshBy
   refusal-tests = refl
 
-  by-tests : (o s l : Bool) → validOrder order ≡ o → validSpace space ≡ s → leb (tableRows order) (length t) ≡ l
+  by-tests : (o s l : Bool) → validOrder order ≡ o → validMetric space ≡ s → leb (tableRows order) (length t) ≡ l
       → freshRefusal (length t) order space ≡ freshBy o s l
   by-tests o s l e f g = refusal-tests ∙ (rw (e, f, g))
 
@@ -39,16 +40,16 @@ module _ (order : ℕ) (space : Space) (t : Table) where
   unfolding freshBy
   order-refused e = refused 2 (by-tests false _ _ e refl refl)
 
-  pub metric-refused : validOrder order ≡ true → validSpace space ≡ false → (badMetric ≡ freshRefusal (length t) order space) × (t ≡ tableAfterFresh order space t)
+  pub metric-refused : validOrder order ≡ true → validMetric space ≡ false → (badMetric ≡ freshRefusal (length t) order space) × (t ≡ tableAfterFresh order space t)
   unfolding freshBy
   metric-refused e f = refused 3 (by-tests true false _ e f refl)
 
-  pub area-refused : validOrder order ≡ true → validSpace space ≡ true → leb (tableRows order) (length t) ≡ false
+  pub area-refused : validOrder order ≡ true → validMetric space ≡ true → leb (tableRows order) (length t) ≡ false
       → (shortArea ≡ freshRefusal (length t) order space) × (t ≡ tableAfterFresh order space t)
   unfolding freshBy
   area-refused e f g = refused 22 (by-tests true true false e f g)
 
-  pub accepted : validOrder order ≡ true → validSpace space ≡ true → (rows : ℕ) → rows ≡ tableRows order → rows ≤ length t
+  pub accepted : validOrder order ≡ true → validMetric space ≡ true → (rows : ℕ) → rows ≡ tableRows order → rows ≤ length t
       → (last : Table) → last ≡ headerOf order space ∷ replicate (rows - 1) zeroRow ++ drop rows t
       → (0 ≡ freshRefusal (length t) order space) × (last ≡ tableAfterFresh order space t)
   unfolding freshBy freshTable

@@ -10,6 +10,7 @@ use gather::zero_rows;
 use metric_rules::METRIC_AT;
 use metric_rules::ROW_WIDTH;
 use metric_rules::Row;
+use metric_rules::Space;
 use table_order::Order;
 use table_order::Ordered;
 use table_rules::BAD_METRIC;
@@ -19,40 +20,40 @@ use table_views::HEADER_ROW;
 use table_views::ORDER_AT;
 use table_views::valid_metric;
 
-pub fn header_row(order: u32, metric: u32) -> Row
-    ensures { λ r. ⌜ r ≡ headerOf order (record { metric = metric }) ⌝ }
+pub fn header_row(order: u32, space: Space) -> Row
+    ensures { λ r. ⌜ r ≡ headerOf order space ⌝ }
 {
     let mut row = [0u32; ROW_WIDTH];
     row[ORDER_AT] = order;
-    row[METRIC_AT] = metric;
+    row[METRIC_AT] = space.metric;
     row
 }
 
 // The first rows become the header and zeros.
-fn write_fresh(table: &mut [Row], rows: usize, order: u32, metric: u32)
+fn write_fresh(table: &mut [Row], rows: usize, order: u32, space: Space)
     requires { ⌜ (0 < rows) × (rows ≤ length (now table)) ⌝ }
-    ensures { λ _. ⌜ now (table .exit) ≡ headerOf order (record { metric = metric }) ∷ replicate (rows - 1) zeroRow ++ drop rows (now (table .entry)) ⌝ }
+    ensures { λ _. ⌜ now (table .exit) ≡ headerOf order space ∷ replicate (rows - 1) zeroRow ++ drop rows (now (table .entry)) ⌝ }
 {
     zero_rows(&mut table[..rows]);
-    table[HEADER_ROW] = header_row(order, metric);
+    table[HEADER_ROW] = header_row(order, space);
 }
 
 // The refusal, 0 if accepted: 3, 4, 23. Nothing of the table is read but its length.
-pub fn fresh(table: &mut [Row], order: u32, metric: u32) -> u32
-    ensures reply { λ r. ⌜ r ≡ freshRefusal (length (now (table .entry))) order (record { metric = metric }) ⌝ }
-    ensures area { λ _. ⌜ now (table .exit) ≡ tableAfterFresh order (record { metric = metric }) (now (table .entry)) ⌝ }
+pub fn fresh(table: &mut [Row], order: u32, space: Space) -> u32
+    ensures reply { λ r. ⌜ r ≡ freshRefusal (length (now (table .entry))) order space ⌝ }
+    ensures area { λ _. ⌜ now (table .exit) ≡ tableAfterFresh order space (now (table .entry)) ⌝ }
 {
     match Order::new(order) {
         Ordered::TooLarge => BAD_ORDER,
         Ordered::Is(valid) => {
-            if !valid_metric(metric) {
+            if !valid_metric(space) {
                 return BAD_METRIC;
             }
             let rows = valid.table_rows();
             if table.len() < rows {
                 return SHORT_AREA;
             }
-            write_fresh(table, rows, order, metric);
+            write_fresh(table, rows, order, space);
             0
         }
     }

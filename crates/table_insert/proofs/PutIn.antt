@@ -8,7 +8,7 @@ use lib.ListN.{length, take, set}
 use lib.Seq.{sets}
 use Rattle.lists.specs.Lists.{countFrom, All}
 use Rattle.metric_rules.specs.declared.Profile.{Profile}
-use Rattle.metric_rules.specs.Row.{Row, rowOf, zeroRow}
+use Rattle.metric_rules.specs.Row.{Row, newRow, zeroRow}
 use Rattle.metric_rules.specs.Distance.{distance}
 use Rattle.tree_rules.specs.Layout.{layout, cost}
 use Rattle.table_rules.specs.Geometry.{room, tableRows, workRows}
@@ -80,10 +80,10 @@ module _ {t : Table} {work : List Row} {tag : ℕ} {p : Profile} (accepted : Acc
         let f : to ≡ addTarget t tag p = target-found e in
         (omega (arith, f, target .reached), omega (arith, ap room f, number-gathered, target .fits))
 
-    module _ {used : List Row} (stored : used ≡ sets (set work 0 (rowOf tag p 0 0)) 1 (liveItems t (countFrom 0 k))) where
+    module _ {used : List Row} (stored : used ≡ sets (set work 0 (newRow tag p)) 1 (liveItems t (countFrom 0 k))) where
       used-gathered : used ≡ sets work 0 (gathered t tag p)
       unfolding gathered
-      used-gathered = stored ∙ ap (λ (j : ℕ). sets (set work 0 (rowOf tag p 0 0)) 1 (liveItems t (countFrom 0 j))) lowest
+      used-gathered = stored ∙ ap (λ (j : ℕ). sets (set work 0 (newRow tag p)) 1 (liveItems t (countFrom 0 j))) lowest
 
       pub rows-gathered : take n used ≡ gathered t tag p
       rows-gathered =

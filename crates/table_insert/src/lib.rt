@@ -12,7 +12,7 @@ ghost use Rattle.table_rules.specs.Add.{addRefusal, lowestEmpty, addBucket, add
 ghost use Rattle.table_buckets.specs.OfOrder.{OfOrder, BuiltFits};
 use metric_rules::Profile;
 use metric_rules::Row;
-use rows::row_of;
+use rows::new_row;
 use table_buckets::empty_bucket;
 use table_buckets::gather_bucket;
 use table_order::Order;
@@ -84,7 +84,7 @@ pub fn insert(
     ensures work { λ _. ⌜ now (work .exit) ≡ cleared zeroRow (workRows (orderOf (now (table .entry)))) (now (work .entry)) ⌝ }
 {
     let k = lowest_empty(table, order);
-    work[0] = row_of(tag, profile, 0, 0);
+    work[0] = new_row(tag, profile);
     let n = gather_below(table, order, k, work, 1);
     let target = add_bucket(k, n);
     empty_below(table, order, k);

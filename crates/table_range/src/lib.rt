@@ -15,7 +15,7 @@ use entry_sort::sort_entries;
 use metric::valid_measures;
 use metric_rules::Profile;
 use metric_rules::Row;
-use rows::row_of;
+use rows::query_row;
 use search_reply::accepted;
 use search_reply::refused;
 use search_reply::too_short;
@@ -74,7 +74,7 @@ pub fn range(table: &[Row], result: &mut [Entry], query: Profile, radius: u32) -
     if !valid_measures(query) {
         return refused(BAD_MEASURE);
     }
-    let asked = [table[HEADER_ROW], row_of(0, query, radius, 0)];
+    let asked = [table[HEADER_ROW], query_row(query, radius)];
     let found = range_buckets(table, order_in(table), result, &asked);
     reply_with(result, found)
 }

@@ -9,7 +9,8 @@ use borrow.Rule.Slice.PartMut.{putMid}
 use Rattle.lists.specs.Lists.{All}
 use Rattle.metric_rules.specs.Row.{Row, zeroRow}
 use Rattle.tree_rules.proofs.Parts.{part-behind, put-behind}
-use Rattle.metric_rules.specs.Distance.{Space, distance}
+use Rattle.metric_rules.specs.declared.Space.{Space}
+use Rattle.metric_rules.specs.Distance.{distance}
 use Rattle.tree_rules.specs.Layout.{layout}
 use Rattle.tree_rules.proofs.Layouts.{layout-length}
 use Rattle.table_rules.specs.Geometry.{room, firstSlot, tableRows}

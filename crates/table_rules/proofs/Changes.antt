@@ -8,7 +8,8 @@ use native.Mathlib.Omega.{arith}
 use lib.ListN.{length, take, drop, set, replicate, length-append, length-replicate, length-drop, length-set, getD-replicate, List·getD-append}
 use lib.Seq.{take-set-le, take-set-lt, drop-set-lt, drop-at}
 use Rattle.metric_rules.specs.Row.{Row, word, withMark, zeroRow}
-use Rattle.metric_rules.specs.Distance.{Space, spaceOf, metricAt}
+use Rattle.metric_rules.specs.declared.Space.{Space}
+use Rattle.metric_rules.specs.Distance.{spaceOf, metricAt}
 use Rattle.table_rules.specs.Geometry.{room, headerRow, sizesRow, firstSlot, tableRows}
 use Rattle.table_rules.specs.Table.{Table, rowAt, orderOf, tableSpace, builtOf, liveOf, slotsOf, pairRow, headerOf, putSizes}
 use Rattle.table_rules.specs.LookUp.{Place}

@@ -9,7 +9,7 @@ use mathlib.Core.List.{[], _∷_}
 use lib.Dec.{leb}
 use lib.ListN.{length}
 use Rattle.lists.proofs.Tests.{and-first, and-second}
-use Rattle.metric_rules.specs.Distance.{validSpace}
+use Rattle.metric_rules.specs.Distance.{validMetric}
 use Rattle.table_rules.specs.Refusals.{shortArea, badTable, unless}
 use Rattle.table_rules.specs.Geometry.{validOrder, room, sizesRow, firstSlot, tableRows, workRows}
 use Rattle.table_rules.specs.Table.{Table, orderOf, tableSpace, builtOf, liveOf}
@@ -50,7 +50,7 @@ no-frame [] e = refl
 no-frame (r ∷ rs) e = absurd (omega arith)
 
 pub frame-tests : (t : Table) → 0 < length t
-    → frameRefusal t ≡ unless (validOrder (orderOf t) && validSpace (tableSpace t)) badTable (unless (leb (tableRows (orderOf t)) (length t)) shortArea 0)
+    → frameRefusal t ≡ unless (validOrder (orderOf t) && validMetric (tableSpace t)) badTable (unless (leb (tableRows (orderOf t)) (length t)) shortArea 0)
 unfolding frameRefusal
 frame-tests [] h = absurd (omega arith)
 frame-tests (r ∷ rs) h = refl
@@ -60,7 +60,7 @@ frame-rows t e = elim (decLe 1 (length t)) [ yes h ↦ h | no d ↦ (let z : sho
 
 pub framed : (t : Table) → frameRefusal t ≡ 0 → Framed t
 framed t e =
-    let a = unless-zero (validOrder (orderOf t) && validSpace (tableSpace t)) badTable _ (omega arith) (sym (frame-tests t (frame-rows t e)) ∙ e) in
+    let a = unless-zero (validOrder (orderOf t) && validMetric (tableSpace t)) badTable _ (omega arith) (sym (frame-tests t (frame-rows t e)) ∙ e) in
     let b = unless-zero (leb (tableRows (orderOf t)) (length t)) shortArea 0 (omega arith) (a .1) in
     record {
       order = order-most (orderOf t) (and-first _ _ (a .0));

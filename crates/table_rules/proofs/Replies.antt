@@ -9,7 +9,7 @@ use lib.Dec.{leb, eqb}
 use borrow.Author.Tests.{le-leb, lt-leb, ne-eqb}
 use Rattle.metric_rules.specs.declared.Profile.{Profile}
 use Rattle.metric_rules.specs.Validity.{validMeasures}
-use Rattle.metric_rules.specs.Distance.{validSpace}
+use Rattle.metric_rules.specs.Distance.{validMetric}
 use Rattle.search_rules.specs.Range.{Entry}
 use Rattle.table_rules.specs.Refusals.{badMeasure, noCount, noRoom, shortArea, badTable, unless, when, orElse}
 use Rattle.table_rules.specs.Geometry.{validOrder, tableRows}
@@ -46,7 +46,7 @@ accepted-reply a = refl
 frame-not-short : (t : Table) → frameRefusal t ≡ noRoom → ⊥
 frame-not-short [] e = let z : shortArea ≡ noRoom = sym (no-frame [] refl) ∙ e in omega arith
 frame-not-short (r ∷ rs) e =
-    unless-not (validOrder (orderOf (r ∷ rs)) && validSpace (tableSpace (r ∷ rs))) badTable _ noRoom (λ f z. omega arith)
+    unless-not (validOrder (orderOf (r ∷ rs)) && validMetric (tableSpace (r ∷ rs))) badTable _ noRoom (λ f z. omega arith)
     (unless-not (leb (tableRows (orderOf (r ∷ rs))) (length (r ∷ rs))) shortArea 0 noRoom (λ f z. omega arith) (λ z. omega arith))
     (sym (frame-tests (r ∷ rs) (omega arith)) ∙ e)
 

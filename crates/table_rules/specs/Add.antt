@@ -6,7 +6,7 @@ use lib.ListN.{length}
 use lib.Dec.{leb, ltb}
 use Rattle.lists.specs.Lists.{countFrom}
 use Rattle.metric_rules.specs.declared.Profile.{Profile}
-use Rattle.metric_rules.specs.Row.{Row, rowOf, zeroRow}
+use Rattle.metric_rules.specs.Row.{Row, newRow, zeroRow}
 use Rattle.metric_rules.specs.Validity.{validTag, validMeasures}
 use Rattle.table_rules.specs.declared.Added.{Added}
 use Rattle.table_rules.specs.Refusals.{badTag, badMeasure, alreadyLive, full, unless, when, orElse}
@@ -37,7 +37,7 @@ lowestEmpty t = emptyFrom t 0 (suc (orderOf t))
 
 -- RULES 8.2: the new item, then the live items of buckets 0 to k - 1 in slot order
 unfoldable pub gathered : Table → ℕ → Profile → List Row
-gathered t tag p = rowOf tag p 0 0 ∷ liveItems t (countFrom 0 (lowestEmpty t))
+gathered t tag p = newRow tag p ∷ liveItems t (countFrom 0 (lowestEmpty t))
 
 -- RULES 8.3: n items go to bucket k if they are more than 2^(k-1), else to k - 1
 unfoldable pub addBucket : ℕ → ℕ → ℕ

@@ -7,7 +7,7 @@ use lib.Dec.{leb, ltb, eqb}
 use Rattle.lists.specs.Lists.{every, select, total}
 use Rattle.metric_rules.specs.Row.{Row, isLive}
 use Rattle.metric_rules.specs.Validity.{validMark}
-use Rattle.metric_rules.specs.Distance.{validSpace}
+use Rattle.metric_rules.specs.Distance.{validMetric}
 use Rattle.table_rules.specs.Refusals.{shortArea, badTable, unless, orElse}
 use Rattle.table_rules.specs.Geometry.{validOrder, room, bucketsOf, tableRows, workRows}
 use Rattle.table_rules.specs.Table.{Table, orderOf, tableSpace, builtOf, liveOf, slotsOf}
@@ -40,7 +40,7 @@ unfoldable pub frameRefusal : Table → ℕ
 frameRefusal [] = shortArea
 frameRefusal (r ∷ rs) =
     let t = r ∷ rs in
-    unless (validOrder (orderOf t) && validSpace (tableSpace t)) badTable
+    unless (validOrder (orderOf t) && validMetric (tableSpace t)) badTable
     (unless (leb (tableRows (orderOf t)) (length t)) shortArea
     0)
 

@@ -4,7 +4,8 @@ use mathlib.Core.List.{_∷_, _++_}
 use lib.ListN.{length, drop, replicate}
 use lib.Dec.{leb}
 use Rattle.metric_rules.specs.Row.{zeroRow}
-use Rattle.metric_rules.specs.Distance.{Space, validSpace}
+use Rattle.metric_rules.specs.declared.Space.{Space}
+use Rattle.metric_rules.specs.Distance.{validMetric}
 use Rattle.table_rules.specs.Refusals.{badOrder, badMetric, shortArea, unless}
 use Rattle.table_rules.specs.Geometry.{validOrder, tableRows}
 use Rattle.table_rules.specs.Table.{Table, headerOf}
@@ -13,7 +14,7 @@ use Rattle.table_rules.specs.Table.{Table, headerOf}
 unfoldable pub freshRefusal : ℕ → ℕ → Space → ℕ
 freshRefusal rows order space =
     unless (validOrder order) badOrder
-    (unless (validSpace space) badMetric
+    (unless (validMetric space) badMetric
     (unless (leb (tableRows order) rows) shortArea
     0))
 

@@ -3,7 +3,7 @@ use Prim.Native.Nat.{_≤_}
 use mathlib.Core.Path.{_≡_}
 use mathlib.Core.Bool.{true}
 use lib.ListN.{length}
-use Rattle.metric_rules.specs.Distance.{validSpace}
+use Rattle.metric_rules.specs.Distance.{validMetric}
 use Rattle.table_rules.specs.Geometry.{mostOrder, tableRows}
 use Rattle.table_rules.specs.Table.{Table, orderOf, tableSpace, builtOf, liveOf}
 use Rattle.table_rules.specs.Checks.{sizesPass}
@@ -11,7 +11,7 @@ use Rattle.table_rules.specs.Checks.{sizesPass}
 -- a table with its order, its metric and its length, whatever its sizes
 pub record Framed (t : Table) : Type 0 where
   pub order : orderOf t ≤ mostOrder
-  pub space : validSpace (tableSpace t) ≡ true
+  pub space : validMetric (tableSpace t) ≡ true
   pub long : tableRows (orderOf t) ≤ length t
 
 -- and its sizes

@@ -8,7 +8,8 @@ use lib.Dec.{eqb}
 use lib.Seq.{paste}
 use Rattle.lists.specs.Lists.{select, total}
 use Rattle.metric_rules.specs.Row.{Row, word, isLive, zeroRow}
-use Rattle.metric_rules.specs.Distance.{Space, metricAt, spaceOf}
+use Rattle.metric_rules.specs.declared.Space.{Space}
+use Rattle.metric_rules.specs.Distance.{metricAt, spaceOf}
 use Rattle.table_rules.specs.Geometry.{room, bucketsOf, headerRow, sizesRow, firstSlot}
 
 abbrev pub Table : Type 0

@@ -5,11 +5,12 @@ ghost use Prim.Native.Nat.{_+_, _≤_, _<_};
 ghost use lib.ListN.{length};
 ghost use Rattle.lists.specs.Lists.{total};
 ghost use Rattle.metric_rules.specs.Row.{rowWidth, word};
-ghost use Rattle.metric_rules.specs.Distance.{validSpace, spaceOf};
+ghost use Rattle.metric_rules.specs.Distance.{validMetric, spaceOf};
 ghost use Rattle.table_rules.specs.Geometry.{bucketsOf, sizesRow, firstSlot};
 ghost use Rattle.table_rules.specs.Table.{orderOf, builtOf, liveOf, inUse, slotsOf};
 use metric_rules::METRIC_AT;
 use metric_rules::Row;
+use metric_rules::Space;
 use table_order::Order;
 
 // The header row, and the words of it and of a size row.
@@ -32,17 +33,26 @@ pub fn word_at(row: Row, i: usize) -> u32
     row[i]
 }
 
-pub fn valid_metric(metric: u32) -> bool
-    ensures { λ r. ⌜ r ≡ validSpace (record { metric = metric }) ⌝ }
+pub fn valid_metric(space: Space) -> bool
+    ensures { λ r. ⌜ r ≡ validMetric space ⌝ }
 {
-    metric <= LAST_METRIC
+    space.metric <= LAST_METRIC
+}
+
+// What distances depend on, as a header row has it.
+pub fn space_of(header: Row) -> Space
+    ensures { λ r. ⌜ r ≡ spaceOf header ⌝ }
+{
+    Space {
+        metric: word_at(header, METRIC_AT),
+    }
 }
 
 // Whether a header row has a metric.
-pub fn valid_space(header: Row) -> bool
-    ensures { λ r. ⌜ r ≡ validSpace (spaceOf header) ⌝ }
+pub fn has_metric(header: Row) -> bool
+    ensures { λ r. ⌜ r ≡ validMetric (spaceOf header) ⌝ }
 {
-    valid_metric(word_at(header, METRIC_AT))
+    valid_metric(space_of(header))
 }
 
 // The order that a table shows, any number.

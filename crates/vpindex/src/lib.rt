@@ -11,6 +11,7 @@ use image_rules::Written;
 use list_rules::ListRead;
 use metric_rules::Profile;
 use metric_rules::Row;
+use metric_rules::Space;
 use search_rules::Entry;
 use table_rules::Added;
 use table_rules::LookedUp;
@@ -23,7 +24,7 @@ pub extern "C" fn vpindex_fresh(table: &mut [Row], order: u32, metric: u32) -> u
     ensures reply { λ r. ⌜ r ≡ beginReply (fresh order (record { metric = metric })) (length (now (table .entry))) ⌝ }
     ensures table { λ _. ⌜ now (table .exit) ≡ tableBegun (fresh order (record { metric = metric })) (now (table .entry)) ⌝ }
 {
-    table_fresh::fresh(table, order, metric)
+    table_fresh::fresh(table, order, Space { metric })
 }
 
 // The table that these bytes are the image of. The reply is the refusal: 7, 3, 4, 8, 7, 24, 7, 23, 8, or 0.

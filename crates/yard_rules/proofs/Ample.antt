@@ -9,7 +9,7 @@ use native.Mathlib.Nat.{le-trans}
 use lib.Dec.{leb}
 use lib.ListN.{length}
 use borrow.Author.Tests.{le-leb, leb-true}
-use Rattle.metric_rules.specs.Distance.{validSpace}
+use Rattle.metric_rules.specs.Distance.{validMetric}
 use Rattle.table_rules.specs.Refusals.{badOrder, badMetric, shortArea, badTable, unless}
 use Rattle.table_rules.specs.Geometry.{validOrder, room, firstSlot, tableRows, workRows}
 use Rattle.table_rules.specs.Table.{orderOf, tableSpace}
@@ -20,7 +20,7 @@ use Rattle.table_rules.proofs.Fill.{rooms-grow}
 use Rattle.table_rules.proofs.Chains.{or-not, unless-not}
 use Rattle.table_rules.proofs.Passing.{frame-tests}
 use Rattle.table_rules.proofs.Replies.{fit-held}
-use Rattle.yard_rules.specs.Conversation.{Areas, Ample, mostYardOrder, headerRefusal}
+use Rattle.yard_rules.specs.Conversation.{Areas, Ample, mostYardOrder, headerRefusal, yardSpace}
 
 rows-grow : {j k : ℕ} → j ≤ k → tableRows j ≤ tableRows k
 unfolding tableRows firstSlot
@@ -42,7 +42,7 @@ module _ {a : Areas} (ample : Ample a) where
   pub header-refused : (order metric : ℕ) → ByHeader (headerRefusal (a .table) order metric)
   unfolding headerRefusal freshRefusal
   header-refused order metric =
-      by-header (leb order mostYardOrder) (validOrder order) (validSpace (record { metric = metric })) (leb (tableRows order) (length (a .table)))
+      by-header (leb order mostYardOrder) (validOrder order) (validMetric (yardSpace metric)) (leb (tableRows order) (length (a .table)))
       (λ e. le-leb (tableRows order) (length (a .table)) (le-trans (rows-grow (leb-true order mostYardOrder e)) (ample .table)))
 
   module _ (few : orderOf (a .table) ≤ mostYardOrder) where
@@ -53,7 +53,7 @@ module _ {a : Areas} (ample : Ample a) where
     unfolding tableRows firstSlot
     frame-not-short e =
         let t = a .table in
-        unless-not (validOrder (orderOf t) && validSpace (tableSpace t)) badTable _ shortArea (λ f z. omega arith)
+        unless-not (validOrder (orderOf t) && validMetric (tableSpace t)) badTable _ shortArea (λ f z. omega arith)
         (unless-not (leb (tableRows (orderOf t)) (length t)) shortArea 0 shortArea (λ f z. false≢true (sym f ∙ le-leb (tableRows (orderOf t)) (length t) long)) (λ z. omega arith))
         (sym (frame-tests t (omega (arith, long))) ∙ e)
 

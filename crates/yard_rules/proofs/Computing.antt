@@ -2,9 +2,9 @@
 use Prim.Native.Nat.{ℕ}
 use mathlib.Core.List.{List, flatten}
 use Rattle.lists.specs.Lists.{countFrom, total, select, every}
-use Rattle.metric_rules.specs.Row.{rowWidth, tagAt, measuresAt, codeAt, thresholdAt, markAt, zeroRow, word, wide, words, tagOf, profileOf, thresholdOf, markOf, isLive, measure, codeWord, rowOf, withThreshold, withMark}
+use Rattle.metric_rules.specs.Row.{tagAt, measuresAt, codeAt, thresholdAt, markAt, zeroRow, word, wide, words, tagOf, profileOf, thresholdOf, markOf, isLive, measure, codeWord, rowOf, withThreshold, withMark}
 use Rattle.metric_rules.specs.Validity.{nationals, countryOf, nationalOf, lastCountry, lastNational, validTag, measureLimit, validMeasure, validMeasures}
-use Rattle.metric_rules.specs.Distance.{mostDistance, saturated, gap, measureDistance, differing, codeDistance, largest, worstDistance, distanceBy, distance, metricAt, spaceOf, lastMetric, validSpace}
+use Rattle.metric_rules.specs.Distance.{mostDistance, saturated, gap, measureDistance, differing, codeDistance, largest, worstDistance, distanceBy, distance, metricAt, spaceOf, lastMetric, validMetric}
 use Rattle.tree_rules.specs.Sorting.{keyLe, insertBy, sortBy}
 use Rattle.tree_rules.specs.Layout.{leftSize, costWithin, cost, rankedFrom, tagKey, placed, fromPivot, nearKey, lastDistance, split, node, layoutWithin, layout}
 use Rattle.search_rules.specs.Range.{entry, entryDistance, entryKey, ordered, entersLeft, entersRight, nothing, both, toQuery, entryOf, isHit, visited, rangeWithin, rangeTree}
@@ -26,10 +26,10 @@ use Rattle.yard_rules.specs.Conversation.{otherText, mostYardOrder, head
 
 unfoldable pub computed : Areas → List ℕ → List ℕ
 unfolding
-    flatten countFrom total select every rowWidth tagAt measuresAt codeAt thresholdAt markAt zeroRow word wide words tagOf profileOf thresholdOf
+    flatten countFrom total select every tagAt measuresAt codeAt thresholdAt markAt zeroRow word wide words tagOf profileOf thresholdOf
     markOf measure codeWord rowOf withThreshold withMark nationals countryOf nationalOf lastCountry lastNational validTag measureLimit
     validMeasure validMeasures mostDistance saturated gap measureDistance differing codeDistance largest worstDistance distanceBy distance metricAt spaceOf
-    lastMetric validSpace keyLe insertBy sortBy leftSize costWithin cost rankedFrom tagKey placed fromPivot nearKey lastDistance split node
+    lastMetric validMetric keyLe insertBy sortBy leftSize costWithin cost rankedFrom tagKey placed fromPivot nearKey lastDistance split node
     layoutWithin layout entry entryDistance entryKey ordered isLive entersLeft entersRight nothing both toQuery entryOf isHit visited
     rangeWithin rangeTree keep worst halfOpens taken enterHalf enterHalves nearestWithin nearestTree validOrder room
     bucketsOf headerRow sizesRow firstSlot tableRows workRows rowAt orderOf tableSpace builtOf liveOf inUse liveTotal slotsOf liveSlots

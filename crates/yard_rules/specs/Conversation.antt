@@ -1,11 +1,11 @@
 -- RULES 18: the whole conversation. A line and what stands before it give what stands after it and the bytes to print, by the calls' own
 -- definitions.
 use Prim.Native.Nat.{ℕ, zero, suc, _≤_}
-use mathlib.Core.Bool.{true, false}
 use mathlib.Core.List.{List, [], _∷_, _++_}
 use lib.ListN.{length}
 use lib.Dec.{leb}
 use Rattle.metric_rules.specs.declared.Profile.{Profile}
+use Rattle.metric_rules.specs.declared.Space.{Space}
 use Rattle.metric_rules.specs.Row.{Row}
 use Rattle.search_rules.specs.Range.{Entry}
 use Rattle.table_rules.specs.Refusals.{badOrder, unless}
@@ -57,11 +57,14 @@ pub record Ample (a : Areas) : Type 0 where
   pub work : workRows mostYardOrder ≤ length (a .work)
   pub result : room mostYardOrder ≤ length (a .result)
 
--- RULES 18.2: 3 before 4
+-- what the distances of the program's table depend on: the metric that its header gives
+abbrev pub yardSpace : ℕ → Space
+yardSpace metric = record { metric = metric }
+
 unfoldable pub headerRefusal : Table → ℕ → ℕ → ℕ
 headerRefusal t order metric =
     unless (leb order mostYardOrder) badOrder
-    (freshRefusal (length t) order (record { metric = metric }))
+    (freshRefusal (length t) order (yardSpace metric))
 
 -- RULES 18.1, 18.2: an accepted header prints nothing; `F 3`, `F 4` and `? 1` end the program
 unfoldable pub headerOutcome : Areas → ℕ → Header → LineOutcome
@@ -69,7 +72,7 @@ headerOutcome a number (header.Of order metric) =
     elim (headerRefusal (a .table) order metric) [
       | zero ↦
           record {
-            areas = record { table = tableAfterFresh order (record { metric = metric }) (a .table); work = a .work; result = a .result };
+            areas = record { table = tableAfterFresh order (yardSpace metric) (a .table); work = a .work; result = a .result };
             stage = stage.Serving;
             text = [];
           }

@@ -1,7 +1,7 @@
 -- The first line: an order above 8 is refused before the call, and else the call's refusal and table are the header's.
 use Prim.Native.Nat.{ℕ, zero, suc, _≤_, _<_}
 use mathlib.Core.Path.{_≡_, refl, ap, sym, subst, _∙_}
-use mathlib.Core.Bool.{Bool, true, false}
+use mathlib.Core.Bool.{Bool}
 use mathlib.Core.List.{List, [], _∷_}
 use native.Mathlib.Omega.{arith}
 use lib.ListN.{length}
@@ -15,35 +15,35 @@ use Rattle.yard_rules.specs.declared.Header.the-variants as header
 use Rattle.yard_rules.specs.declared.Stage.the-variants as stage
 use Rattle.yard_rules.specs.Line.{letterF, questionMark}
 use Rattle.yard_rules.specs.Reply.{replyLine}
-use Rattle.yard_rules.specs.Conversation.{LineOutcome, mostYardOrder, headerRefusal, headerOutcome, otherText}
+use Rattle.yard_rules.specs.Conversation.{LineOutcome, mostYardOrder, headerRefusal, headerOutcome, otherText, yardSpace}
 use Rattle.yard_reply.specs.Put.{Puts}
 use Rattle.yard_command.specs.Lent.{lent}
 use Rattle.yard_step.specs.StepLeaves.{tableAfterHeader, StepLeaves}
 
-fresh-kept : (order metric : ℕ) (t : Table) (k : ℕ) → freshRefusal (length t) order (record { metric = metric }) ≡ suc k → tableAfterFresh order (record { metric = metric }) t ≡ t
+fresh-kept : (order metric : ℕ) (t : Table) (k : ℕ) → freshRefusal (length t) order (yardSpace metric) ≡ suc k → tableAfterFresh order (yardSpace metric) t ≡ t
 unfolding tableAfterFresh
-fresh-kept order metric t k e = ap (λ n. elim n [ zero ↦ freshTable order (record { metric = metric }) t | suc n ↦ t ]) e
+fresh-kept order metric t k e = ap (λ n. elim n [ zero ↦ freshTable order (yardSpace metric) t | suc n ↦ t ]) e
 
 module _ (order metric : ℕ) (t : Table) where
   pub large-refusal : 8 < order → headerRefusal t order metric ≡ badOrder
   unfolding headerRefusal mostYardOrder
-  large-refusal h = ap (λ (b : Bool). unless b badOrder (freshRefusal (length t) order (record { metric = metric }))) (lt-leb order 8 h)
+  large-refusal h = ap (λ (b : Bool). unless b badOrder (freshRefusal (length t) order (yardSpace metric))) (lt-leb order 8 h)
 
-  pub small-refusal : order ≤ 8 → headerRefusal t order metric ≡ freshRefusal (length t) order (record { metric = metric })
+  pub small-refusal : order ≤ 8 → headerRefusal t order metric ≡ freshRefusal (length t) order (yardSpace metric)
   unfolding headerRefusal mostYardOrder
-  small-refusal h = ap (λ (b : Bool). unless b badOrder (freshRefusal (length t) order (record { metric = metric }))) (le-leb order 8 h)
+  small-refusal h = ap (λ (b : Bool). unless b badOrder (freshRefusal (length t) order (yardSpace metric))) (le-leb order 8 h)
 
-  header-table : (n : ℕ) → headerRefusal t order metric ≡ n → tableAfterHeader order metric t ≡ elim n [ zero ↦ tableAfterFresh order (record { metric = metric }) t | suc k ↦ t ]
+  header-table : (n : ℕ) → headerRefusal t order metric ≡ n → tableAfterHeader order metric t ≡ elim n [ zero ↦ tableAfterFresh order (yardSpace metric) t | suc k ↦ t ]
   unfolding tableAfterHeader
-  header-table n e = ap (λ n. elim n [ zero ↦ tableAfterFresh order (record { metric = metric }) t | suc k ↦ t ]) e
+  header-table n e = ap (λ n. elim n [ zero ↦ tableAfterFresh order (yardSpace metric) t | suc k ↦ t ]) e
 
   pub large-table : 8 < order → tableAfterHeader order metric t ≡ t
   large-table h = header-table 3 (large-refusal h)
 
-  pub small-table : order ≤ 8 → tableAfterHeader order metric t ≡ tableAfterFresh order (record { metric = metric }) t
-  small-table h = by (freshRefusal (length t) order (record { metric = metric })) refl
+  pub small-table : order ≤ 8 → tableAfterHeader order metric t ≡ tableAfterFresh order (yardSpace metric) t
+  small-table h = by (freshRefusal (length t) order (yardSpace metric)) refl
     where
-      by : (n : ℕ) → freshRefusal (length t) order (record { metric = metric }) ≡ n → tableAfterHeader order metric t ≡ tableAfterFresh order (record { metric = metric }) t
+      by : (n : ℕ) → freshRefusal (length t) order (yardSpace metric) ≡ n → tableAfterHeader order metric t ≡ tableAfterFresh order (yardSpace metric) t
       by zero e = header-table 0 (small-refusal h ∙ e)
       by (suc k) e = header-table (suc k) (small-refusal h ∙ e) ∙ sym (fresh-kept order metric t k e)
 
@@ -51,14 +51,14 @@ module _ (order metric : ℕ) (t : Table) (work : List Row) (result : List Entry
   header-outcome-at : (n : ℕ) → headerRefusal t order metric ≡ n
       → headerOutcome (lent t work result) number (header.Of order metric)
       ≡ elim n [
-        | zero ↦ record { areas = lent (tableAfterFresh order (record { metric = metric }) t) work result; stage = stage.Serving; text = [] }
+        | zero ↦ record { areas = lent (tableAfterFresh order (yardSpace metric) t) work result; stage = stage.Serving; text = [] }
         | suc k ↦ record { areas = lent t work result; stage = stage.Ended; text = replyLine letterF (suc k ∷ []) }
       ]
   unfolding headerOutcome lent
   header-outcome-at n e =
       ap
       (λ (n : ℕ). elim n [
-        | zero ↦ record { areas = lent (tableAfterFresh order (record { metric = metric }) t) work result; stage = stage.Serving; text = [] }
+        | zero ↦ record { areas = lent (tableAfterFresh order (yardSpace metric) t) work result; stage = stage.Serving; text = [] }
         | suc k ↦ record { areas = lent t work result; stage = stage.Ended; text = replyLine letterF (suc k ∷ []) }
       ])
       e

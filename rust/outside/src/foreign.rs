@@ -1,6 +1,6 @@
 //! Tables that these calls did not leave: sizes that pass or nearly, slots, thresholds and marks of any content.
 
-use reference::item::{Row, Slot};
+use reference::item::{ROW_WORDS, Row, Slot};
 use reference::table::{Table, first_row, put_table, table_rows};
 
 use crate::random::Random;
@@ -8,7 +8,7 @@ use crate::sound;
 
 /// The rows of a table, with random rows after them.
 pub fn rows_of(random: &mut Random, table: &Table, more: usize) -> Vec<Row> {
-    let mut rows = vec![[0; 12]; table_rows(table.order)];
+    let mut rows = vec![[0; ROW_WORDS]; table_rows(table.order)];
     put_table(&mut rows, table);
     rows.extend(random.fill(more, any_row));
     rows
@@ -16,7 +16,7 @@ pub fn rows_of(random: &mut Random, table: &Table, more: usize) -> Vec<Row> {
 
 /// A row of any words.
 pub fn any_row(random: &mut Random) -> Row {
-    [0; 12].map(|_| random.word() as u32)
+    [0; ROW_WORDS].map(|_| random.word() as u32)
 }
 
 /// A foreign table: a sound one in which much was changed.

@@ -3,7 +3,7 @@
 use std::collections::BTreeMap;
 
 use reference::image::bytes;
-use reference::item::{Profile, Row, Slot};
+use reference::item::{Profile, ROW_WORDS, Row, Slot};
 use reference::refusal::SHORT;
 use reference::table::{Table, capacity, first_row, table_rows};
 
@@ -82,7 +82,7 @@ pub fn list(random: &mut Random, order: u32, metric: u32, calls: usize) -> Tally
         let mut areas = lent(random, &left, order);
         if !areas.table.is_empty() && random.one_in(30) {
             let at = random.below(areas.table.len());
-            areas.table[at][random.below(12)] = random.reach();
+            areas.table[at][random.below(ROW_WORDS)] = random.reach();
         }
         let call = next(random, &mut areas, order, metric);
         let reply = compare(&call, &mut areas, random);

@@ -7,7 +7,7 @@ use outside::foreign::{self, any_row, rows_of};
 use outside::item_lists::{self, NO_TAGS, NO_VALUES, line};
 use outside::random::{MAX_NATIONAL, MIN_TAG, Random};
 use outside::sound;
-use reference::item::{Profile, Row};
+use reference::item::{Profile, ROW_WORDS, Row};
 use reference::list::HEADER;
 use reference::table::{Table, capacity, put_table, table_rows};
 use vpindex::ffi;
@@ -22,7 +22,7 @@ fn lines(nationals: RangeInclusive<u64>) -> Vec<String> {
 
 // An empty table of this order.
 fn empty(order: u32) -> Vec<Row> {
-    let mut rows = vec![[0; 12]; table_rows(order)];
+    let mut rows = vec![[0; ROW_WORDS]; table_rows(order)];
     put_table(&mut rows, &Table { order, metric: 0, buckets: vec![Default::default(); order as usize + 1] });
     rows
 }
@@ -238,7 +238,7 @@ fn areas_that_no_add_takes() {
     };
     // bucket 1 with one item, too few; bucket 0 with one whose mark is not 0
     let a_size = |rows: &mut [Row]| rows[2][..2].fill(1);
-    let a_mark = |rows: &mut [Row]| (rows[1], rows[4]) = ([1; 12], [1; 12]);
+    let a_mark = |rows: &mut [Row]| (rows[1], rows[4]) = ([1; ROW_WORDS], [1; ROW_WORDS]);
     let tables = [
         (vec![], 4, 23),
         (empty(2)[..10].to_vec(), 4, 23),
@@ -304,10 +304,10 @@ fn a_list_is_its_adds() {
     for metric in 0..=2 {
         let mut random = Random::new(8);
         let profiles = random.fill(4097, |random| Profile { code: [0, 0], ..random.profile() });
-        let mut listed = vec![[0; 12]; table_rows(12)];
+        let mut listed = vec![[0; ROW_WORDS]; table_rows(12)];
         assert_eq!(ffi::fresh(&mut listed, 12, metric), 0);
         let mut added = listed.clone();
-        let mut work = vec![[0; 12]; capacity(12)];
+        let mut work = vec![[0; ROW_WORDS]; capacity(12)];
         let list: Vec<String> = profiles.iter().zip(1..).map(|(profile, n)| line(tag(n), profile.measures)).collect();
         let reply = ffi::read_list(&mut listed, &mut work, &item_lists::of(&list));
         let mut distances = 0;

@@ -5,7 +5,7 @@ use outside::calls::{Areas, Call, by_archive};
 use outside::item_lists;
 use outside::random::Random;
 use outside::stack::used_by;
-use reference::item::{Row, Slot};
+use reference::item::{ROW_WORDS, Row, Slot};
 use reference::table::{Bucket, Table, capacity, put_table, table_rows};
 use reference::tree::layout;
 
@@ -26,7 +26,7 @@ fn table(random: &mut Random, metric: u32, sizes: &[(usize, u32, u32)]) -> Table
 }
 
 fn rows(table: &Table) -> Vec<Row> {
-    let mut rows = vec![[0; 12]; table_rows(ORDER)];
+    let mut rows = vec![[0; ROW_WORDS]; table_rows(ORDER)];
     put_table(&mut rows, table);
     rows
 }
@@ -34,7 +34,7 @@ fn rows(table: &Table) -> Vec<Row> {
 fn areas(table: &Table) -> Areas {
     Areas {
         table: rows(table),
-        work: vec![[0; 12]; capacity(ORDER)],
+        work: vec![[0; ROW_WORDS]; capacity(ORDER)],
         result: vec![[0; 2]; capacity(ORDER)],
         bytes: reference::image::bytes(table),
     }

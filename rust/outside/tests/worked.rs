@@ -3,7 +3,7 @@
 use outside::calls::{Areas, Call, Reply, compare};
 use outside::item_lists;
 use outside::random::{MAX_NATIONAL, MIN_TAG, Random};
-use reference::item::{Profile, Slot};
+use reference::item::{Profile, ROW_WORDS, Slot};
 use reference::table::{Table, capacity, put_bucket, table_rows};
 use reference::tree::layout;
 
@@ -27,8 +27,8 @@ fn valued(first: i32) -> Profile {
 impl Fixture {
     fn new(order: u32) -> Fixture {
         let areas = Areas {
-            table: vec![[1; 12]; table_rows(order)],
-            work: vec![[1; 12]; capacity(order)],
+            table: vec![[1; ROW_WORDS]; table_rows(order)],
+            work: vec![[1; ROW_WORDS]; capacity(order)],
             result: vec![[1; 2]; capacity(order)],
             bytes: vec![],
         };
@@ -210,7 +210,7 @@ fn the_four_as_a_list() {
     let reply = fixture.call(Call::ReadList);
     assert_eq!((reply.refusal, reply.line, reply.added, reply.distances), (22, 6, 4, 5));
     assert_eq!((fixture.bucket(2), fixture.thresholds(2)), (vec![1, 2, 3, 4], vec![3, 0, 0, 0]));
-    assert_eq!(fixture.areas.work, [[0; 12]; 4]);
+    assert_eq!(fixture.areas.work, [[0; ROW_WORDS]; 4]);
     assert_eq!(fixture.range(13, 0), (vec![(2, 0), (3, 0)], 4));
 
     assert_eq!(fixture.remove(4), 0);

@@ -1,7 +1,7 @@
 //! The nine calls, on lent areas.
 
 use crate::image;
-use crate::item::{Entry, MAX_METRIC, MAX_ORDER, Profile, Row, Slot, check_measures, check_tag};
+use crate::item::{Entry, MAX_METRIC, MAX_ORDER, Profile, ROW_WORDS, Row, Slot, check_measures, check_tag};
 use crate::list::{self, ListRead};
 use crate::refusal::{ABSENT, COUNT, FULL, LIVE, METRIC, ORDER, ROOM, Refused, SHORT, ensure};
 use crate::table::{Bucket, Table, capacity, first_row, put_bucket, put_sizes, put_table, table_rows};
@@ -42,7 +42,7 @@ pub fn add(rows: &mut [Row], work: &mut [Row], tag: u64, profile: Profile) -> Re
     items.extend(table.buckets[..k].iter().flat_map(Bucket::live_items));
     let target = if 2 * items.len() > 1 << k { k } else { k - 1 };
     let distances = rebuild(rows, &table, &items, target, 0..k);
-    work[..capacity(table.order)].fill([0; 12]);
+    work[..capacity(table.order)].fill([0; ROW_WORDS]);
     Ok((target as u32, distances))
 }
 
@@ -62,7 +62,7 @@ pub fn remove(rows: &mut [Row], work: &mut [Row], tag: u64) -> Result<u32, Refus
     rows[first_row(table.order, k) + slot][11] = 1;
     put_sizes(rows, k, bucket.built, bucket.live);
     let distances = shrink(rows, &table, k);
-    work[..capacity(table.order)].fill([0; 12]);
+    work[..capacity(table.order)].fill([0; ROW_WORDS]);
     Ok(distances)
 }
 

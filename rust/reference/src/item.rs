@@ -2,8 +2,10 @@
 
 use crate::refusal::{MEASURE, Refused, TAG, ensure};
 
+/// The words of a row: the header's `VPINDEX_ROW_WORDS`, as `vpindex::ffi::ROW_WORDS` is.
+pub const ROW_WORDS: usize = 12;
 /// A row of the table or of the work area.
-pub type Row = [u32; 12];
+pub type Row = [u32; ROW_WORDS];
 /// An entry of the result area: tag, distance.
 pub type Entry = [u64; 2];
 
@@ -59,7 +61,7 @@ impl Slot {
 
     /// Its row.
     pub fn row(&self) -> Row {
-        let mut row = [0; 12];
+        let mut row = [0; ROW_WORDS];
         row[..2].copy_from_slice(&halves(self.tag));
         for (word, measure) in row[2..6].iter_mut().zip(self.profile.measures) {
             *word = measure as u32;

@@ -1,6 +1,6 @@
 //! A table read from its rows, and the rows written where a call changes them.
 
-use crate::item::{MAX_METRIC, MAX_ORDER, Row, Slot};
+use crate::item::{MAX_METRIC, MAX_ORDER, ROW_WORDS, Row, Slot};
 use crate::refusal::{Refused, SHORT, TABLE, ensure};
 
 /// A bucket as its size row and its built slots say.
@@ -110,7 +110,7 @@ impl Table {
 
 /// Writes a bucket's size row whole.
 pub fn put_sizes(rows: &mut [Row], k: usize, built: u32, live: u32) {
-    rows[1 + k] = [0; 12];
+    rows[1 + k] = [0; ROW_WORDS];
     rows[1 + k][..2].copy_from_slice(&[built, live]);
 }
 
@@ -119,7 +119,7 @@ pub fn put_bucket(rows: &mut [Row], order: u32, k: usize, live: u32, slots: &[Sl
     put_sizes(rows, k, slots.len() as u32, live);
     let first = first_row(order, k);
     let area = &mut rows[first..first + (1 << k)];
-    area.fill([0; 12]);
+    area.fill([0; ROW_WORDS]);
     for (row, slot) in area.iter_mut().zip(slots) {
         *row = slot.row();
     }
@@ -127,7 +127,7 @@ pub fn put_bucket(rows: &mut [Row], order: u32, k: usize, live: u32, slots: &[Sl
 
 /// Writes a whole table, header row and all.
 pub fn put_table(rows: &mut [Row], table: &Table) {
-    rows[0] = [0; 12];
+    rows[0] = [0; ROW_WORDS];
     rows[0][..2].copy_from_slice(&[table.order, table.metric]);
     for (k, bucket) in table.buckets.iter().enumerate() {
         put_bucket(rows, table.order, k, bucket.live, &bucket.slots);

@@ -1,7 +1,10 @@
 //! The calls as the archive exports them; `include/vpindex.h` says what each does and what its caller has to see to.
 #![allow(missing_docs)]
 
-pub type Row = [u32; 12];
+/// The words of a row: the header's `VPINDEX_ROW_WORDS`.
+pub const ROW_WORDS: usize = 12;
+
+pub type Row = [u32; ROW_WORDS];
 pub type Entry = [u64; 2];
 
 #[repr(C)]

@@ -56,8 +56,8 @@ impl Table {
     // Areas of the lengths that the order needs, not a table yet.
     fn blank(order: Order) -> Table {
         Table {
-            rows: vec![[0; 12]; order.table_rows()],
-            work: vec![[0; 12]; order.capacity()],
+            rows: vec![[0; ffi::ROW_WORDS]; order.table_rows()],
+            work: vec![[0; ffi::ROW_WORDS]; order.capacity()],
             result: vec![[0; 2]; order.capacity()],
         }
     }

@@ -1,5 +1,5 @@
 -- `image_load::header_refusal` meets its contract: each test in its order.
-use Prim.Native.Nat.{ℕ, _≤_}
+use Prim.Native.Nat.{_≤_}
 use mathlib.Core.Path.{_≡_, refl, sym, ap, _∙_}
 use mathlib.Core.Bool.{true, false}
 use borrow.Author.Needs.{needs}
@@ -7,7 +7,7 @@ use borrow.Author.Tests.{leb-true, leb-false, lt-ltb, le-ltb, eq-eqb, ne-eqb, no
 use lib.Dec.{leb, ltb}
 use lib.ListN.{length}
 use Rattle.lists.specs.Lists.{total}
-use Rattle.metric_rules.specs.Distance.{validSpace}
+use Rattle.metric_rules.specs.Distance.{validMetric}
 use Rattle.table_rules.specs.Geometry.{validOrder}
 use Rattle.image_rules.specs.Bytes.{headerFields, headerBytes}
 use Rattle.image_rules.specs.Read.{orderIn, spaceIn, zerosIn}
@@ -32,10 +32,10 @@ order-tested c = sym (c .is-order .ensures ∙ ap validOrder (c .before .order-i
 order-known : (c : tie.Else2) → validOrder (orderIn (c .before .before .before .before .before .before .args .image .now)) ≡ true
 order-known c = order-tested (c .before) ∙ not-false (c .before .is-order .result) (c .if2 .left)
 
-space-tested : (c : tie.After-valid-metric) → validSpace (spaceIn (c .before .before .before .before .before .before .before .before .args .image .now)) ≡ c .valid-metric .result
-space-tested c = sym (c .valid-metric .ensures ∙ ap (λ (m : ℕ). validSpace (record { metric = m })) (c .before .metric-in .ensures))
+space-tested : (c : tie.After-valid-metric) → validMetric (spaceIn (c .before .before .before .before .before .before .before .before .args .image .now)) ≡ c .valid-metric .result
+space-tested c = sym (c .valid-metric .ensures ∙ ap validMetric (c .before .space-in .ensures))
 
-space-known : (c : tie.Else3) → validSpace (spaceIn (c .before .before .before .before .before .before .before .before .before .args .image .now)) ≡ true
+space-known : (c : tie.Else3) → validMetric (spaceIn (c .before .before .before .before .before .before .before .before .before .args .image .now)) ≡ true
 space-known c = space-tested (c .before) ∙ not-false (c .before .valid-metric .result) (c .if3 .left)
 
 returns : tie.Need-returns
@@ -52,8 +52,8 @@ unfolding headerRefusal headerBy
 returns-2 c =
     rw (long-known (c .before .before .before), order-tested (c .before) ∙ not-true (c .before .is-order .result) (c .if2 .taken)) refl
 
-metric-in-requires : tie.Need-metric-in-requires
-metric-in-requires c κs = enough (c .before .before .before)
+space-in-requires : tie.Need-space-in-requires
+space-in-requires c κs = enough (c .before .before .before)
 
 returns-3 : tie.Need-returns-3
 unfolding headerRefusal headerBy
@@ -84,7 +84,7 @@ header-refusal-spec =
     order-in-requires
     (λ c κs. search needs)
     returns-2
-    metric-in-requires
+    space-in-requires
     (λ c κs. search needs)
     returns-3
     zeros-in-requires

@@ -5,6 +5,7 @@ use mathlib.Core.List.{foldl}
 use native.Mathlib.Omega.{arith}
 use borrow.Author.Needs.{needs}
 use lib.ListN.{length}
+use Rattle.metric_rules.specs.declared.Space.{Space}
 use Rattle.table_rules.specs.Geometry.{bucketsOf}
 use Rattle.table_rules.specs.Table.{Table, putBucket}
 use Rattle.table_rules.specs.Fresh.{freshTable, tableAfterFresh}
@@ -38,8 +39,8 @@ returns c =
 order-in-requires : tie.Need-order-in-requires
 order-in-requires c κs = header-inside c
 
-metric-in-requires : tie.Need-metric-in-requires
-metric-in-requires c κs = header-inside (c .before .before)
+space-in-requires : tie.Need-space-in-requires
+space-in-requires c κs = header-inside (c .before .before)
 
 slots-in-requires : tie.Need-slots-in-requires
 unfolding imageLength
@@ -54,7 +55,7 @@ module _ (c : tie.After-slots-in) where
   fresh-known =
       let a = c .before .before .before .before .before .before .before .before .before .before .before .args in
       c .before .before .before .before .fresh .ensures .1
-      ∙ ap₂ (λ (o m : ℕ). tableAfterFresh o (record { metric = m }) (a .table .now)) (c .before .before .before .before .before .before .before .order-in .ensures) (c .before .before .before .before .before .metric-in .ensures)
+      ∙ ap₂ (λ (o : ℕ) (s : Space). tableAfterFresh o s (a .table .now)) (c .before .before .before .before .before .before .before .order-in .ensures) (c .before .before .before .before .before .space-in .ensures)
       ∙ fresh-accepted (a .image .now) (a .table .now) (ok (c .before .before .before .before .before .before .before .before))
 
   end-known : c .before .before .sizes-end .result ≡ sizesEnd (orderIn (c .before .before .before .before .before .before .before .before .before .before .before .args .image .now))
@@ -103,7 +104,7 @@ load-spec =
     (λ c κs. search needs)
     returns
     order-in-requires
-    metric-in-requires
+    space-in-requires
     (λ c κs. search needs) (λ c κs. search needs)
     slots-in-requires
     mul-put-buckets

@@ -1,11 +1,11 @@
 -- `image_load::slots_pass` meets its contract: the slots one by one, and then tags and layouts, are all that is asked of them.
-use Prim.Native.Nat.{ℕ}
 use mathlib.Core.Path.{_≡_, sym, ap, _∙_}
 use mathlib.Core.Bool.{Bool, _&&_}
 use borrow.Author.Needs.{needs}
 use borrow.Author.Tests.{not-true, not-false}
 use Rattle.lists.specs.Lists.{every}
-use Rattle.metric_rules.specs.Distance.{Space, spaceOf}
+use Rattle.metric_rules.specs.declared.Space.{Space}
+use Rattle.metric_rules.specs.Distance.{spaceOf}
 use Rattle.table_rules.specs.Geometry.{bucketsOf}
 use Rattle.image_rules.specs.Read.{orderIn, spaceIn}
 use Rattle.image_fields.specs.SlotsRead.{slotsRead}
@@ -37,7 +37,7 @@ returns-2 c =
     let image = c .before .before .before .before .before .before .before .before .args .image .now in
     let made = c .before .before .header-row in
     let space : spaceOf (made .result) ≡ spaceIn image =
-    ap spaceOf (made .ensures) ∙ header-space _ _ ∙ ap (λ (m : ℕ). record { metric = m }) (c .before .before .before .metric-in .ensures) in
+    ap spaceOf (made .ensures) ∙ header-space _ _ ∙ c .before .before .before .space-in .ensures in
     c .trees-valid .ensures
     ∙ ap (λ (s : Space). treesValid s image) space
     ∙ sym (slots-pass-parts image

@@ -5,27 +5,27 @@ use borrow.Author.Tests.{not-true, not-false, lt-leb, le-leb}
 use mathlib.Core.Path.{_≡_, sym, _∙_, ap}
 use mathlib.Core.Bool.{true, false}
 use lib.ListN.{length}
-use Rattle.metric_rules.specs.Distance.{validSpace}
+use Rattle.metric_rules.specs.Distance.{validMetric}
 use Rattle.table_rules.specs.Geometry.{validOrder, headerRow, tableRows}
 use Rattle.table_rules.specs.Table.{rowAt, orderOf, tableSpace}
 use Rattle.table_rules.proofs.Buckets.{order-valid}
 use Rattle.table_rules.proofs.Passing.{no-frame}
 use Rattle.table_order.specs.Answers.{answerOf}
 use Rattle.table_order.proofs.Orders.{is-order, no-order}
-use Rattle.table_checks.proofs.Framing.{space-breaks, order-breaks, too-short, frame-stands}
+use Rattle.table_checks.proofs.Framing.{metric-breaks, order-breaks, too-short, frame-stands}
 use borrow.Author.Needs.{needs}
 use Rattle.table_checks.proofs.frame_refusal.Statement.{statement}
 use Rattle.table_checks.proofs.frame_refusal.Tie as tie
 
 -- the tests as they were made
-space-tested :
-    (c : tie.After-valid-space) → validSpace (tableSpace (c .before .before .before .args .table .now)) ≡ c .valid-space .result
+metric-tested :
+    (c : tie.After-has-metric) → validMetric (tableSpace (c .before .before .before .args .table .now)) ≡ c .has-metric .result
 unfolding tableSpace rowAt headerRow
-space-tested c = sym (c .valid-space .ensures)
+metric-tested c = sym (c .has-metric .ensures)
 
-space-passed :
-    (c : tie.Else2) → validSpace (tableSpace (c .before .before .before .before .args .table .now)) ≡ true
-space-passed c = space-tested (c .before) ∙ not-false (c .before .valid-space .result) (c .if2 .left)
+metric-passed :
+    (c : tie.Else2) → validMetric (tableSpace (c .before .before .before .before .args .table .now)) ≡ true
+metric-passed c = metric-tested (c .before) ∙ not-false (c .before .has-metric .result) (c .if2 .left)
 
 order-known :
     (c : tie.After-order)
@@ -42,7 +42,7 @@ returns c = sym (no-frame (c .before .args .table .now) (c .if1 .taken))
 returns-2 : tie.Need-returns-2
 returns-2 c =
     let t = c .before .before .before .before .args .table .now in
-    sym (space-breaks t (omega (arith, c .before .before .before .if1 .left)) (space-tested (c .before) ∙ not-true (c .before .valid-space .result) (c .if2 .taken)))
+    sym (metric-breaks t (omega (arith, c .before .before .before .if1 .left)) (metric-tested (c .before) ∙ not-true (c .before .has-metric .result) (c .if2 .taken)))
 
 table-rows-requires : tie.Need-table-rows-requires
 table-rows-requires c κs = omega (arith, order-known (c .before))
@@ -62,7 +62,7 @@ returns-4 c =
     let known : (at .order .given .0 .0 .t ≡ orderOf t) × (orderOf t ≤ 12) = order-known at in
     let rows : tableRows (orderOf t) ≡ c .before .table-rows .result = sym (c .before .table-rows .ensures ∙ ap tableRows (known .0)) in
     sym (too-short t (omega (arith, at .before .before .before .before .before .before .before .if1 .left)) (order-valid (orderOf t) (known .1))
-    (space-passed (at .before .before .before .before))
+    (metric-passed (at .before .before .before .before))
     (lt-leb (tableRows (orderOf t)) (length t) (omega arith)))
 
 returns-5 : tie.Need-returns-5
@@ -72,7 +72,7 @@ returns-5 c =
     let known : (at .order .given .0 .0 .t ≡ orderOf t) × (orderOf t ≤ 12) = order-known at in
     let rows : tableRows (orderOf t) ≡ c .before .table-rows .result = sym (c .before .table-rows .ensures ∙ ap tableRows (known .0)) in
     sym (frame-stands t (omega (arith, at .before .before .before .before .before .before .before .if1 .left)) (order-valid (orderOf t) (known .1))
-    (space-passed (at .before .before .before .before))
+    (metric-passed (at .before .before .before .before))
     (le-leb (tableRows (orderOf t)) (length t) (omega arith)))
 
 pub frame-refusal-spec : {M : Type 1} → statement M

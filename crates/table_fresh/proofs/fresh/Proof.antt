@@ -5,7 +5,7 @@ use borrow.Author.Tests.{not-true, not-false, lt-leb}
 use mathlib.Core.Path.{_≡_, sym, _∙_, ap}
 use mathlib.Core.Bool.{true}
 use lib.ListN.{length}
-use Rattle.metric_rules.specs.Distance.{validSpace}
+use Rattle.metric_rules.specs.Distance.{validMetric}
 use Rattle.table_rules.specs.Geometry.{validOrder, firstSlot, tableRows}
 use Rattle.table_rules.proofs.Buckets.{order-valid}
 use Rattle.table_order.specs.Answers.{answerOf}
@@ -22,7 +22,7 @@ order-is c = is-order (c .valid .given .0 .0) (c .before .before .before .args .
 order-known : (c : tie.After-valid) → validOrder (c .before .before .before .args .order) ≡ true
 order-known c = order-valid (c .before .before .before .args .order) (order-is c .1)
 
-metric-known : (c : tie.Else1) → validSpace (record { metric = c .before .before .before .before .before .before .args .metric }) ≡ true
+metric-known : (c : tie.Else1) → validMetric (c .before .before .before .before .before .before .args .space) ≡ true
 metric-known c = sym (c .before .valid-metric .ensures) ∙ not-false (c .before .valid-metric .result) (c .if1 .left)
 
 rows-known : (c : tie.After-table-rows) → c .table-rows .result ≡ tableRows (c .before .before .before .before .before .before .before .args .order)
@@ -32,7 +32,7 @@ returns : tie.Need-returns
 returns c =
     let v = c .before .before .before in
     let a = v .before .before .before .args in
-    metric-refused (a .order) (record { metric = a .metric }) (a .table .now) (order-known v) (sym (c .before .valid-metric .ensures) ∙ not-true (c .before .valid-metric .result) (c .if1 .taken))
+    metric-refused (a .order) (a .space) (a .table .now) (order-known v) (sym (c .before .valid-metric .ensures) ∙ not-true (c .before .valid-metric .result) (c .if1 .taken))
 
 table-rows-requires : tie.Need-table-rows-requires
 table-rows-requires c κs = omega (arith, order-is (c .before .before .before))
@@ -41,7 +41,7 @@ returns-2 : tie.Need-returns-2
 returns-2 c =
     let v = c .before .before .before .before .before in
     let a = v .before .before .before .args in
-    area-refused (a .order) (record { metric = a .metric }) (a .table .now) (order-known v) (metric-known (c .before .before))
+    area-refused (a .order) (a .space) (a .table .now) (order-known v) (metric-known (c .before .before))
     (lt-leb (tableRows (a .order)) (length (a .table .now)) (omega (arith, rows-known (c .before))))
 
 write-fresh-requires : tie.Need-write-fresh-requires
@@ -51,14 +51,14 @@ write-fresh-requires c κs = (omega (arith, rows-known (c .before .before)), ome
 returns-3 : tie.Need-returns-3
 returns-3 c =
     let a = c .before .before .before .args in
-    order-refused (a .order) (record { metric = a .metric }) (a .table .now) (no-order (a .order) (ap answerOf (sym (c .enum-told .given .1)) ∙ c .before .before .new .ensures))
+    order-refused (a .order) (a .space) (a .table .now) (no-order (a .order) (ap answerOf (sym (c .enum-told .given .1)) ∙ c .before .before .new .ensures))
 
 returns-4 : tie.Need-returns-4
 returns-4 c =
     let r = c .before .before .before .before in
     let v = r .before .before .before .before in
     let a = v .before .before .before .args in
-    accepted (a .order) (record { metric = a .metric }) (a .table .now) (order-known v) (metric-known (r .before)) (r .table-rows .result) (rows-known r) (omega arith)
+    accepted (a .order) (a .space) (a .table .now) (order-known v) (metric-known (r .before)) (r .table-rows .result) (rows-known r) (omega arith)
     (c .before .write-fresh .last .0)
     (c .before .write-fresh .ensures)
 

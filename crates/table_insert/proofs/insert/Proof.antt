@@ -35,7 +35,7 @@ gather-below-requires c κs =
     let l = c .before .before .before .lowest-empty in (
       built-fits-here s,
       omega (arith, l .ensures, lowest-within (s .args .table .now), s .pre .0),
-      omega (arith, number-gathered (ok s) (l .ensures) refl, few (ok s) .0, changes (ok s) .roomy, length-set w 0 (c .before .before .row-of .result)),
+      omega (arith, number-gathered (ok s) (l .ensures) refl, few (ok s) .0, changes (ok s) .roomy, length-set w 0 (c .before .before .new-row .result)),
     )
 
 add-bucket-requires : tie.Need-add-bucket-requires
@@ -63,12 +63,12 @@ build-bucket-requires c κs =
       subst⁻¹ (λ (u : List Row). OfOrder u (s .args .order .t)) (e .ensures) (lent-emptied (ok s) (s .args .order .t) (s .pre .0) (l .ensures)),
       omega (arith, fits .0, s .pre .0),
       omega (arith, fits .1, g .ensures .0),
-      omega (arith, g .kept .1 .1 .1 .0, length-set (s .args .work .now) 0 (c .before .before .before .before .before .before .before .before .before .before .row-of .result), changes (ok s) .roomy, ap workRows (s .pre .0)),
+      omega (arith, g .kept .1 .1 .1 .0, length-set (s .args .work .now) 0 (c .before .before .before .before .before .before .before .before .before .before .new-row .result), changes (ok s) .roomy, ap workRows (s .pre .0)),
     )
 
 same-length-2 : tie.Need-same-length-2
 same-length-2 c =
-    c .before .before .build-bucket .kept .1 .1 .1 .0 ∙ c .before .before .before .before .before .before .before .before .before .before .gather-below .kept .1 .1 .1 .0 ∙ length-set (c .before .before .before .before .before .before .before .before .before .before .before .before .before .before .before .before .args .work .now) 0 (c .before .before .before .before .before .before .before .before .before .before .before .before .before .row-of .result)
+    c .before .before .build-bucket .kept .1 .1 .1 .0 ∙ c .before .before .before .before .before .before .before .before .before .before .gather-below .kept .1 .1 .1 .0 ∙ length-set (c .before .before .before .before .before .before .before .before .before .before .before .before .before .before .before .before .args .work .now) 0 (c .before .before .before .before .before .before .before .before .before .before .before .before .before .new-row .result)
 
 returns : tie.Need-returns
 returns c =
@@ -78,7 +78,7 @@ returns c =
     let b = c .before .before .build-bucket .ensures in
     let to = c .before .before .before .before .before .before .before .before .add-bucket .ensures in
     let w : List Row = s .args .work .now in
-    let stored = g .1 ∙ ap (λ (r : Row). sets (set w 0 r) 1 (liveItems (s .args .table .now) (countFrom 0 (c .before .before .before .before .before .before .before .before .before .before .before .before .before .before .lowest-empty .result)))) (c .before .before .before .before .before .before .before .before .before .before .before .before .before .row-of .ensures) in (
+    let stored = g .1 ∙ ap (λ (r : Row). sets (set w 0 r) 1 (liveItems (s .args .table .now) (countFrom 0 (c .before .before .before .before .before .before .before .before .before .before .before .before .before .before .lowest-empty .result)))) (c .before .before .before .before .before .before .before .before .before .before .before .before .before .new-row .ensures) in (
       ap₂ (λ (k d : ℕ). record { refusal = 0; bucket = k; distances = d }) (target-found (ok s) l (g .0) to) (cost-counted (ok s) l (g .0) (b .1 .1)),
       (
         table-built (ok s) l (g .0) stored to (c .before .before .before .before .before .before .empty-below .ensures) (b .0),

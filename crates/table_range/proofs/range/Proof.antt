@@ -54,7 +54,7 @@ unfolding rowAt headerRow
 returns-3 c =
     let call = c .before .before .before .before in
     let order = call .before .before .before .order-in in
-    let asked = call .before .before .before .before .row-of in
+    let asked = call .before .before .before .before .query-row in
     let e = call .before .before .before .before .before .before in
     let s = e .before .before .before .before in
     let a = s .args in

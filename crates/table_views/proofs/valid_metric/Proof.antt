@@ -1,11 +1,11 @@
 -- `table_views::valid_metric` meets its contract: the test is the definition's.
 use mathlib.Core.Path.{refl}
-use Rattle.metric_rules.specs.Distance.{validSpace, lastMetric}
+use Rattle.metric_rules.specs.Distance.{validMetric, lastMetric}
 use Rattle.table_views.proofs.valid_metric.Statement.{statement}
 use Rattle.table_views.proofs.valid_metric.Tie as tie
 
 returns : tie.Need-returns
-unfolding validSpace lastMetric
+unfolding validMetric lastMetric
 returns c = refl
 
 pub valid-metric-spec : {M : Type 1} → statement M

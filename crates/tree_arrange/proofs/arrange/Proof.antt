@@ -12,7 +12,8 @@ use Rattle.lists.specs.Lists.{every}
 use Rattle.lists.proofs.Lists.{all-perm}
 use Rattle.lists.proofs.Tests.{every-all}
 use Rattle.metric_rules.specs.Row.{Row}
-use Rattle.metric_rules.specs.Distance.{Space, distance, spaceOf}
+use Rattle.metric_rules.specs.declared.Space.{Space}
+use Rattle.metric_rules.specs.Distance.{distance, spaceOf}
 use Rattle.tree_rules.specs.Sorting.{keyLe, sortBy}
 use Rattle.tree_rows.specs.Working.{workKey, firstKey, RanksApart, measuredFrom, sortedFrom, arranged}
 use Rattle.tree_rules.proofs.Sorting.{NotAfter}

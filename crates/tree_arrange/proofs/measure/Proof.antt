@@ -6,7 +6,8 @@ use mathlib.Core.List.{List, [], map}
 use Prim.Native.Nat.{ℕ, _+_, _-_, _≤_, _<_}
 use lib.ListN.{length, length-map, getD, set, length-set}
 use Rattle.metric_rules.specs.Row.{Row, profileOf}
-use Rattle.metric_rules.specs.Distance.{Space, distance, spaceOf}
+use Rattle.metric_rules.specs.declared.Space.{Space}
+use Rattle.metric_rules.specs.Distance.{distance, spaceOf}
 use Rattle.tree_rules.specs.Guided.{fromSlot}
 use Rattle.tree_rows.specs.Working.{measuredFrom}
 use Rattle.tree_rules.proofs.Parts.{writtenTo, written-at, written-step, written-all, getD-mapped}
