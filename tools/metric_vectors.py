@@ -37,8 +37,9 @@ def distance(metric, p, q):
 
 
 def row(tag, profile, threshold, mark):
-    """The record of the image, tag first, as twelve little-endian words."""
-    return struct.unpack("<12I", struct.pack("<Q4i2Q2I", tag, *profile[0], *profile[1], threshold, mark))
+    """The record of the image, tag first, as little-endian words."""
+    fields = struct.pack("<Q4i2Q2I", tag, *profile[0], *profile[1], threshold, mark)
+    return struct.unpack(f"<{len(fields) // 4}I", fields)
 
 
 def objects():

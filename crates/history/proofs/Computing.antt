@@ -2,7 +2,7 @@
 -- the worked lines, which are runs, open them all, and this is the one place that lists them.
 use mathlib.Core.List.{flatten}
 use Rattle.lists.specs.Lists.{countFrom, total, select, every, alike, distinct, sameNumbers}
-use Rattle.metric_rules.specs.Row.{tagAt, measuresAt, codeAt, thresholdAt, markAt, zeroRow, word, wide, words, tagOf, profileOf, thresholdOf, markOf, isLive, measure, codeWord, rowOf, withThreshold, withMark}
+use Rattle.metric_rules.specs.Row.{rowWidth, tagAt, measuresAt, codeAt, thresholdAt, markAt, zeroRow, word, wide, words, tagOf, profileOf, thresholdOf, markOf, isLive, measure, codeWord, rowOf, withThreshold, withMark}
 use Rattle.metric_rules.specs.Validity.{nationals, countryOf, nationalOf, lastCountry, lastNational, validTag, measureLimit, validMeasure, validMeasures}
 use Rattle.metric_rules.specs.Distance.{mostDistance, saturated, gap, measureDistance, differing, codeDistance, largest, worstDistance, distanceBy, distance, metricAt, spaceOf, lastMetric, validMetric}
 use Rattle.tree_rules.specs.Sorting.{keyLe, insertBy, sortBy}
@@ -35,7 +35,7 @@ pub record Performed (c : Call) : Type 0 where
 
 unfoldable pub performed : (c : Call) → Table → Areas c → Performed c
 unfolding
-    countFrom total select every flatten alike sameNumbers tagAt measuresAt codeAt thresholdAt markAt zeroRow word wide words tagOf
+    countFrom total select every flatten alike sameNumbers rowWidth tagAt measuresAt codeAt thresholdAt markAt zeroRow word wide words tagOf
     profileOf thresholdOf markOf measure codeWord rowOf withThreshold withMark nationals countryOf nationalOf lastCountry lastNational validTag
     measureLimit validMeasure validMeasures mostDistance saturated gap measureDistance differing codeDistance largest worstDistance distanceBy distance
     metricAt spaceOf lastMetric validMetric keyLe insertBy sortBy leftSize costWithin cost rankedFrom tagKey placed fromPivot nearKey lastDistance

@@ -59,9 +59,9 @@ module _ (x y : Row) where
   tags-alike h l = ap₂ wide l h
 
 module _ (row : Row) (is : IsRow row) where
-  -- a row is the list of its by-words words
+  -- a row is the list of its words
   by-words : map (word row) (countFrom 0 rowWidth) ≡ row
-  unfolding word
+  unfolding word rowWidth
   by-words = elements 0 rowWidth row (is .width)
 
   low : (i b : ℕ) → wide (word row i) b % 2 ^ 32 ≡ word row i
@@ -75,7 +75,7 @@ module _ (row : Row) (is : IsRow row) where
 
   -- the row of a row's fields
   pub row-of-fields : rowOf (tagOf row) (profileOf row) (thresholdOf row) (markOf row) ≡ row
-  unfolding rowOf tagOf profileOf thresholdOf markOf countFrom
+  unfolding rowWidth rowOf tagOf profileOf thresholdOf markOf countFrom
   row-of-fields =
       cc (
         low 0 (word row 1),
@@ -124,7 +124,7 @@ module _ (tag : ℕ) (p : Profile) (threshold mark : ℕ) where
     profile-of-row = λ i. record { measures = same-measures i; code = same-code i }
 
     pub row-fits : tag < 2 ^ 64 → threshold < 2 ^ 32 → mark < 2 ^ 32 → IsRow (rowOf tag p threshold mark)
-    unfolding rowOf word
+    unfolding rowOf word rowWidth
     row-fits ht hm hk =
         record {
           width = refl;
@@ -163,7 +163,7 @@ module _ (row : Row) (n : ℕ) where
 
   -- with another threshold
   pub threshold-with-threshold : length row ≡ rowWidth → thresholdOf (withThreshold n row) ≡ n
-  unfolding thresholdOf withThreshold
+  unfolding thresholdOf withThreshold rowWidth
   threshold-with-threshold e = getD-set-same row thresholdAt n 0 (omega arith)
 
   pub tag-with-threshold : tagOf (withThreshold n row) ≡ tagOf row
@@ -184,7 +184,7 @@ module _ (row : Row) (n : ℕ) where
 
   -- with another mark
   pub mark-with-mark : length row ≡ rowWidth → markOf (withMark n row) ≡ n
-  unfolding markOf withMark
+  unfolding markOf withMark rowWidth
   mark-with-mark e = getD-set-same row markAt n 0 (omega arith)
 
   pub tag-with-mark : tagOf (withMark n row) ≡ tagOf row

@@ -19,8 +19,9 @@ use Rattle.metric_rules.specs.declared.Profile.{Profile}
 use Rattle.metric_rules.specs.Row.{Row, IsRow, IsProfile, rowWidth, word, measure, codeWord}
 use Rattle.metric_rules.proofs.Profile.{the-type}
 
-pub is-row : (xs : Row) (vs : List Val) → Is (Array (UInt w32) rowWidth) xs vs → IsRow xs
-unfolding word
+-- the array's size is `rowWidth`: a type has to name the number itself
+pub is-row : (xs : Row) (vs : List Val) → Is (Array (UInt w32) 12) xs vs → IsRow xs
+unfolding rowWidth word
 is-row xs vs g = record { width = g .1 .0 .1; fits = λ i. elem-fits w32 w32 xs (g .0) i (g .1 .1) tt .fits }
 
 signed-each : (zs : List ℤ) (us : List Val) → shadow (each ℤ (SInt w32 .own) zs us) → (i : ℕ) → SFits w32 (getD zs i (pos 0))

@@ -17,8 +17,8 @@ use Rattle.metric_rules.specs.declared.Profile.{Profile}
 abbrev pub Row : Type 0
 Row = List ℕ
 
--- the words of a row; in the code it is `ROW_WIDTH`
-abbrev pub rowWidth : ℕ
+-- how many words a row has: `ROW_WIDTH` in the code, VPINDEX_ROW_WORDS in C
+unfoldable pub rowWidth : ℕ
 rowWidth = 12
 
 -- RULES 4.2: the places of the tag's two words, of the four measures, of the code's four words, of the threshold and of the mark
@@ -38,6 +38,7 @@ unfoldable pub markAt : ℕ
 markAt = 11
 
 unfoldable pub zeroRow : Row
+unfolding rowWidth
 zeroRow = replicate rowWidth 0
 
 -- word i of a row
@@ -103,6 +104,10 @@ newRow tag p = rowOf tag p 0 0
 -- the row that a search makes of its query: no tag, and the radius in the threshold's place
 abbrev pub queryRow : Profile → ℕ → Row
 queryRow query radius = rowOf 0 query radius 0
+
+-- what a search may report: a slot's row, by the query's row. Every live one
+abbrev pub mayReport : Row → Row → Bool
+mayReport query row = isLive row
 
 -- a row with another threshold, or another mark, and every other word kept
 unfoldable pub withThreshold : ℕ → Row → Row

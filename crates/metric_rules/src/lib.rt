@@ -1,7 +1,7 @@
 // Profiles and rows: what the other crates' definitions and code name them by.
 
-// The words of a slot's row, the definitions' `rowWidth`, and the place of each: the tag's two, the four measures, the two of each code word, the
-// threshold and the mark.
+// How many words a slot's row has (`rowWidth` in the definitions, VPINDEX_ROW_WORDS in C), and the place of each: the tag's two, the four measures,
+// the two of each code word, the threshold and the mark.
 pub const ROW_WIDTH: usize = 12;
 
 pub const TAG_LOW: usize = 0;

@@ -3,7 +3,7 @@ ghost use mathlib.Core.Path.{_≡_};
 ghost use Prim.Native.Nat.{_+_, _*_, _/_, _%_, _^_};
 ghost use mir.Syntax.{w32};
 ghost use mir.Val.{toZ, ofZ};
-ghost use Rattle.metric_rules.specs.Row.{tagOf, profileOf, thresholdOf, markOf, isLive, rowOf, newRow, queryRow};
+ghost use Rattle.metric_rules.specs.Row.{tagOf, profileOf, thresholdOf, markOf, isLive, rowOf, newRow, queryRow, mayReport};
 use metric_rules::CODE_0_HIGH;
 use metric_rules::CODE_0_LOW;
 use metric_rules::CODE_1_HIGH;
@@ -134,4 +134,11 @@ pub fn query_row(query: Profile, radius: u32) -> Row
     ensures { λ r. ⌜ r ≡ queryRow query radius ⌝ }
 {
     row_of(0, query, radius, 0)
+}
+
+// Whether a search by this query may report a slot.
+pub fn may_report(query: &Row, row: Row) -> bool
+    ensures { λ r. ⌜ r ≡ mayReport (now (query .entry)) row ⌝ }
+{
+    is_live(row)
 }

@@ -6,7 +6,7 @@ use mathlib.Core.Bool.{true}
 use native.Mathlib.Omega.{arith}
 use lib.Dec.{lit<}
 use lib.ListN.{set}
-use Rattle.metric_rules.specs.Row.{IsRow, zeroRow, word}
+use Rattle.metric_rules.specs.Row.{IsRow, zeroRow, rowWidth, word}
 use Rattle.metric_rules.specs.declared.Space.{Space}
 use Rattle.metric_rules.specs.Distance.{metricAt, validSpace}
 use Rattle.metric_rules.proofs.Elements.{each-at}
@@ -17,7 +17,7 @@ use Rattle.table_rules.specs.Table.{pairRow, headerOf}
 use Rattle.table_rules.proofs.Buckets.{order-most}
 
 pub zero-row-fits : IsRow zeroRow
-unfolding zeroRow word
+unfolding zeroRow rowWidth word
 zero-row-fits = record { width = refl; fits = each-at (λ n. n < 2 ^ 32) 0 (lit< tt) zeroRow (omega arith) }
 
 pub pair-row-fits : (a b : ℕ) → a < 2 ^ 32 → b < 2 ^ 32 → IsRow (pairRow a b)

@@ -2,7 +2,7 @@
 use native.Mathlib.Omega.{arith}
 use Prim.Native.Nat.{_-_}
 use lib.ListN.{length}
-use Rattle.metric_rules.specs.Row.{zeroRow}
+use Rattle.metric_rules.specs.Row.{rowWidth, zeroRow}
 use Rattle.tree_rules.proofs.Filled.{Filled, filled-none, filled-next, filled-all}
 use Rattle.gather.proofs.zero_rows.Statement.{statement}
 use Rattle.gather.proofs.zero_rows.Tie as tie
@@ -14,7 +14,7 @@ abbrev μ-loop : tie.MeasureT-loop
 μ-loop rows₀ i₀ rows i = length rows₀ - i
 
 loop-again : tie.Need-loop-again Inv-loop μ-loop
-unfolding zeroRow
+unfolding zeroRow rowWidth
 loop-again c =
     let l = c .before .loop in
     filled-next zeroRow (c .before .before .args .rows .now) (l .i) (l .rows) (omega arith) (l .inv)

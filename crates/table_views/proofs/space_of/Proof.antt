@@ -9,6 +9,7 @@ use Rattle.table_views.proofs.space_of.Statement.{statement}
 use Rattle.table_views.proofs.space_of.Tie as tie
 
 word-at-requires : tie.Need-word-at-requires
+unfolding rowWidth
 word-at-requires c κs = search needs
 
 returns : tie.Need-returns
