@@ -93,7 +93,7 @@ module _ (dist : Profile → Profile → ℕ) (query : Profile) (reports : Row �
   lives-parts : (l : ℕ) (rest : List Row) → lives (take l rest) + lives (drop l rest) ≡ lives rest
   lives-parts l rest = sym (length-append (select reports (take l rest)) (select reports (drop l rest))) ∙ ap length (sym (select-append reports (take l rest) (drop l rest)) ∙ ap (select reports) (take-append-drop l rest))
 
-  pub own-live : Row → ℕ
+  unfoldable pub own-live : Row → ℕ
   own-live s = lives (s ∷ [])
 
   lives-cons : (s : Row) (rest : List Row) → lives (s ∷ rest) ≡ own-live s + lives rest

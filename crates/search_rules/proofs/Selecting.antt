@@ -1,8 +1,11 @@
 -- Laws of `select`, for lists of anything.
 -- Each goes by the list; a test is met by its two values.
+use Prim.Native.Nat.{suc, _≤_}
+use native.Mathlib.Omega.{arith}
 use mathlib.Core.Path.{_≡_, refl, ap}
 use mathlib.Core.Bool.{Bool, true, false}
 use mathlib.Core.List.{List, [], _∷_, _++_}
+use lib.ListN.{length}
 use Rattle.lists.specs.Lists.{select, All}
 
 module _ {A : Type 0} (test : A → Bool) where
@@ -27,3 +30,12 @@ module _ {A : Type 0} (test : A → Bool) where
   unfolding select
   select-all [] h = refl
   select-all (x ∷ xs) h = rw (h .0, select) (ap (λ (l : List A). x ∷ l) (select-all xs (h .1)))
+
+  pub select-few : (xs : List A) → length (select test xs) ≤ length xs
+  unfolding select
+  select-few [] = omega arith
+  select-few (x ∷ xs) = go (test x) (select-few xs)
+    where
+      go : (b : Bool) → length (select test xs) ≤ length xs → length {A = A} (elim b [ true ↦ x ∷ select test xs | false ↦ select test xs ]) ≤ suc (length xs)
+      go true h = omega arith
+      go false h = omega arith

@@ -1,3 +1,3 @@
--- The buckets' turns, one after the other, are the table's search, and what they leave is the reply.
-mod Steps
+-- The buckets' searches, one after the other, are the table's search, and what they leave is the reply.
+mod Searching
 mod Replying

@@ -1,28 +1,35 @@
--- What a nearest call replies and leaves, test by test: a refusal its number, zeros and the area as it was; else the entries kept, or 6.
-use Prim.Native.Nat.{ℕ, suc, _-_, _*_, _≤_, _<_, _^_}
+-- What a nearest call replies and leaves, test by test: a refusal its number, zeros and the area as it was; 6 where more is to be kept than the area
+-- holds; else the entries kept.
+use Prim.Native.Nat.{ℕ, suc, _-_, _≤_, _<_, _^_, min}
 use native.Mathlib.Omega.{arith}
 use mathlib.Core.Path.{_≡_, refl, sym, ap, ap₂, subst, _∙_}
-use mathlib.Core.Bool.{Bool, true, false}
+use mathlib.Core.Bool.{true, false}
 use mathlib.Core.List.{List, _++_}
-use lib.ListN.{length, take, replicate}
+use lib.ListN.{length, take, drop, replicate}
+use lib.Seq.{take-append-seam}
 use Rattle.metric_rules.specs.declared.Profile.{Profile}
-use Rattle.metric_rules.specs.Row.{IsProfile, rowOf}
+use Rattle.metric_rules.specs.Row.{Row, IsProfile}
+use Rattle.metric_rules.proofs.Codec.{threshold-of-row}
 use Rattle.metric_rules.specs.Validity.{validMeasures}
 use Rattle.tree_rules.specs.Sorting.{sortBy}
 use Rattle.search_rules.specs.Range.{Entry, ordered}
-use Rattle.tree_nearest_few.specs.declared.Nearby.{Nearby}
-use Rattle.tree_nearest_few.specs.Nearby.{Leaves}
-use Rattle.tree_nearest_few.proofs.NearSteps.{Sound, held, not-held, numbers, front}
+use Rattle.search_rules.specs.Nearest.{Tally}
+use Rattle.search_asked.specs.Asked.{askedOf, kAsked}
+use Rattle.tree_nearest.specs.declared.Nearby.{Nearby}
+use Rattle.tree_nearest.specs.Nearby.{boundOf, keptUnder, Leaves}
+use Rattle.tree_nearest.proofs.Bounds.{under-bound}
+use Rattle.tree_nearest.proofs.Steps.{Fit}
 use Rattle.table_rules.specs.declared.Searched.{Searched}
 use Rattle.table_rules.specs.Refusals.{badMeasure, noCount, noRoom}
-use Rattle.table_rules.specs.Geometry.{room, headerRow}
+use Rattle.table_rules.specs.Geometry.{room, headerRow, bucketsOf}
 use Rattle.table_rules.specs.Table.{Table, rowAt, orderOf}
 use Rattle.table_rules.specs.Checks.{readRefusal}
 use Rattle.table_rules.specs.Passed.{Passed}
-use Rattle.table_rules.specs.Search.{nearestTally, nearestAnswer, nearestRefusal, nearestReply, resultAfterNearest, zeroEntry}
+use Rattle.table_rules.specs.Search.{bucketsDown, nearestTally, nearestAnswer, nearestRefusal, nearestReply, resultAfterNearest, zeroEntry}
 use Rattle.table_rules.proofs.Replies.{not-short, refused-search, held-search, short-search, nearest-stopped, nearest-measure, nearest-none, nearest-fits}
-use Rattle.table_nearest.specs.Tallies.{noneKept, mostSlots}
-use Rattle.table_nearest.proofs.Steps.{tally-all, sound-below}
+use Rattle.table_rules.proofs.Keeping.{nearest-size}
+use Rattle.table_nearest.specs.Tallies.{noneKept, mostSlots, liveBelow, tallyBelow}
+use Rattle.table_nearest.proofs.Searching.{tally-all, Grown, grown-below}
 
 module _ (t : Table) (area : List Entry) (query : Profile) (k : ℕ) where
   -- this reply and this area after the call are the definition's
@@ -43,40 +50,63 @@ module _ (t : Table) (area : List Entry) (query : Profile) (k : ℕ) where
   pub refused-none : readRefusal t ≡ 0 → validMeasures query ≡ true → k ≡ 0 → Right (record { refusal = noCount; found = 0; distances = 0 }) area
   refused-none e v z = refused-by noCount (nearest-none t area query k e v z) (λ i. omega arith) (λ i. omega arith)
 
-  -- what the buckets left
-  module _ (mid : List Entry) (near : Nearby) (same : length mid ≡ length area) (l : Leaves (nearestTally t query k) area mid near) where
-    kept-size : near .over ≡ false → near .kept ≡ length (nearestTally t query k .kept)
-    kept-size e = ap (λ (x : Nearby). x .kept) (numbers (nearestTally t query k) area mid near l e)
+  -- as many are kept as k and the slots that may be reported allow
+  kept-size : length (nearestTally t query k .kept) ≡ min k (liveBelow t (suc (orderOf t)))
+  unfolding nearestAnswer liveBelow bucketsDown bucketsOf
+  kept-size = nearest-size t query k
 
-    -- its numbers fit the reply
-    pub fits : Passed t → IsProfile query → k < 2 ^ 32 → near .over ≡ false → (near .kept ≤ length mid) × (near .kept < 2 ^ 32) × (near .count < 2 ^ 32)
-    unfolding ordered sortBy room
-    fits p is few e =
-        let sound : Sound k (mostSlots * suc (orderOf t)) noneKept (nearestTally t query k) =
-        subst (Sound k (mostSlots * suc (orderOf t)) noneKept) (tally-all t query k is)
-        (sound-below (rowAt t headerRow) (rowOf 0 query 0 0) k t p (suc (orderOf t)) (omega arith) noneKept refl (omega arith))
-        in
-        let visits : near .count ≡ nearestTally t query k .count = ap (λ (x : Nearby). x .count) (numbers (nearestTally t query k) area mid near l e) in (
-          omega (arith, kept-size e, held (nearestTally t query k) area mid near l e, same),
-          omega (arith, kept-size e, sound .few),
-          omega (arith, visits, sound .most, p .framed .order),
-        )
+  module _ (passes : readRefusal t ≡ 0) (valid : validMeasures query ≡ true) (some : k ≡ 0 → ⊥) (order : ℕ) (is : order ≡ orderOf t) where
+    size : length (nearestTally t query k .kept) ≡ min k (liveBelow t (suc order))
+    size = kept-size ∙ ap (λ (n : ℕ). min k (liveBelow t (suc n))) (sym is)
 
-    -- and what `reply_with` makes of it
-    module _ (passes : readRefusal t ≡ 0) (valid : validMeasures query ≡ true) (some : k ≡ 0 → ⊥) (r : Searched) (last : List Entry)
-        (fit : near .over ≡ false → (r ≡ record { refusal = 0; found = near .kept; distances = near .count }) × (last ≡ take (near .kept) mid ++ replicate (length mid - near .kept) zeroEntry))
-        (short : near .over ≡ true → (r ≡ record { refusal = noRoom; found = 0; distances = 0 }) × (last ≡ replicate (length mid) zeroEntry)) where
-      pub answered : Right r last
-      unfolding nearestReply resultAfterNearest nearestAnswer
-      answered = go (near .over) refl
-        where
-          go : (b : Bool) → near .over ≡ b → Right r last
-          go true e =
-              let s = short-search area (nearestAnswer t query k) (nearestRefusal t area query k) (nearest-fits t area query k passes valid some) (not-held (nearestTally t query k) area mid near l e) in
-              (short e .0 ∙ s .0, short e .1 ∙ ap (λ (n : ℕ). replicate n zeroEntry) same ∙ s .1)
-          go false e =
-              let s = held-search area (nearestAnswer t query k) (nearestRefusal t area query k) (nearest-fits t area query k passes valid some) (held (nearestTally t query k) area mid near l e) in
-              let rest : length mid - near .kept ≡ length area - length (nearestTally t query k .kept) = omega (arith, same, kept-size e) in (
-                fit e .0 ∙ ap (λ (x : Nearby). record { refusal = 0; found = x .kept; distances = x .count }) (numbers (nearestTally t query k) area mid near l e) ∙ s .0,
-                fit e .1 ∙ ap₂ (λ (xs : List Entry) (n : ℕ). xs ++ replicate n zeroEntry) (front (nearestTally t query k) area mid near l e) rest ∙ s .1,
-              )
+    -- more than the area holds
+    pub refused-short : length area < min k (liveBelow t (suc order)) → Right (record { refusal = noRoom; found = 0; distances = 0 }) (replicate (length area) zeroEntry)
+    unfolding nearestReply resultAfterNearest nearestAnswer
+    refused-short h = short-search area (nearestAnswer t query k) (nearestRefusal t area query k) (nearest-fits t area query k passes valid some) (omega (arith, size))
+
+    -- what the buckets left, where the area holds it
+    module _ (profile : IsProfile query) (p : Passed t) (fits : min k (liveBelow t (suc order)) ≤ length area) (asked : List Row) (e : asked ≡ askedOf (rowAt t headerRow) query k)
+        (mid : List Entry) (near : Nearby) (l : Leaves (kAsked asked) (tallyBelow asked t (suc order) noneKept) area mid near) where
+      tally : Tally
+      tally = nearestTally t query k
+
+      left : Leaves k tally area mid near
+      unfolding tally
+      left =
+          let as-asked = coe 0 1 (i. Leaves (kAsked (e i)) (tallyBelow (e i) t (suc (is i)) noneKept) area mid near) l in
+          coe 0 1 (i. Leaves (threshold-of-row 0 query k 0 i) (tally-all t query k profile i) area mid near) as-asked
+
+      grown : Grown (askedOf (rowAt t headerRow) query k) t (suc (orderOf t)) noneKept tally
+      unfolding tally ordered sortBy
+      grown =
+          subst (Grown (askedOf (rowAt t headerRow) query k) t (suc (orderOf t)) noneKept) (tally-all t query k profile)
+          (grown-below (askedOf (rowAt t headerRow) query k) t p (suc (orderOf t)) (omega arith) noneKept (record { in-order = refl; near = tt }) (omega arith))
+
+      few : length (tally .kept) ≤ k
+      few = omega (arith, grown .few, threshold-of-row 0 query k 0)
+
+      pub kept-is : keptUnder k (near .bound) ≡ length (nearestTally t query k .kept)
+      unfolding tally
+      kept-is = ap (λ (x : Nearby). keptUnder k (x .bound)) (left .0) ∙ under-bound k (tally .kept) few (grown .fit .near)
+
+      -- its numbers fit the reply
+      pub numbers-fit : length mid ≡ length area → k < 2 ^ 32 → (found : ℕ) → found ≡ keptUnder k (near .bound) → (found ≤ length mid) × (found < 2 ^ 32) × (near .count < 2 ^ 32)
+      unfolding tally room
+      numbers-fit same few32 found f = (
+        omega (arith, f, kept-is, size, same),
+        omega (arith, f, kept-is, few),
+        omega (arith, ap (λ (x : Nearby). x .count) (left .0), grown .most, p .framed .order),
+      )
+
+      -- and with zeros after them the entries kept are the answer
+      pub answered : (found : ℕ) → found ≡ keptUnder k (near .bound) → length mid ≡ length area
+          → Right (record { refusal = 0; found = found; distances = near .count }) (take found mid ++ replicate (length mid - found) zeroEntry)
+      unfolding nearestReply resultAfterNearest nearestAnswer tally
+      answered found f same =
+          let n : found ≡ length (tally .kept) = f ∙ kept-is in
+          let s = held-search area (nearestAnswer t query k) (nearestRefusal t area query k) (nearest-fits t area query k passes valid some) (omega (arith, size)) in
+          let rest : length mid - found ≡ length area - length (tally .kept) = omega (arith, same, n) in
+          let front : take found mid ≡ tally .kept = ap₂ (λ (i : ℕ) (xs : List Entry). take i xs) n (left .1) ∙ take-append-seam (tally .kept) (drop (length (tally .kept)) area) in (
+            (λ i. record { refusal = 0; found = n i; distances = left .0 i .count }) ∙ s .0,
+            ap₂ (λ (xs : List Entry) (m : ℕ). xs ++ replicate m zeroEntry) front rest ∙ s .1,
+          )

@@ -1,12 +1,13 @@
--- What a nearest search over a table makes of a tally, bucket by bucket from the top down.
+-- What a nearest search over a table makes of a tally, bucket by bucket from the top down, and how many slots may be reported.
 use Prim.Native.Nat.{ℕ}
-use mathlib.Core.List.{[], foldl, reverse}
-use Rattle.lists.specs.Lists.{countFrom}
-use Rattle.metric_rules.specs.Row.{Row, profileOf, isLive}
-use Rattle.metric_rules.specs.Distance.{distance, spaceOf}
+use mathlib.Core.List.{List, [], map, foldl, reverse}
+use lib.ListN.{length}
+use Rattle.lists.specs.Lists.{countFrom, total}
+use Rattle.metric_rules.specs.Row.{Row, isLive}
 use Rattle.search_rules.specs.Nearest.{Tally, nearestTree}
+use Rattle.search_asked.specs.Asked.{distanceAsked, queryAsked, kAsked}
 use Rattle.table_rules.specs.Geometry.{mostOrder, room}
-use Rattle.table_rules.specs.Table.{Table, slotsOf}
+use Rattle.table_rules.specs.Table.{Table, slotsOf, liveSlots}
 
 -- what a search starts from
 abbrev pub noneKept : Tally
@@ -16,10 +17,14 @@ noneKept = record { kept = []; count = 0 }
 abbrev pub mostSlots : ℕ
 mostSlots = room mostOrder
 
-module _ (header query : Row) (k : ℕ) (t : Table) where
-  -- bucket b's turn
+-- the slots of the buckets below n that may be reported
+unfoldable pub liveBelow : Table → ℕ → ℕ
+liveBelow t n = total (map (λ b. length (liveSlots t b)) (reverse (countFrom 0 n)))
+
+module _ (asked : List Row) (t : Table) where
+  -- bucket b's search
   unfoldable pub bucketTally : ℕ → Tally → Tally
-  bucketTally b tally = nearestTree (distance (spaceOf header)) (profileOf query) isLive k tally (slotsOf t b)
+  bucketTally b tally = nearestTree (distanceAsked asked) (queryAsked asked) isLive (kAsked asked) tally (slotsOf t b)
 
   -- the buckets below n, the highest first
   unfoldable pub tallyBelow : ℕ → Tally → Tally

@@ -1,19 +1,21 @@
-// Nearest over a table: buckets from the top down, the kept entries and the count going through all of them.
+// Nearest over a table: buckets from the top down, the count and the bound going through all of them, the entries kept standing in the area.
 ghost use mathlib.Core.Path.{_≡_};
-ghost use mathlib.Core.Bool.{true, false};
-ghost use mathlib.Core.List.{_++_};
-ghost use Prim.Native.Nat.{_-_, _≤_, _<_, _^_, suc};
-ghost use lib.ListN.{length, take, replicate};
-ghost use Rattle.tree_nearest_few.specs.Nearby.{tallyOf, Ready, Leaves};
+ghost use Prim.Native.Nat.{_≤_, _<_, min, suc};
+ghost use lib.Dec.{leb};
+ghost use lib.ListN.{length};
+ghost use Rattle.metric_rules.specs.Row.{isLive};
+ghost use Rattle.search_asked.specs.Asked.{kAsked};
+ghost use Rattle.tree_nearest.specs.Nearby.{Leaves, liveIn, ReadyAsked, nearestAsked};
 ghost use Rattle.table_rules.specs.Table.{orderOf};
-ghost use Rattle.table_rules.specs.Refusals.{noRoom};
 ghost use Rattle.table_rules.specs.Passed.{Passed};
-ghost use Rattle.table_rules.specs.Search.{zeroEntry, nearestReply, resultAfterNearest};
-ghost use Rattle.table_nearest.specs.Tallies.{noneKept, mostSlots, bucketTally, tallyBelow};
+ghost use Rattle.table_rules.specs.Search.{nearestReply, resultAfterNearest};
+ghost use Rattle.table_nearest.specs.Tallies.{noneKept, liveBelow, tallyBelow};
 use metric::valid_measures;
 use metric_rules::Profile;
 use metric_rules::Row;
-use rows::row_of;
+use rows::is_live;
+use search_asked::Asked;
+use search_asked::asked_of;
 use search_reply::accepted;
 use search_reply::refused;
 use search_reply::too_short;
@@ -26,64 +28,77 @@ use table_rules::Searched;
 use table_views::HEADER_ROW;
 use table_views::order_in;
 use table_views::slots_of;
-use tree_nearest_few::Nearby;
+use tree_nearest::FREE;
+use tree_nearest::Nearby;
+use tree_nearest::kept_of;
 use tree_nearest_tally::visited;
 
-// One bucket's turn, from what the buckets above it have kept, by way of the tally that is lent.
-fn nearest_bucket(
-    table: &[Row],
-    order: Order,
-    bucket: u32,
-    header: &Row,
-    query: &Row,
-    k: u32,
-    area: &mut [Entry],
-    near: Nearby,
-) -> Nearby
-    requires { ⌜ (order .t ≡ orderOf (now table)) × Passed (now table) × (bucket ≤ order .t) × Ready k mostSlots (now area) near ⌝ }
-    ensures { λ r. ⌜ Leaves (bucketTally (now (header .entry)) (now (query .entry)) k (now (table .entry)) bucket (tallyOf (now (area .entry)) near)) (now (area .entry)) (now (area .exit)) r ⌝ }
+// How many of these slots may be reported.
+fn count_live(slots: &[Row]) -> usize
+    ensures { λ r. ⌜ r ≡ liveIn isLive (now (slots .entry)) ⌝ }
 {
-    visited(slots_of(table, order, bucket), header, query, k, area, near)
+    let mut found: usize = 0;
+    let mut i = 0;
+    while i < slots.len() {
+        if is_live(slots[i]) {
+            found += 1;
+        }
+        i += 1;
+    }
+    found
 }
 
-// All buckets, the highest first. An area too short for one is too short for the reply, so the search stops there.
-fn nearest_buckets(
-    table: &[Row],
-    order: Order,
-    header: &Row,
-    query: &Row,
-    k: u32,
-    area: &mut [Entry],
-) -> Nearby
+// How many slots of all buckets may be reported.
+fn count_table(table: &[Row], order: Order) -> usize
     requires { ⌜ (order .t ≡ orderOf (now table)) × Passed (now table) ⌝ }
-    ensures { λ r. ⌜ Leaves (tallyBelow (now (header .entry)) (now (query .entry)) k (now (table .entry)) (suc (order .t)) noneKept) (now (area .entry)) (now (area .exit)) r ⌝ }
+    ensures { λ r. ⌜ r ≡ liveBelow (now (table .entry)) (suc (order .t)) ⌝ }
+{
+    let mut found: usize = 0;
+    let mut bucket = order.t + 1;
+    while 0 < bucket {
+        bucket -= 1;
+        found += count_live(slots_of(table, order, bucket));
+    }
+    found
+}
+
+// Whether so many entries hold the reply. Those of a shorter area than k are counted beforehand, so that a search has room for all that it keeps.
+fn reply_fits(table: &[Row], order: Order, k: u32, entries: usize) -> bool
+    requires { ⌜ (order .t ≡ orderOf (now table)) × Passed (now table) ⌝ }
+    ensures { λ r. ⌜ r ≡ leb (min k (liveBelow (now (table .entry)) (suc (order .t)))) entries ⌝ }
+{
+    if k as usize <= entries {
+        return true;
+    }
+    count_table(table, order) <= entries
+}
+
+// One bucket's slots, from what the buckets above it have kept, by way of the tally that is lent. An empty bucket is searched as no slots.
+fn nearest_bucket(near: Nearby, slots: &[Row], area: &mut [Entry], asked: &Asked) -> Nearby
+    requires { ⌜ ReadyAsked (now asked) (now slots) (now area) near ⌝ }
+    ensures { λ r. ⌜ Leaves (kAsked (now (asked .entry))) (nearestAsked (now (asked .entry)) (now (slots .entry)) (now (area .entry)) near) (now (area .entry)) (now (area .exit)) r ⌝ }
+{
+    if slots.len() == 0 {
+        return near;
+    }
+    visited(near, slots, area, asked)
+}
+
+// All buckets, the highest first.
+fn nearest_buckets(table: &[Row], order: Order, area: &mut [Entry], asked: &Asked) -> Nearby
+    requires { ⌜ (order .t ≡ orderOf (now table)) × Passed (now table) × (0 < kAsked (now asked)) × (min (kAsked (now asked)) (liveBelow (now table) (suc (order .t))) ≤ length (now area)) ⌝ }
+    ensures { λ r. ⌜ Leaves (kAsked (now (asked .entry))) (tallyBelow (now (asked .entry)) (now (table .entry)) (suc (order .t)) noneKept) (now (area .entry)) (now (area .exit)) r ⌝ }
 {
     let mut near = Nearby {
-        kept: 0,
         count: 0,
-        over: false,
+        bound: FREE,
     };
     let mut bucket = order.t + 1;
     while 0 < bucket {
         bucket -= 1;
-        near = nearest_bucket(table, order, bucket, header, query, k, area, near);
-        if near.over {
-            return near;
-        }
+        near = nearest_bucket(near, slots_of(table, order, bucket), area, asked);
     }
     near
-}
-
-// The reply of a search that keeps these entries, or that had to keep more than the area holds.
-fn reply_with(area: &mut [Entry], near: Nearby) -> Searched
-    requires { ⌜ (near .over ≡ false → (near .kept ≤ length (now area)) × (near .kept < 2 ^ 32) × (near .count < 2 ^ 32)) ⌝ }
-    ensures held { λ r. ⌜ (near .over ≡ false → (r ≡ record { refusal = 0; found = near .kept; distances = near .count }) × (now (area .exit) ≡ take (near .kept) (now (area .entry)) ++ replicate (length (now (area .entry)) - near .kept) zeroEntry)) ⌝ }
-    ensures short { λ r. ⌜ (near .over ≡ true → (r ≡ record { refusal = noRoom; found = 0; distances = 0 }) × (now (area .exit) ≡ replicate (length (now (area .entry))) zeroEntry)) ⌝ }
-{
-    if near.over {
-        return too_short(area);
-    }
-    accepted(area, near.kept, near.count)
 }
 
 // RULES 11, nearest over a table: every value of every argument, a table and an area of any length and content.
@@ -101,8 +116,11 @@ pub fn nearest(table: &[Row], result: &mut [Entry], query: Profile, k: u32) -> S
     if k == 0 {
         return refused(NO_COUNT);
     }
-    let header = table[HEADER_ROW];
-    let row = row_of(0, query, 0, 0);
-    let near = nearest_buckets(table, order_in(table), &header, &row, k, result);
-    reply_with(result, near)
+    let order = order_in(table);
+    if !reply_fits(table, order, k, result.len()) {
+        return too_short(result);
+    }
+    let asked = asked_of(table[HEADER_ROW], query, k);
+    let near = nearest_buckets(table, order, result, &asked);
+    accepted(result, kept_of(near.bound, k), near.count)
 }

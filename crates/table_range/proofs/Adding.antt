@@ -13,15 +13,15 @@ use Rattle.metric_rules.specs.Distance.{distance}
 use Rattle.metric_rules.proofs.Codec.{profile-of-row, threshold-of-row}
 use Rattle.tree_range.specs.declared.Found.{Found}
 use Rattle.search_rules.specs.Range.{Entry, Pair, Met, nothing, both, rangeTree}
-use Rattle.tree_range.specs.Asked.{distanceAsked, queryAsked, radiusAsked, rangeAsked}
-use Rattle.tree_range.specs.Collected.{foundAfter, collected}
+use Rattle.search_asked.specs.Asked.{askedOf, distanceAsked, queryAsked, radiusAsked}
+use Rattle.tree_range.specs.Collected.{foundAfter, collected, rangeAsked}
 use Rattle.search_rules.proofs.RangeLaws.{range-pairs, range-count-le, range-hits-le}
 use Rattle.tree_range.proofs.Collecting.{two-steps, found-nothing, collected-nothing}
-use Rattle.table_rules.specs.Geometry.{bucketsOf}
-use Rattle.table_rules.specs.Table.{Table, orderOf, tableSpace, slotsOf}
+use Rattle.table_rules.specs.Geometry.{bucketsOf, headerRow}
+use Rattle.table_rules.specs.Table.{Table, rowAt, orderOf, tableSpace, slotsOf}
 use Rattle.table_rules.specs.Search.{bucketsDown, rangeMet}
 use Rattle.table_rules.proofs.Down.{below, below-next, below-none}
-use Rattle.table_range.specs.Below.{metBelow, askedOf, noneFound}
+use Rattle.table_range.specs.Below.{metBelow, noneFound}
 
 module _ (asked : List Row) (t : Table) where
   met-next : (n : ℕ) → metBelow asked t (suc n) ≡ both (rangeAsked asked (slotsOf t n)) (metBelow asked t n)
@@ -82,7 +82,7 @@ module _ (asked : List Row) (t : Table) where
       (all-append Pair (rangeAsked asked (slotsOf t n) .hits) (metBelow asked t n .hits) (range-pairs (distanceAsked asked) (queryAsked asked) isLive (radiusAsked asked) (slotsOf t n)) (met-pairs n))
 
 -- by what this table and this query ask, all buckets give what the definition of range says
-pub met-all : (t : Table) (query : Profile) (radius : ℕ) → IsProfile query → metBelow (askedOf t query radius) t (suc (orderOf t)) ≡ rangeMet t query radius
+pub met-all : (t : Table) (query : Profile) (radius : ℕ) → IsProfile query → metBelow (askedOf (rowAt t headerRow) query radius) t (suc (orderOf t)) ≡ rangeMet t query radius
 unfolding metBelow rangeMet bucketsDown bucketsOf tableSpace
 met-all t query radius is =
     ap₂ (λ (q : Profile) (r : ℕ). foldr (λ k met. both (rangeTree (distance (tableSpace t)) q isLive r (slotsOf t k)) met) nothing (bucketsDown t))

@@ -15,7 +15,8 @@ use entry_sort::sort_entries;
 use metric::valid_measures;
 use metric_rules::Profile;
 use metric_rules::Row;
-use rows::query_row;
+use search_asked::Asked;
+use search_asked::asked_of;
 use search_reply::accepted;
 use search_reply::refused;
 use search_reply::too_short;
@@ -27,7 +28,6 @@ use table_rules::Searched;
 use table_views::HEADER_ROW;
 use table_views::order_in;
 use table_views::slots_of;
-use tree_range::Asked;
 use tree_range::Found;
 use tree_range::range_tree;
 
@@ -74,7 +74,7 @@ pub fn range(table: &[Row], result: &mut [Entry], query: Profile, radius: u32) -
     if !valid_measures(query) {
         return refused(BAD_MEASURE);
     }
-    let asked = [table[HEADER_ROW], query_row(query, radius)];
+    let asked = asked_of(table[HEADER_ROW], query, radius);
     let found = range_buckets(table, order_in(table), result, &asked);
     reply_with(result, found)
 }

@@ -6,9 +6,10 @@ use lib.ListN.{length, take, drop}
 use lib.Seq.{sets}
 use lib.Dec.{leb}
 use Rattle.metric_rules.specs.declared.Profile.{Profile}
-use Rattle.metric_rules.specs.Row.{Row, tagOf}
+use Rattle.metric_rules.specs.Row.{Row, tagOf, isLive}
 use Rattle.tree_rules.specs.Layout.{leftSize}
 use Rattle.search_rules.specs.Range.{Entry, entry, entersLeft, entersRight, Met, nothing, both, rangeTree}
+use Rattle.search_asked.specs.Asked.{distanceAsked, queryAsked, radiusAsked}
 use Rattle.tree_range.specs.declared.Found.{Found}
 
 -- the numbers before a visit and what it met give the numbers after it
@@ -32,3 +33,7 @@ metInHalves dist query reports radius d m rest =
     both
     (elim (entersLeft d m radius) [ true ↦ rangeTree dist query reports radius (take l rest) | false ↦ nothing ])
     (elim (entersRight d m radius) [ true ↦ rangeTree dist query reports radius (drop l rest) | false ↦ nothing ])
+
+-- range over one tree's slots, by what is asked
+abbrev pub rangeAsked : List Row → List Row → Met
+rangeAsked asked slots = rangeTree (distanceAsked asked) (queryAsked asked) isLive (radiusAsked asked) slots

@@ -3,15 +3,13 @@ ghost use mathlib.Core.Path.{_≡_};
 ghost use Prim.Native.Nat.{_+_, _<_, _^_};
 ghost use lib.ListN.{length};
 ghost use Rattle.metric_rules.specs.Row.{isLive};
-ghost use Rattle.tree_range.specs.Collected.{foundAfter, collected, metAlone, metInHalves};
-ghost use Rattle.tree_range.specs.Asked.{distanceAsked, queryAsked, radiusAsked, rangeAsked};
+ghost use Rattle.search_asked.specs.Asked.{distanceAsked, queryAsked, radiusAsked};
+ghost use Rattle.tree_range.specs.Collected.{foundAfter, collected, metAlone, metInHalves, rangeAsked};
 use metric::distance_between;
 use metric_rules::Row;
 use rows::threshold_of;
+use search_asked::Asked;
 use search_rules::Entry;
-
-// What a range search goes by: the table's header row, and the query as a row whose threshold word is the radius.
-pub type Asked = [Row; 2];
 
 // What a range search hands on: how many hits it found, and how many slots it visited.
 pub struct Found {

@@ -1,23 +1,25 @@
--- `table_nearest::nearest` meets its contract, test by test: a refusal leaves the area, and what the buckets keep is the definition's answer.
+-- `table_nearest::nearest` meets its contract, test by test: a refusal leaves the area, 6 zeroes it, and what the buckets keep is the definition's answer.
 use borrow.Author.Needs.{needs}
-use borrow.Author.Tests.{not-true, not-false}
+use borrow.Author.Tests.{not-true, not-false, leb-true, leb-false}
 use native.Mathlib.Omega.{arith}
-use Prim.Native.Nat.{ℕ, suc, _<_}
-use mathlib.Core.Path.{sym, ap₂, _∙_}
-use mathlib.Core.List.{[]}
-use lib.ListN.{length, getD}
-use Rattle.metric_rules.specs.Row.{Row, IsProfile}
+use Prim.Native.Nat.{ℕ, suc, _-_, _≤_, _<_, _^_, min}
+use mathlib.Core.Path.{_≡_, sym, ap, subst, _∙_}
+use mathlib.Core.Bool.{true}
+use mathlib.Core.List.{_++_}
+use lib.ListN.{length, take, replicate}
+use Rattle.metric_rules.specs.Validity.{validMeasures}
 use Rattle.metric_rules.proofs.Values.{is-profile}
-use Rattle.tree_nearest_few.specs.Nearby.{Leaves}
-use Rattle.tree_nearest_few.proofs.Nearing.{leaves-as}
+use Rattle.metric_rules.proofs.Codec.{threshold-of-row}
+use Rattle.search_asked.specs.Asked.{kAsked}
+use Rattle.tree_nearest.specs.Nearby.{keptUnder}
+use Rattle.table_rules.specs.Checks.{readRefusal}
+use Rattle.table_rules.specs.Search.{nearestReply, resultAfterNearest, zeroEntry}
 use Rattle.table_rules.specs.Geometry.{headerRow, firstSlot, tableRows}
 use Rattle.table_rules.specs.Table.{Table, rowAt}
-use Rattle.table_rules.specs.Search.{nearestTally}
 use Rattle.table_rules.specs.Passed.{Passed}
 use Rattle.table_rules.proofs.Passing.{read-passed}
-use Rattle.table_nearest.specs.Tallies.{tallyBelow, noneKept}
-use Rattle.table_nearest.proofs.Steps.{tally-all}
-use Rattle.table_nearest.proofs.Replying.{refused-table, refused-measure, refused-none, fits, answered}
+use Rattle.table_nearest.specs.Tallies.{liveBelow}
+use Rattle.table_nearest.proofs.Replying.{refused-table, refused-measure, refused-none, refused-short, numbers-fit, answered}
 use Rattle.table_nearest.proofs.nearest.Statement.{statement}
 use Rattle.table_nearest.proofs.nearest.Tie as tie
 
@@ -50,55 +52,95 @@ some-rows : {t : Table} → Passed t → 0 < length t
 unfolding tableRows firstSlot
 some-rows p = omega (arith, p .framed .long)
 
-shared-slice-copy-out-header : tie.Need-shared-slice-copy-out-header
-shared-slice-copy-out-header c = some-rows (passed c)
-
 order-in-requires : tie.Need-order-in-requires
-order-in-requires c κs = some-rows (passed (c .before .before))
+order-in-requires c κs = some-rows (passed c)
 
-nearest-buckets-requires : tie.Need-nearest-buckets-requires
-nearest-buckets-requires c κs = (c .before .before .before .order-in .ensures, passed (c .before .before .before .before .before .before))
+reply-fits-requires : tie.Need-reply-fits-requires
+reply-fits-requires c κs = (c .order-in .ensures, passed (c .before))
 
--- where the tests are passed and where the call begins, from where the buckets have been searched
-abbrev tests : tie.After-nearest-buckets → tie.Else3
-tests c = c .before .before .before .before .before .before .before
+-- the tests that are passed, as equations
+passes : (c : tie.Else3) → readRefusal (c .before .before .before .before .before .args .table .now) ≡ 0
+passes c = sym (c .before .before .before .before .read-refusal .ensures) ∙ c .before .before .before .if1 .left
 
-query-is : (c : tie.After-nearest-buckets) → IsProfile (tests c .before .before .before .before .before .args .query)
-query-is c = is-profile _ _ (tests c .before .before .before .before .before .good .1 .1 .0)
-
--- what the buckets left is told by the definition
-left-by : (c : tie.After-nearest-buckets)
-    → Leaves (nearestTally (tests c .before .before .before .before .before .args .table .now) (tests c .before .before .before .before .before .args .query) (tests c .before .before .before .before .before .args .k))
-    (tests c .before .before .before .before .before .args .result .now)
-    (c .nearest-buckets .last .1 .1 .1 .1 .1 .0)
-    (c .nearest-buckets .result)
-unfolding rowAt headerRow
-left-by c =
-    let a = tests c .before .before .before .before .before .args in
-    let t = a .table .now in
-    leaves-as (a .result .now) _ (c .nearest-buckets .result)
-    (ap₂ (λ (row : Row) (n : ℕ). tallyBelow (getD t 0 []) row (a .k) t (suc n) noneKept) (c .before .before .before .before .before .row-of .ensures) (c .before .before .before .before .order-in .ensures)
-    ∙ tally-all t (a .query) (a .k) (query-is c))
-    (c .nearest-buckets .ensures)
-
-reply-with-requires : tie.Need-reply-with-requires
-reply-with-requires c κs =
-    let call = c .before .before in
-    let s = tests call .before .before .before .before .before in
-    let a = s .args in
-    fits (a .table .now) (a .result .now) (a .query) (a .k) _ (call .nearest-buckets .result) (call .nearest-buckets .kept .1 .1 .1 .1 .1 .0) (left-by call) (passed (tests call)) (query-is call) (omega (arith, s .fits .k))
+valid : (c : tie.Else3) → validMeasures (c .before .before .before .before .before .args .query) ≡ true
+valid c = sym (c .before .before .valid-measures .ensures) ∙ not-false _ (c .before .if2 .left)
 
 returns-4 : tie.Need-returns-4
 returns-4 c =
-    let call = c .before .before .before .before in
-    let e = tests call in
+    let test = c .before .before .before in
+    let order = test .before .before in
+    let e = order .before in
     let a = e .before .before .before .before .before .args in
-    let reply = c .before .reply-with in
-    answered (a .table .now) (a .result .now) (a .query) (a .k) _ (call .nearest-buckets .result) (call .nearest-buckets .kept .1 .1 .1 .1 .1 .0) (left-by call)
-    (sym (e .before .before .before .before .read-refusal .ensures) ∙ e .before .before .before .if1 .left)
-    (sym (e .before .before .valid-measures .ensures) ∙ not-false _ (e .before .if2 .left))
-    (e .if3 .left)
-    (reply .result) (reply .last .0) (reply .ensures .0) (reply .ensures .1)
+    let more = leb-false (min (a .k) (liveBelow (a .table .now) (suc (order .order-in .result .t)))) (length (a .result .now)) (sym (test .before .reply-fits .ensures) ∙ not-true _ (test .if4 .taken)) in
+    let stop = refused-short (a .table .now) (a .result .now) (a .query) (a .k) (passes e) (valid e) (e .if3 .left) (order .order-in .result .t) (order .order-in .ensures) more in
+    (c .before .too-short .ensures .0 ∙ stop .0, c .before .too-short .ensures .1 ∙ stop .1)
+
+-- past the last test the area has room for what will be kept
+fits : (c : tie.Else4) → (let order = c .before .before in
+    let a = order .before .before .before .before .before .before .args in
+    min (a .k) (liveBelow (a .table .now) (suc (order .order-in .result .t))) ≤ length (a .result .now))
+fits c =
+    let order = c .before .before in
+    let a = order .before .before .before .before .before .before .args in
+    leb-true (min (a .k) (liveBelow (a .table .now) (suc (order .order-in .result .t)))) (length (a .result .now)) (sym (c .before .reply-fits .ensures) ∙ not-false _ (c .if4 .left))
+
+nearest-buckets-requires : tie.Need-nearest-buckets-requires
+nearest-buckets-requires c κs =
+    let asked = c .before .before in
+    let test = asked .before .before in
+    let order = test .before .before in
+    let e = order .before in
+    let a = e .before .before .before .before .before .args in
+    let number : kAsked (asked .asked-of .result) ≡ a .k = ap kAsked (asked .asked-of .ensures) ∙ threshold-of-row 0 (a .query) (a .k) 0 in (
+      order .order-in .ensures,
+      passed e,
+      omega (arith, number, e .if3 .left),
+      subst (λ (n : ℕ). min n (liveBelow (a .table .now) (suc (order .order-in .result .t))) ≤ length (a .result .now)) (sym number) (fits test),
+    )
+
+-- what the buckets left is an answer that fits
+module _ (c : tie.After-nearest-buckets) where
+  abbrev test : tie.Else4
+  test = c .before .before .before .before .before
+
+  abbrev e : tie.Else3
+  e = test .before .before .before
+
+  abbrev s : tie.Start
+  s = e .before .before .before .before .before
+
+  same : length (c .nearest-buckets .last .1 .1 .0) ≡ length (s .args .result .now)
+  same = c .nearest-buckets .kept .1 .1 .0
+
+  numbers : (found : ℕ) → found ≡ keptUnder (s .args .k) (c .nearest-buckets .result .bound)
+      → (found ≤ length (c .nearest-buckets .last .1 .1 .0)) × (found < 2 ^ 32) × (c .nearest-buckets .result .count < 2 ^ 32)
+  unfolding rowAt headerRow
+  numbers found f =
+      let a = s .args in
+      let order = test .before .before .order-in in
+      numbers-fit (a .table .now) (a .result .now) (a .query) (a .k) (passes e) (valid e) (e .if3 .left) (order .result .t) (order .ensures) (is-profile (a .query) _ (s .good .1 .1 .0)) (passed e) (fits test)
+      (c .before .before .before .asked-of .result) (c .before .before .before .asked-of .ensures) _ (c .nearest-buckets .result) (c .nearest-buckets .ensures) same (s .fits .k .fits) found f
+
+  answer : (found : ℕ) → found ≡ keptUnder (s .args .k) (c .nearest-buckets .result .bound)
+      → (let a = s .args in
+      let mid = c .nearest-buckets .last .1 .1 .0 in
+      (record { refusal = 0; found = found; distances = c .nearest-buckets .result .count } ≡ nearestReply (a .table .now) (a .result .now) (a .query) (a .k))
+      × (take found mid ++ replicate (length mid - found) zeroEntry ≡ resultAfterNearest (a .table .now) (a .result .now) (a .query) (a .k)))
+  unfolding rowAt headerRow
+  answer found f =
+      let a = s .args in
+      let order = test .before .before .order-in in
+      answered (a .table .now) (a .result .now) (a .query) (a .k) (passes e) (valid e) (e .if3 .left) (order .result .t) (order .ensures) (is-profile (a .query) _ (s .good .1 .1 .0)) (passed e) (fits test)
+      (c .before .before .before .asked-of .result) (c .before .before .before .asked-of .ensures) _ (c .nearest-buckets .result) (c .nearest-buckets .ensures) found f same
+
+accepted-requires : tie.Need-accepted-requires
+accepted-requires c κs = numbers (c .before .before .before) (c .kept-of .result) (c .kept-of .ensures)
+
+returns-5 : tie.Need-returns-5
+returns-5 c =
+    let kept = c .before .before in
+    let a = answer (kept .before .before .before) (kept .kept-of .result) (kept .kept-of .ensures) in
+    (c .before .accepted .ensures .0 ∙ a .0, c .before .accepted .ensures .1 ∙ a .1)
 
 pub nearest-spec : {M : Type 1} → statement M
 nearest-spec =
@@ -112,10 +154,15 @@ nearest-spec =
     returns-2
     (λ c κs. search needs)
     returns-3
-    shared-slice-copy-out-header
-    (λ c κs. search needs)
     order-in-requires
-    nearest-buckets-requires
-    reply-with-requires
+    reply-fits-requires
+    (λ c κs. search needs)
     (λ c. search needs)
-    returns-4)
+    returns-4
+    (λ c. some-rows (passed (c .before .before .before)))
+    (λ c κs. search needs)
+    nearest-buckets-requires
+    (λ c κs. search needs)
+    accepted-requires
+    (λ c. search needs)
+    returns-5)

@@ -1,4 +1,4 @@
--- What is kept and the turns of the buckets below make up the whole search whenever the loop's test is reached. The measure is the number of
+-- What is kept and the searches of the buckets below make up the whole search whenever the loop's test is reached. The measure is the number of
 -- buckets to come.
 use Prim.Native.Nat.{suc, _+_, _-_}
 use native.Mathlib.Omega.{arith}
@@ -6,69 +6,50 @@ use mathlib.Core.Path.{_≡_, refl, _∙_}
 use borrow.Author.Needs.{needs}
 use lib.ListN.{length}
 use Rattle.table_nearest.specs.Tallies.{noneKept, tallyBelow}
-use Rattle.table_nearest.proofs.Steps.{Awaits, bucket-ready, awaits-all, awaits-stop, awaits-next, awaits-end}
+use Rattle.table_nearest.proofs.Searching.{slots-inside, Awaits, bucket-ready, awaits-all, awaits-next, awaits-end}
 use Rattle.table_nearest.proofs.nearest_buckets.Statement.{statement}
 use Rattle.table_nearest.proofs.nearest_buckets.Tie as tie
 
 abbrev Inv-loop : tie.InvT-loop
-Inv-loop table order header query k area₀ near₀ bucket₀ area near bucket =
-    (length area ≡ length area₀) × Awaits header query k table bucket (tallyBelow header query k table (suc (order .t)) noneKept) area₀ area near
+Inv-loop table order area₀ asked near₀ bucket₀ area near bucket =
+    (length area ≡ length area₀) × Awaits asked table bucket (tallyBelow asked table (suc (order .t)) noneKept) area₀ area near
 
 abbrev μ-loop : tie.MeasureT-loop
-μ-loop table order header query k area₀ near₀ bucket₀ area near bucket = bucket
-
-add-bucket : tie.Need-add-bucket Inv-loop μ-loop
-add-bucket c = omega (arith, c .before .pre .0, c .before .pre .1 .framed .order)
+μ-loop table order area₀ asked near₀ bucket₀ area near bucket = bucket
 
 loop-holds : tie.Need-loop-holds Inv-loop μ-loop
 loop-holds c =
     let s = c .before in
     let a = s .args in
     let all : a .order .t + 1 ≡ suc (a .order .t) = omega arith in
-    (refl, awaits-all (a .header .now) (a .query .now) (a .k) (a .table .now) (s .pre .1) (a .order .t + 1) (suc (a .order .t)) all (omega (arith, s .pre .0)) (a .area .now))
+    (refl, awaits-all (a .asked .now) (a .table .now) (s .pre .1) (s .pre .2) (a .order .t + 1) (suc (a .order .t)) all (omega (arith, s .pre .0)) (a .area .now) (s .pre .3))
+
+slots-of-requires : tie.Need-slots-of-requires Inv-loop μ-loop
+slots-of-requires c κs =
+    let s = c .before .before .before in
+    slots-inside (s .args .table .now) (s .pre .1) (s .args .order .t) (c .before .loop .bucket - 1) (s .pre .0) (omega (arith, s .pre .0, c .before .loop .inv .1 .least))
 
 nearest-bucket-requires : tie.Need-nearest-bucket-requires Inv-loop μ-loop
 nearest-bucket-requires c κs =
-    let l = c .before .before .loop in
-    let s = c .before .before .before .before in
-    let a = s .args in
+    let l = c .before .before .before .loop in
+    let s = c .before .before .before .before .before in
     let one : l .bucket ≡ suc (l .bucket - 1) = omega arith in
-    (s .pre .0, s .pre .1, omega (arith, s .pre .0, l .inv .1 .least), bucket-ready (a .header .now) (a .query .now) (a .k) (a .table .now) one (l .inv .1))
-
-same-length : tie.Need-same-length Inv-loop μ-loop
-same-length c = c .before .before .nearest-bucket .kept .1 .1 .1 .1 .1 .1 .0 ∙ c .before .before .before .before .before .loop .inv .0
-
-returns : tie.Need-returns Inv-loop μ-loop
-returns c =
-    let call = c .before .before .nearest-bucket in
-    let l = c .before .before .before .before .before .loop in
-    let s = c .before .before .before .before .before .before .before in
-    let a = s .args in
-    let one : l .bucket ≡ suc (l .bucket - 1) = omega arith in
-    awaits-stop (a .header .now) (a .query .now) (a .k) (a .table .now) (s .pre .1) one (l .inv .1) _ (call .result) (call .ensures) (c .if1 .taken)
-
-loop-less : tie.Need-loop-less Inv-loop μ-loop
-loop-less c = omega arith
+    bucket-ready (s .args .asked .now) (s .args .table .now) (s .pre .1) one (l .inv .1) (c .before .slots-of .ensures)
 
 loop-again : tie.Need-loop-again Inv-loop μ-loop
 loop-again c =
-    let call = c .before .before .nearest-bucket in
+    let call = c .before .nearest-bucket in
+    let slots = c .before .before .before .slots-of in
     let l = c .before .before .before .before .before .loop in
     let s = c .before .before .before .before .before .before .before in
-    let a = s .args in
-    let one : l .bucket ≡ suc (l .bucket - 1) = omega arith in (
-      call .kept .1 .1 .1 .1 .1 .1 .0 ∙ l .inv .0,
-      awaits-next (a .header .now) (a .query .now) (a .k) (a .table .now) (s .pre .1) one (l .inv .1) _ (call .result) (call .ensures) (c .if1 .left),
-    )
+    let one : l .bucket ≡ suc (l .bucket - 1) = omega arith in
+    (call .kept .1 .1 .0 ∙ l .inv .0, awaits-next (s .args .asked .now) (s .args .table .now) (s .pre .1) one (l .inv .1) (slots .ensures) _ (call .result) (call .ensures))
 
-same-length-2 : tie.Need-same-length-2 Inv-loop μ-loop
-same-length-2 c = c .before .loop .inv .0
-
-returns-2 : tie.Need-returns-2 Inv-loop μ-loop
-returns-2 c =
+returns : tie.Need-returns Inv-loop μ-loop
+returns c =
     let a = c .before .before .before .args in
     let none-left : c .before .loop .bucket ≡ 0 = omega arith in
-    awaits-end (a .header .now) (a .query .now) (a .k) (a .table .now) none-left (c .before .loop .inv .1)
+    awaits-end (a .asked .now) (a .table .now) none-left (c .before .loop .inv .1)
 
 pub nearest-buckets-spec : {M : Type 1} → statement M
 nearest-buckets-spec =
@@ -76,13 +57,12 @@ nearest-buckets-spec =
     (tie.spec
     Inv-loop
     μ-loop
-    add-bucket
+    (λ c. omega (arith, c .before .pre .0, c .before .pre .1 .framed .order))
     loop-holds
     (λ c. search needs)
+    slots-of-requires
     nearest-bucket-requires
-    same-length
-    returns
-    loop-less
+    (λ c. omega arith)
     loop-again
-    same-length-2
-    returns-2)
+    (λ c. c .before .loop .inv .0)
+    returns)

@@ -4,8 +4,8 @@ use borrow.Author.Tests.{not-true, not-false}
 use native.Mathlib.Omega.{arith}
 use Prim.Native.Nat.{ℕ, suc, _<_}
 use mathlib.Core.Path.{_≡_, sym, ap₂, _∙_}
-use mathlib.Core.List.{[], _∷_}
-use lib.ListN.{length, getD}
+use mathlib.Core.List.{List}
+use lib.ListN.{length}
 use Rattle.metric_rules.specs.Row.{Row}
 use Rattle.metric_rules.proofs.Values.{is-profile}
 use Rattle.table_rules.specs.Geometry.{headerRow, firstSlot, tableRows}
@@ -40,8 +40,8 @@ some-rows : {t : Table} → Passed t → 0 < length t
 unfolding tableRows firstSlot
 some-rows p = omega (arith, p .framed .long)
 
-shared-slice-copy-out-t11 : tie.Need-shared-slice-copy-out-t11
-shared-slice-copy-out-t11 c = some-rows (passed c)
+shared-slice-copy-out-asked-of : tie.Need-shared-slice-copy-out-asked-of
+shared-slice-copy-out-asked-of c = some-rows (passed c)
 
 order-in-requires : tie.Need-order-in-requires
 order-in-requires c κs = some-rows (passed (c .before .before))
@@ -54,21 +54,21 @@ unfolding rowAt headerRow
 returns-3 c =
     let call = c .before .before .before .before in
     let order = call .before .before .before .order-in in
-    let asked = call .before .before .before .before .query-row in
+    let asked = call .before .before .before .before .asked-of in
     let e = call .before .before .before .before .before .before in
     let s = e .before .before .before .before in
     let a = s .args in
     let t = a .table .now in
-    let met = metBelow (getD t 0 [] ∷ asked .result ∷ []) t (suc (order .result .t)) in
+    let met = metBelow (asked .result) t (suc (order .result .t)) in
     let is : met ≡ rangeMet t (a .query) (a .radius) =
-    ap₂ (λ (row : Row) (n : ℕ). metBelow (getD t 0 [] ∷ row ∷ []) t (suc n)) (asked .ensures) (order .ensures)
+    ap₂ (λ (rows : List Row) (n : ℕ). metBelow rows t (suc n)) (asked .ensures) (order .ensures)
     ∙ met-all t (a .query) (a .radius) (is-profile (a .query) _ (s .good .1 .1 .0))
     in
     let reply = c .before .reply-with in
     answered t (a .result .now) (a .query) (a .radius)
     (sym (e .before .before .before .read-refusal .ensures) ∙ e .before .before .if1 .left)
     (sym (e .before .valid-measures .ensures) ∙ not-false _ (e .if2 .left))
-    (call .range-buckets .result) (call .range-buckets .last .1 .1 .0) met is (met-pairs (getD t 0 [] ∷ asked .result ∷ []) t (suc (order .result .t)))
+    (call .range-buckets .result) (call .range-buckets .last .1 .1 .0) met is (met-pairs (asked .result) t (suc (order .result .t)))
     (call .range-buckets .ensures .0) (call .range-buckets .ensures .1 .0)
     (reply .result) (reply .last .0) (reply .ensures .0) (reply .ensures .1 .0) (reply .ensures .1 .1)
 
@@ -82,7 +82,7 @@ range-spec =
     (λ c κs. search needs)
     (λ c κs. search needs)
     returns-2
-    shared-slice-copy-out-t11
+    shared-slice-copy-out-asked-of
     (λ c κs. search needs)
     order-in-requires
     range-buckets-requires

@@ -9,8 +9,7 @@ use lib.ListN.{length}
 use Rattle.metric_rules.specs.Row.{Row}
 use Rattle.tree_range.specs.declared.Found.{Found}
 use Rattle.search_rules.specs.Range.{Entry}
-use Rattle.tree_range.specs.Asked.{rangeAsked}
-use Rattle.tree_range.specs.Collected.{foundAfter, collected}
+use Rattle.tree_range.specs.Collected.{foundAfter, collected, rangeAsked}
 use Rattle.table_rules.specs.Geometry.{firstSlot}
 use Rattle.table_rules.specs.Table.{Table, builtOf}
 use Rattle.table_rules.proofs.Passing.{built-inside}

@@ -13,8 +13,8 @@ use Rattle.tree_rules.specs.Layout.{leftSize}
 use Rattle.search_rules.specs.Range.{Met, nothing, entersLeft, entersRight, toQuery}
 use Rattle.search_rules.proofs.RangeLaws.{ifEntered, range-count-le, range-hits-le}
 use Rattle.tree_range.specs.declared.Found.{Found}
-use Rattle.tree_range.specs.Asked.{distanceAsked, queryAsked, radiusAsked, rangeAsked}
-use Rattle.tree_range.specs.Collected.{foundAfter, collected, metAlone, metInHalves}
+use Rattle.search_asked.specs.Asked.{distanceAsked, queryAsked, radiusAsked}
+use Rattle.tree_range.specs.Collected.{foundAfter, collected, metAlone, metInHalves, rangeAsked}
 use Rattle.tree_range.proofs.Collecting.{tree-empty, empty-half, entered, skipped, half-found, found-nothing, collected-nothing, collected-length, alone-found, two-steps, tree-visit}
 use Prim.Native.Nat.{ℕ, suc, _+_, _-_, _*_, _/_, _^_, _<_}
 use native.Mathlib.Omega.{arith}

@@ -1,3 +1,0 @@
--- The parts that wait for their turn.
-pub mod Pending
-pub mod Sending
