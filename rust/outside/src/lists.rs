@@ -4,7 +4,7 @@ use std::collections::BTreeMap;
 
 use reference::image::bytes;
 use reference::item::{Profile, ROW_WORDS, Row, Slot};
-use reference::refusal::SHORT;
+use reference::refusal::SHORT_AREA;
 use reference::table::{Table, capacity, first_row, table_rows};
 
 use crate::calls::{Areas, Call, Reply, compare};
@@ -88,7 +88,7 @@ pub fn list(random: &mut Random, order: u32, metric: u32, calls: usize) -> Tally
         let reply = compare(&call, &mut areas, random);
         tally.note(&call, &reply);
         keep(&mut left, areas.table);
-        if reply.refusal >= SHORT && random.one_in(3) {
+        if reply.refusal >= SHORT_AREA && random.one_in(3) {
             left = start(random, order, metric);
         }
     }

@@ -4,7 +4,9 @@
 use crate::image;
 use crate::item::{MAX_METRIC, MAX_ORDER, Profile, check_measures, check_tag, distance};
 use crate::list::{self, ListRead};
-use crate::refusal::{ABSENT, COUNT, FULL, LIVE, METRIC, ORDER, ROOM, Refused, SHORT, ensure};
+use crate::refusal::{
+    ALREADY_LIVE, BAD_METRIC, BAD_ORDER, FULL, NO_COUNT, NO_ROOM, NOT_LIVE, Refused, SHORT_AREA, ensure,
+};
 use crate::table::{Bucket, capacity, table_rows};
 use crate::tree::Hit;
 
@@ -22,9 +24,9 @@ pub struct Book {
 impl Book {
     /// Order and metric as given, no items.
     pub fn fresh(&mut self, rows: usize, order: u32, metric: u32) -> Result<(), Refused> {
-        ensure(order <= MAX_ORDER, ORDER)?;
-        ensure(metric <= MAX_METRIC, METRIC)?;
-        ensure(rows >= table_rows(order), SHORT)?;
+        ensure(order <= MAX_ORDER, BAD_ORDER)?;
+        ensure(metric <= MAX_METRIC, BAD_METRIC)?;
+        ensure(rows >= table_rows(order), SHORT_AREA)?;
         *self = Book { order, metric, items: vec![] };
         Ok(())
     }
@@ -39,7 +41,7 @@ impl Book {
     }
 
     fn check_areas(&self, rows: usize, work: usize) -> Result<(), Refused> {
-        ensure(rows >= table_rows(self.order) && work >= capacity(self.order), SHORT)
+        ensure(rows >= table_rows(self.order) && work >= capacity(self.order), SHORT_AREA)
     }
 
     fn check_table(&self, rows: usize) -> Result<(), Refused> {
@@ -55,7 +57,7 @@ impl Book {
         self.check_areas(rows, work)?;
         check_tag(tag)?;
         check_measures(&profile)?;
-        ensure(self.find(tag).is_none(), LIVE)?;
+        ensure(self.find(tag).is_none(), ALREADY_LIVE)?;
         ensure(self.items.len() < capacity(self.order), FULL)?;
         self.items.push((tag, profile));
         Ok(())
@@ -70,7 +72,7 @@ impl Book {
     pub fn remove(&mut self, rows: usize, work: usize, tag: u64) -> Result<(), Refused> {
         self.check_areas(rows, work)?;
         check_tag(tag)?;
-        let at = self.find(tag).ok_or(ABSENT)?;
+        let at = self.find(tag).ok_or(NOT_LIVE)?;
         self.items.swap_remove(at);
         Ok(())
     }
@@ -79,7 +81,7 @@ impl Book {
     pub fn look_up(&self, rows: usize, tag: u64) -> Result<Profile, Refused> {
         self.check_table(rows)?;
         check_tag(tag)?;
-        self.find(tag).map(|at| self.items[at].1).ok_or(ABSENT)
+        self.find(tag).map(|at| self.items[at].1).ok_or(NOT_LIVE)
     }
 
     // Every item by distance, then tag.
@@ -96,7 +98,7 @@ impl Book {
         check_measures(query)?;
         let mut hits = self.by_distance(query);
         hits.retain(|hit| hit.0 <= radius);
-        ensure(hits.len() <= room, ROOM)?;
+        ensure(hits.len() <= room, NO_ROOM)?;
         Ok(hits)
     }
 
@@ -104,10 +106,10 @@ impl Book {
     pub fn nearest(&self, rows: usize, room: usize, query: &Profile, k: u32) -> Result<Vec<Hit>, Refused> {
         self.check_table(rows)?;
         check_measures(query)?;
-        ensure(k != 0, COUNT)?;
+        ensure(k != 0, NO_COUNT)?;
         let mut hits = self.by_distance(query);
         hits.truncate(k as usize);
-        ensure(hits.len() <= room, ROOM)?;
+        ensure(hits.len() <= room, NO_ROOM)?;
         Ok(hits)
     }
 }

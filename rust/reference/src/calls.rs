@@ -3,7 +3,9 @@
 use crate::image;
 use crate::item::{Entry, MAX_METRIC, MAX_ORDER, Profile, ROW_WORDS, Row, Slot, check_measures, check_tag};
 use crate::list::{self, ListRead};
-use crate::refusal::{ABSENT, COUNT, FULL, LIVE, METRIC, ORDER, ROOM, Refused, SHORT, ensure};
+use crate::refusal::{
+    ALREADY_LIVE, BAD_METRIC, BAD_ORDER, FULL, NO_COUNT, NO_ROOM, NOT_LIVE, Refused, SHORT_AREA, ensure,
+};
 use crate::table::{Bucket, Table, capacity, first_row, put_bucket, put_sizes, put_table, table_rows};
 use crate::tree::{Search, Wanted, cost, layout};
 
@@ -14,9 +16,9 @@ pub type Searched = (u32, u32);
 
 /// An empty table of this order and metric.
 pub fn fresh(table: &mut [Row], order: u32, metric: u32) -> Result<(), Refused> {
-    ensure(order <= MAX_ORDER, ORDER)?;
-    ensure(metric <= MAX_METRIC, METRIC)?;
-    ensure(table.len() >= table_rows(order), SHORT)?;
+    ensure(order <= MAX_ORDER, BAD_ORDER)?;
+    ensure(metric <= MAX_METRIC, BAD_METRIC)?;
+    ensure(table.len() >= table_rows(order), SHORT_AREA)?;
     let buckets = vec![Bucket::default(); order as usize + 1];
     put_table(table, &Table { order, metric, buckets });
     Ok(())
@@ -34,7 +36,7 @@ pub fn add(rows: &mut [Row], work: &mut [Row], tag: u64, profile: Profile) -> Re
     let table = Table::open_to_change(rows, work)?;
     check_tag(tag)?;
     check_measures(&profile)?;
-    ensure(table.find(tag).is_none(), LIVE)?;
+    ensure(table.find(tag).is_none(), ALREADY_LIVE)?;
     ensure(table.live() < capacity(table.order), FULL)?;
     let empty = table.buckets.iter().position(|bucket| !bucket.in_use());
     let k = empty.unwrap_or(table.order as usize + 1);
@@ -55,7 +57,7 @@ pub fn read_list(rows: &mut [Row], work: &mut [Row], bytes: &[u8]) -> ListRead {
 pub fn remove(rows: &mut [Row], work: &mut [Row], tag: u64) -> Result<u32, Refused> {
     let mut table = Table::open_to_change(rows, work)?;
     check_tag(tag)?;
-    let (k, slot) = table.find(tag).ok_or(ABSENT)?;
+    let (k, slot) = table.find(tag).ok_or(NOT_LIVE)?;
     let bucket = &mut table.buckets[k];
     bucket.slots[slot].mark = 1;
     bucket.live -= 1;
@@ -107,7 +109,7 @@ fn rebuild(
 pub fn look_up(rows: &[Row], tag: u64) -> Result<(u32, Profile), Refused> {
     let table = Table::open(rows, |_| true)?;
     check_tag(tag)?;
-    let (k, slot) = table.find(tag).ok_or(ABSENT)?;
+    let (k, slot) = table.find(tag).ok_or(NOT_LIVE)?;
     Ok((k as u32, table.buckets[k].slots[slot].profile))
 }
 
@@ -122,7 +124,7 @@ pub fn range(rows: &[Row], result: &mut [Entry], query: Profile, radius: u32) ->
 pub fn nearest(rows: &[Row], result: &mut [Entry], query: Profile, k: u32) -> Result<Searched, Refused> {
     let table = Table::open(rows, |_| true)?;
     check_measures(&query)?;
-    ensure(k != 0, COUNT)?;
+    ensure(k != 0, NO_COUNT)?;
     search(&table, result, query, Wanted::Nearest(k))
 }
 
@@ -132,7 +134,7 @@ fn search(table: &Table, result: &mut [Entry], query: Profile, wanted: Wanted) -
         search.visit(&bucket.slots);
     }
     result.fill([0; 2]);
-    ensure(search.hits.len() <= result.len(), ROOM)?;
+    ensure(search.hits.len() <= result.len(), NO_ROOM)?;
     for (entry, (distance, tag)) in result.iter_mut().zip(&search.hits) {
         *entry = [*tag, *distance as u64];
     }
@@ -142,7 +144,7 @@ fn search(table: &Table, result: &mut [Entry], query: Profile, wanted: Wanted) -
 /// Writes the image and gives its length.
 pub fn write(rows: &[Row], area: &mut [u8]) -> Result<u32, Refused> {
     let bytes = image::bytes(&Table::open(rows, |_| true)?);
-    ensure(area.len() >= bytes.len(), ROOM)?;
+    ensure(area.len() >= bytes.len(), NO_ROOM)?;
     area[..bytes.len()].copy_from_slice(&bytes);
     Ok(bytes.len() as u32)
 }

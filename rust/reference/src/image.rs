@@ -3,7 +3,7 @@
 use std::collections::HashSet;
 
 use crate::item::{MAX_METRIC, MAX_ORDER, Profile, Slot, check_measures, check_tag};
-use crate::refusal::{IMAGE, LENGTH, METRIC, ORDER, Refused, SHORT, TABLE, ensure};
+use crate::refusal::{BAD_IMAGE, BAD_LENGTH, BAD_METRIC, BAD_ORDER, BAD_TABLE, Refused, SHORT_AREA, ensure};
 use crate::table::{Bucket, Table, sizes_pass, table_rows};
 use crate::tree::is_layout;
 
@@ -69,21 +69,21 @@ impl Reader<'_> {
 
 /// The table of an image, to be put into so many rows; every check in its order.
 pub fn read(bytes: &[u8], rows: usize) -> Result<Table, Refused> {
-    ensure(bytes.len() >= 4, LENGTH)?;
+    ensure(bytes.len() >= 4, BAD_LENGTH)?;
     let mut reader = Reader(bytes);
     let [order, metric, zeros @ ..] = reader.take::<4>();
     let (order, metric) = (order as u32, metric as u32);
-    ensure(order <= MAX_ORDER, ORDER)?;
-    ensure(metric <= MAX_METRIC, METRIC)?;
-    ensure(zeros == [0; 2], IMAGE)?;
-    ensure(reader.0.len() >= 4 * (order as usize + 1), LENGTH)?;
+    ensure(order <= MAX_ORDER, BAD_ORDER)?;
+    ensure(metric <= MAX_METRIC, BAD_METRIC)?;
+    ensure(zeros == [0; 2], BAD_IMAGE)?;
+    ensure(reader.0.len() >= 4 * (order as usize + 1), BAD_LENGTH)?;
     let sizes: Vec<_> = (0..=order).map(|_| reader.size()).collect();
-    ensure(sizes_pass(order, &sizes), TABLE)?;
+    ensure(sizes_pass(order, &sizes), BAD_TABLE)?;
     let total: usize = sizes.iter().map(|size| size.0 as usize).sum();
-    ensure(reader.0.len() == 48 * total, LENGTH)?;
-    ensure(rows >= table_rows(order), SHORT)?;
+    ensure(reader.0.len() == 48 * total, BAD_LENGTH)?;
+    ensure(rows >= table_rows(order), SHORT_AREA)?;
     let table = Table { order, metric, buckets: buckets(&mut reader, &sizes, total) };
-    ensure(is_sound(&table), IMAGE)?;
+    ensure(is_sound(&table), BAD_IMAGE)?;
     Ok(table)
 }
 

@@ -1,6 +1,6 @@
 //! Tags, profiles and slots, the three distances, and a slot's row.
 
-use crate::refusal::{MEASURE, Refused, TAG, ensure};
+use crate::refusal::{BAD_MEASURE, BAD_TAG, Refused, ensure};
 
 /// The words of a row: the header's `VPINDEX_ROW_WORDS`, as `vpindex::ffi::ROW_WORDS` is.
 pub const ROW_WORDS: usize = 12;
@@ -84,12 +84,12 @@ fn halves(n: u64) -> [u32; 2] {
 
 /// The tag's form: country 1 to 999, and a national number of 38 bits.
 pub fn check_tag(tag: u64) -> Result<(), Refused> {
-    ensure((1..=999).contains(&(tag / COUNTRY)) && tag % COUNTRY <= MAX_NATIONAL, TAG)
+    ensure((1..=999).contains(&(tag / COUNTRY)) && tag % COUNTRY <= MAX_NATIONAL, BAD_TAG)
 }
 
 /// The measures' range.
 pub fn check_measures(profile: &Profile) -> Result<(), Refused> {
-    ensure(profile.measures.iter().all(|m| m.unsigned_abs() <= MAX_MEASURE), MEASURE)
+    ensure(profile.measures.iter().all(|m| m.unsigned_abs() <= MAX_MEASURE), BAD_MEASURE)
 }
 
 /// The distance of two profiles by a metric.

@@ -1,7 +1,7 @@
 //! Herd lists as a scale head writes them.
 
 use crate::item::Profile;
-use crate::refusal::{LIST_HEADER, LIST_LINE, Refused};
+use crate::refusal::{BAD_LIST_HEADER, BAD_LIST_LINE, Refused};
 
 /// The header line, its line feed with it.
 pub const HEADER: &[u8] = b"tag;kg;hip;girth;gain\n";
@@ -23,10 +23,10 @@ pub struct ListRead {
 pub fn read(list: &[u8], mut add: impl FnMut(u64, Profile) -> Result<u32, Refused>) -> ListRead {
     let mut read = ListRead::default();
     let Some(lines) = list.strip_prefix(HEADER) else {
-        return ListRead { refusal: LIST_HEADER, line: 1, ..read };
+        return ListRead { refusal: BAD_LIST_HEADER, line: 1, ..read };
     };
     for (number, line) in (2..).zip(lines.split_inclusive(|byte| *byte == b'\n')) {
-        match item(line).ok_or(LIST_LINE).and_then(|(tag, profile)| add(tag, profile)) {
+        match item(line).ok_or(BAD_LIST_LINE).and_then(|(tag, profile)| add(tag, profile)) {
             Ok(distances) => (read.added, read.distances) = (read.added + 1, read.distances + distances),
             Err(refusal) => return ListRead { refusal, line: number, ..read },
         }

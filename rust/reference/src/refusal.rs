@@ -1,35 +1,35 @@
 //! RULES 14.1: the numbers by which a call is refused.
 
 /// Tag outside its form.
-pub const TAG: u32 = 1;
+pub const BAD_TAG: u32 = 1;
 /// A measure outside its range.
-pub const MEASURE: u32 = 2;
+pub const BAD_MEASURE: u32 = 2;
 /// Order above the largest.
-pub const ORDER: u32 = 3;
+pub const BAD_ORDER: u32 = 3;
 /// Unknown metric.
-pub const METRIC: u32 = 4;
+pub const BAD_METRIC: u32 = 4;
 /// Nearest with k = 0.
-pub const COUNT: u32 = 5;
+pub const NO_COUNT: u32 = 5;
 /// Result area too short.
-pub const ROOM: u32 = 6;
+pub const NO_ROOM: u32 = 6;
 /// Image length wrong.
-pub const LENGTH: u32 = 7;
+pub const BAD_LENGTH: u32 = 7;
 /// Fields or trees of an image break a rule.
-pub const IMAGE: u32 = 8;
+pub const BAD_IMAGE: u32 = 8;
 /// Tag already live.
-pub const LIVE: u32 = 20;
+pub const ALREADY_LIVE: u32 = 20;
 /// Tag not live.
-pub const ABSENT: u32 = 21;
+pub const NOT_LIVE: u32 = 21;
 /// 2^T items live.
 pub const FULL: u32 = 22;
 /// A lent table or work area too short.
-pub const SHORT: u32 = 23;
+pub const SHORT_AREA: u32 = 23;
 /// Sizes, order, metric or marks break the rules.
-pub const TABLE: u32 = 24;
+pub const BAD_TABLE: u32 = 24;
 /// A herd list's header differs or lacks its line feed.
-pub const LIST_HEADER: u32 = 30;
+pub const BAD_LIST_HEADER: u32 = 30;
 /// A line of a herd list is not of the form.
-pub const LIST_LINE: u32 = 31;
+pub const BAD_LIST_LINE: u32 = 31;
 
 /// A refusal is an error by its number.
 pub type Refused = u32;

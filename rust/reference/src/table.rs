@@ -1,7 +1,7 @@
 //! A table read from its rows, and the rows written where a call changes them.
 
 use crate::item::{MAX_METRIC, MAX_ORDER, ROW_WORDS, Row, Slot};
-use crate::refusal::{Refused, SHORT, TABLE, ensure};
+use crate::refusal::{BAD_TABLE, Refused, SHORT_AREA, ensure};
 
 /// A bucket as its size row and its built slots say.
 #[derive(Clone, Debug, Default, PartialEq, Eq)]
@@ -79,12 +79,12 @@ impl Table {
     /// Reads a lent table: no rows, order and metric, length, sizes are checked in this order. `needs` says whether the
     /// other areas that go by the order are long enough.
     pub fn open(rows: &[Row], needs: impl Fn(u32) -> bool) -> Result<Table, Refused> {
-        let header = rows.first().ok_or(SHORT)?;
+        let header = rows.first().ok_or(SHORT_AREA)?;
         let (order, metric) = (header[0], header[1]);
-        ensure(order <= MAX_ORDER && metric <= MAX_METRIC, TABLE)?;
-        ensure(rows.len() >= table_rows(order) && needs(order), SHORT)?;
+        ensure(order <= MAX_ORDER && metric <= MAX_METRIC, BAD_TABLE)?;
+        ensure(rows.len() >= table_rows(order) && needs(order), SHORT_AREA)?;
         let sizes: Vec<_> = rows[1..=order as usize + 1].iter().map(|row| (row[0], row[1])).collect();
-        ensure(sizes_pass(order, &sizes), TABLE)?;
+        ensure(sizes_pass(order, &sizes), BAD_TABLE)?;
         let buckets = sizes.into_iter().enumerate().map(|(k, size)| Bucket::read(order, k, size, rows)).collect();
         Ok(Table { order, metric, buckets })
     }
@@ -92,7 +92,7 @@ impl Table {
     /// Reads a lent table that is to be changed: the work area is needed, and the marks are checked too.
     pub fn open_to_change(rows: &[Row], work: &[Row]) -> Result<Table, Refused> {
         let table = Table::open(rows, |order| work.len() >= capacity(order))?;
-        ensure(table.buckets.iter().all(Bucket::marks_pass), TABLE)?;
+        ensure(table.buckets.iter().all(Bucket::marks_pass), BAD_TABLE)?;
         Ok(table)
     }
 
