@@ -1,4 +1,4 @@
--- `table_shrink::settle` meets its contract: each return is a case of the definition, by the tests that led there.
+-- `table_shrink::shrink` meets its contract: each return is a case of the definition, by the tests that led there.
 use borrow.Author.Needs.{needs}
 use native.Mathlib.Omega.{arith}
 use mathlib.Core.Path.{sym, _∙_, ap}
