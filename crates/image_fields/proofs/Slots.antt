@@ -13,7 +13,7 @@ use Rattle.lists.proofs.Tests.{and-second}
 use Rattle.metric_rules.specs.Row.{Row, tagOf, profileOf, markOf, isLive}
 use Rattle.metric_rules.specs.Validity.{validTag, validMeasures}
 use Rattle.image_rules.specs.Load.{fieldsPass}
-use Rattle.gather.proofs.Selected.{selected-next, passed-over}
+use Rattle.rows.proofs.Selected.{selected-next, passed-over}
 
 -- a slot that passes has a mark of 0 or 1
 pub mark-most : (row : Row) → fieldsPass row ≡ true → markOf row ≤ 1

@@ -133,7 +133,7 @@ fn between(metric: u32, a: Row, b: Row) -> u64 {
 }
 
 fn to_query(metric: u32, a: Row, query: Profile) -> u64 {
-    between(metric, a, rows::query_row(query, 0))
+    between(metric, a, rows::row_of(0, query, 0, 0))
 }
 
 // The distances of objects i and j: by each metric and by a number that is none, then from a row to a query.

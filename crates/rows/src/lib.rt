@@ -1,9 +1,12 @@
-// The row codec: a row from its fields, and each field of a row.
+// The row codec: a row from its fields, and each field of a row. Rows zeroed, and live ones gathered into a work area.
 ghost use mathlib.Core.Path.{_≡_};
-ghost use Prim.Native.Nat.{_+_, _*_, _/_, _%_, _^_};
+ghost use Prim.Native.Nat.{_+_, _*_, _/_, _%_, _^_, _≤_};
 ghost use mir.Syntax.{w32};
 ghost use mir.Val.{toZ, ofZ};
-ghost use Rattle.metric_rules.specs.Row.{tagOf, profileOf, thresholdOf, markOf, isLive, rowOf, newRow, queryRow, mayReport};
+ghost use lib.ListN.{length, replicate};
+ghost use lib.Seq.{sets};
+ghost use Rattle.lists.specs.Lists.{select};
+ghost use Rattle.metric_rules.specs.Row.{tagOf, profileOf, thresholdOf, markOf, isLive, rowOf, newRow, zeroRow};
 use metric_rules::CODE_0_HIGH;
 use metric_rules::CODE_0_LOW;
 use metric_rules::CODE_1_HIGH;
@@ -14,6 +17,7 @@ use metric_rules::MEASURE_1;
 use metric_rules::MEASURE_2;
 use metric_rules::MEASURE_3;
 use metric_rules::Profile;
+use metric_rules::ROW_WIDTH;
 use metric_rules::Row;
 use metric_rules::TAG_HIGH;
 use metric_rules::TAG_LOW;
@@ -129,16 +133,31 @@ pub fn new_row(tag: u64, profile: Profile) -> Row
     row_of(tag, profile, 0, 0)
 }
 
-// The row that a search makes of its query: no tag, and the radius in the threshold's place.
-pub fn query_row(query: Profile, radius: u32) -> Row
-    ensures { λ r. ⌜ r ≡ queryRow query radius ⌝ }
+// Every row becomes zero.
+pub fn zero_rows(rows: &mut [Row])
+    ensures { λ _. ⌜ now (rows .exit) ≡ replicate (length (now (rows .entry))) zeroRow ⌝ }
 {
-    row_of(0, query, radius, 0)
+    let mut i = 0;
+    while i < rows.len() {
+        rows[i] = [0u32; ROW_WIDTH];
+        i += 1;
+    }
 }
 
-// Whether a search by this query may report a slot.
-pub fn may_report(query: &Row, row: Row) -> bool
-    ensures { λ r. ⌜ r ≡ mayReport (now (query .entry)) row ⌝ }
+// The live ones of a bucket's slots, in slot order, behind the first n rows of the work area. The reply is the number of rows there now.
+pub fn gather_live(work: &mut [Row], n: usize, slots: &[Row]) -> usize
+    requires { ⌜ n + length (select isLive (now slots)) ≤ length (now work) ⌝ }
+    ensures { λ r. ⌜ (r ≡ n + length (select isLive (now (slots .entry)))) × (now (work .exit) ≡ sets (now (work .entry)) n (select isLive (now (slots .entry)))) ⌝ }
 {
-    is_live(row)
+    let mut end = n;
+    let mut i = 0;
+    while i < slots.len() {
+        let row = slots[i];
+        if is_live(row) {
+            work[end] = row;
+            end += 1;
+        }
+        i += 1;
+    }
+    end
 }

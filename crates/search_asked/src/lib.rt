@@ -1,9 +1,11 @@
 // What a search goes by, made once and handed on by one reference: range and nearest share it.
 ghost use mathlib.Core.Path.{_≡_};
+ghost use Rattle.metric_rules.specs.Row.{mayReport};
 ghost use Rattle.search_asked.specs.Asked.{askedOf};
 use metric_rules::Profile;
 use metric_rules::Row;
-use rows::query_row;
+use rows::is_live;
+use rows::row_of;
 
 // The table's header row, and the query as a row whose threshold word is the radius of a range search or the k of a nearest one.
 pub type Asked = [Row; 2];
@@ -12,5 +14,12 @@ pub type Asked = [Row; 2];
 pub fn asked_of(header: Row, query: Profile, number: u32) -> Asked
     ensures { λ r. ⌜ r ≡ askedOf header query number ⌝ }
 {
-    [header, query_row(query, number)]
+    [header, row_of(0, query, number, 0)]
+}
+
+// Whether a search by this query may report a slot.
+pub fn may_report(query: &Row, row: Row) -> bool
+    ensures { λ r. ⌜ r ≡ mayReport (now (query .entry)) row ⌝ }
+{
+    is_live(row)
 }
