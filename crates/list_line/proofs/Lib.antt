@@ -1,5 +1,1 @@
-pub mod InOrder
-pub mod Halfway
-pub mod Behind
-pub mod Forms
 pub mod Grammar

@@ -16,7 +16,7 @@ use Rattle.list_rules.specs.Lines.{listHeader, linesFrom, linesOf, itemLines}
 use Rattle.list_rules.specs.Lines.ListLine.{anItem}
 use Rattle.list_rules.specs.ReadList.{Reading, stopped, oneMore, reading}
 use Rattle.list_rules.proofs.Growing.{live-below-most, few-distances, live-one-more}
-use Rattle.list_line.proofs.Grammar.{Broken}
+use Rattle.list_line.specs.Places.{Broken}
 use Rattle.table_add.proofs.Refusing.{refused-call}
 
 -- so many lines added, with so many distances, before what the others lead to

@@ -1,6 +1,6 @@
 -- A byte's digit by the range that it lies in, and the bound that lets a numeral of up to sixteen digits fit 64 bits.
-use Prim.Native.Nat.{ℕ, zero, suc, _+_, _-_, _*_, _^_, _≤_, _<_}
-use mathlib.Core.Path.{_≡_, refl, ap, ap₂, sym, _∙_}
+use Prim.Native.Nat.{ℕ, suc, _+_, _-_, _*_, _^_, _≤_, _<_}
+use mathlib.Core.Path.{_≡_, refl, ap, ap₂, sym, subst, _∙_}
 use mathlib.Core.Bool.{Bool, true, false, _&&_, _||_, false≢true}
 use mathlib.Core.List.{List, [], _∷_}
 use native.Mathlib.Omega.{arith}
@@ -9,10 +9,10 @@ use native.Mathlib.Nat.{pow-succ', pow-le-pow-right, mul-le-mul-right}
 use lib.Dec.{leb, ltb}
 use lib.ListN.{length, getD, drop, drop-of-length-le}
 use lib.Seq.{drop-cons}
-use borrow.Author.Tests.{lt-ltb, le-ltb, le-leb, lt-leb, ltb-true, ltb-false, leb-true, leb-false}
+use borrow.Author.Tests.{lt-ltb, le-ltb, le-leb, lt-leb, ltb-true, leb-true, leb-false}
 use Rattle.lists.specs.Lists.{every}
 use Rattle.lists.proofs.Tests.{and-first, and-second}
-use Rattle.text_rules.specs.Text.{digitOf, isDigit, isNumeral, numeralAfter}
+use Rattle.text_rules.specs.Text.{digitOf, isDigit, isNumeral, numeralAfter, numeral}
 
 pub low-value : (b : ℕ) → b < 58 → digitOf b ≡ b - 48
 unfolding digitOf
@@ -64,26 +64,6 @@ module _ (base b : ℕ) where
       by : (t : Bool) → leb 97 b ≡ t → 97 ≤ b
       by true f = leb-true 97 b f
       by false f = absurd (false≢true (between-digits h (leb-false 97 b f) ∙ e))
-
--- the decimal digits are one range of bytes
-pub decimal-digit : (b : ℕ) → 48 ≤ b → b < 58 → isDigit 10 b ≡ true
-decimal-digit b h k = low-digit 10 b h k ∙ lt-ltb (b - 48) 10 (omega arith)
-
-pub decimal-below : (b : ℕ) → isDigit 10 b ≡ true → b < 58
-decimal-below b e = by (ltb b 58) refl
-  where
-    by : (t : Bool) → ltb b 58 ≡ t → b < 58
-    by true f = ltb-true b 58 f
-    by false f =
-        let from = ltb-false b 58 f in
-        absurd (omega (arith, digit-below 10 b e, high-value b from, letter-from 10 b e from))
-
-pub above-decimal : (b : ℕ) → 58 ≤ b → isDigit 10 b ≡ false
-above-decimal b h = by (isDigit 10 b) refl
-  where
-    by : (t : Bool) → isDigit 10 b ≡ t → t ≡ false
-    by true f = absurd (omega (arith, decimal-below b f))
-    by false f = refl
 
 -- one digit more of at most sixteen
 pub digit-fits : (base n d i : ℕ) → base ≤ 16 → d < base → n < 16 ^ i → base * n + d < 16 ^ (i + 1)
@@ -138,8 +118,19 @@ module _ (base least most : ℕ) (text : List ℕ) where
       (and-first (leb least (length text)) (leb (length text) most)
       (and-first (leb least (length text) && leb (length text) most) (every (isDigit base) text) e))
 
-pub every-in : (test : ℕ → Bool) (xs : List ℕ) (i : ℕ) → i < length xs → every test xs ≡ true → test (getD xs i 0) ≡ true
-unfolding every
-every-in test [] i h e = absurd (omega arith)
-every-in test (x ∷ xs) zero h e = and-first (test x) (every test xs) e
-every-in test (x ∷ xs) (suc i) h e = every-in test xs i (omega arith) (and-second (test x) (every test xs) e)
+-- a number below 10^i and w digits behind it
+after-below : (n i : ℕ) (text : List ℕ) → every (isDigit 10) text ≡ true → n < 10 ^ i → numeralAfter 10 n text < 10 ^ (i + length text)
+unfolding every numeralAfter
+after-below n i [] e h = subst (λ (k : ℕ). n < 10 ^ k) (omega arith) h
+after-below n i (b ∷ bs) e h =
+    let more : 10 * n + digitOf b < 10 ^ suc i = omega (arith, digit-below 10 b (and-first (isDigit 10 b) (every (isDigit 10) bs) e), pow-succ' 10 i) in
+    let all : numeralAfter 10 (10 * n + digitOf b) bs < 10 ^ (suc i + length bs) =
+    after-below (10 * n + digitOf b) (suc i) bs (and-second (isDigit 10 b) (every (isDigit 10) bs) e) more in
+    subst (λ (k : ℕ). numeralAfter 10 (10 * n + digitOf b) bs < 10 ^ k) (omega arith) all
+
+pub numeral-below : (least most : ℕ) (text : List ℕ) → isNumeral 10 least most text ≡ true → numeral 10 text < 10 ^ most
+unfolding numeral
+numeral-below least most text e =
+    let below : numeralAfter 10 0 text < 10 ^ (0 + length text) = after-below 0 0 text (numeral-digits 10 least most text e) (omega arith) in
+    let short = numeral-longest 10 least most text e in
+    omega (arith, pow-le-pow-right {n = 10} (omega arith) {i = 0 + length text} {j = most} (omega arith))

@@ -1,12 +1,10 @@
 -- The parts between separators: a part that has no separator in it, followed by one, is the first part and the rest is parted on.
--- No part is longer than the whole.
-use Prim.Native.Nat.{ℕ, zero, suc, _+_, _/_, _≤_, _<_}
+use Prim.Native.Nat.{ℕ, zero, suc, _+_, _/_, _<_}
 use mathlib.Core.Path.{_≡_, refl, ap, ap₂, sym, _∙_}
 use mathlib.Core.List.{List, [], _∷_, _++_}
 use native.Mathlib.Omega.{arith}
 use mathlib.Core.Bool.{Bool, true, false}
 use lib.Dec.{eqb}
-use lib.ListN.{length, getD}
 use borrow.Author.Tests.{ne-eqb, eq-eqb, eqb-true}
 use Rattle.lists.specs.Lists.{All}
 use Rattle.lists.proofs.Lists.{all-append}
@@ -83,26 +81,6 @@ parted-back separator (b ∷ bs) = by (eqb b separator) refl (parted-back separa
         ∙ joined-none separator (parted-some separator bs)
         ∙ ap₂ _∷_ (sym (eqb-true b separator e)) h
     by false e h = ap (joined separator) (parted-byte separator b bs e) ∙ joined-onto separator b (parted separator bs) ∙ ap (λ xs. b ∷ xs) h
-
--- no part is longer than the whole
-first-longer : (b n : ℕ) (ps : List (List ℕ)) → length (getD (onto b ps) n []) ≤ suc (length (getD ps n []))
-unfolding onto
-first-longer b zero [] = omega arith
-first-longer b (suc n) [] = omega arith
-first-longer b zero (p ∷ ps) = omega arith
-first-longer b (suc n) (p ∷ ps) = omega arith
-
-pub part-shorter : (separator : ℕ) (text : List ℕ) (n : ℕ) → length (getD (parted separator text) n []) ≤ length text
-unfolding parted
-part-shorter separator [] zero = omega arith
-part-shorter separator [] (suc n) = omega arith
-part-shorter separator (b ∷ bs) n = by (eqb b separator) refl n (part-shorter separator bs n) (λ m. part-shorter separator bs m)
-  where
-    by : (t : Bool) → eqb b separator ≡ t → (n : ℕ) → length (getD (parted separator bs) n []) ≤ length bs
-        → ((m : ℕ) → length (getD (parted separator bs) m []) ≤ length bs) → length (getD (parted separator (b ∷ bs)) n []) ≤ length (b ∷ bs)
-    by true e zero h k = rw (parted-separator separator b bs e) (omega arith)
-    by true e (suc m) h k = rw (parted-separator separator b bs e) (omega (arith, k m))
-    by false e n h k = rw (parted-byte separator b bs e) (omega (arith, first-longer b n (parted separator bs)))
 
 -- printed digits are no separator
 pub digits-free : (separator w n : ℕ) → separator < 48 → Free separator (digits w n)

@@ -1,15 +1,19 @@
 -- The sign of a measure: what stands behind it, the value with it, and that a size of up to seven digits fits 32 bits with either sign.
-use Prim.Native.Nat.{ℕ, zero, suc, _^_, _<_}
+use Prim.Native.Nat.{ℕ, zero, suc, _+_, _^_, _<_}
 use mathlib.Core.Path.{_≡_, ap, sym, subst⁻¹, _∙_}
-use mathlib.Core.Bool.{true, false}
+use mathlib.Core.Bool.{true, false, _&&_}
 use mathlib.Core.List.{List}
 use native.Mathlib.Omega.{arith}
+use lib.Dec.{eqb}
 use lib.IntN.{pos, negℤ, _-ℤ_, +ℤ-idl}
 use lib.ListN.{drop}
 use mir.Syntax.{w32}
 use mir.Val.{SFits, toZ}
 use mir.Facts.{toZ-pos}
+use Rattle.lists.proofs.Tests.{and-first, and-second}
+use Rattle.text_rules.specs.Text.{partAt, partsIn, isNumeral}
 use Rattle.text_rules.specs.Fields.{isNegative, unsigned, hundredths, measureIn}
+use Rattle.text_rules.proofs.Digits.{numeral-below}
 
 module _ (text : List ℕ) where
   pub unsigned-minus : isNegative text ≡ true → drop 1 text ≡ unsigned text
@@ -42,3 +46,17 @@ negative-fits (suc n) h = record { sfits = omega arith }
 
 pub negated-fits : (n : ℕ) → n < 2 ^ 30 → SFits w32 (pos 0 -ℤ toZ w32 n)
 negated-fits n h = subst⁻¹ (SFits w32) (negated n h) (negative-fits n h)
+
+-- five digits and two
+pub hundredths-below : (mark : ℕ) (size : List ℕ)
+    → (eqb (partsIn mark size) 2 && isNumeral 10 1 5 (partAt mark size 0) && isNumeral 10 2 2 (partAt mark size 1)) ≡ true → hundredths mark size < 10 ^ 7
+unfolding hundredths
+hundredths-below mark size e =
+    let whole = isNumeral 10 1 5 (partAt mark size 0) in
+    let rest = isNumeral 10 2 2 (partAt mark size 1) in
+    let first = and-first (eqb (partsIn mark size) 2 && whole) rest e in
+    omega (
+      arith,
+      numeral-below 1 5 (partAt mark size 0) (and-second (eqb (partsIn mark size) 2) whole first),
+      numeral-below 2 2 (partAt mark size 1) (and-second (eqb (partsIn mark size) 2 && whole) rest e),
+    )

@@ -1,2 +1,3 @@
-mod Lines
+pub mod Lines
+pub mod Fields
 pub mod Longer

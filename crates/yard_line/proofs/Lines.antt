@@ -1,35 +1,21 @@
 -- A line's definitions by the outcomes of their tests, in the order of the code: a test that was not made may have any outcome.
-use Prim.Native.Nat.{ℕ, _≤_}
-use mathlib.Core.Path.{_≡_, ap, sym}
+use Prim.Native.Nat.{ℕ}
+use mathlib.Core.Path.{_≡_, sym}
 use mathlib.Core.Bool.{Bool, true, false, _&&_}
 use mathlib.Core.List.{List}
 use lib.Dec.{eqb}
-use lib.ListN.{length}
-use borrow.Author.Tests.{eq-eqb, ne-eqb, eqb-true}
+use borrow.Author.Tests.{eqb-true}
 use Rattle.lists.proofs.Tests.{and-first, and-second}
 use Rattle.yard_rules.specs.declared.Header.the-variants as header
 use Rattle.yard_rules.specs.declared.Command.{Command}
 use Rattle.yard_rules.specs.declared.Command.the-variants as command
-use Rattle.text_rules.specs.Text.{space, point, partAt, partsIn, numeral}
+use Rattle.text_rules.specs.Text.{space, point, partsIn, numeral}
 use Rattle.text_rules.specs.Fields.{isTag, isMeasure}
 use Rattle.yard_rules.specs.Line.{field, onlyByte, isNumber, isCode, hasProfile, headerIn, opens, commandIn, letterA, letterN, letterR, letterW}
-use Rattle.text_rules.proofs.Parts.{part-shorter}
-
-pub field-shorter : (line : List ℕ) (n : ℕ) → length (field line n) ≤ length line
-unfolding partAt
-field-shorter line n = part-shorter space line n
 
 module _ (line : List ℕ) where
   -- a letter and a field of a form
   module _ (letter : ℕ) (form : List ℕ → Bool) where
-    pub opens-not : (onlyByte (field line 0) ≡ letter → ⊥) → false ≡ opens letter form line
-    unfolding opens
-    opens-not h = ap (λ t. t && form (field line 1)) (sym (ne-eqb (onlyByte (field line 0)) letter h))
-
-    pub opens-is : onlyByte (field line 0) ≡ letter → form (field line 1) ≡ opens letter form line
-    unfolding opens
-    opens-is h = ap (λ t. t && form (field line 1)) (sym (eq-eqb (onlyByte (field line 0)) letter h))
-
     pub opens-form : opens letter form line ≡ true → form (field line 1) ≡ true
     unfolding opens
     opens-form e = and-second (eqb (onlyByte (field line 0)) letter) (form (field line 1)) e
@@ -41,11 +27,6 @@ module _ (line : List ℕ) where
     | true ↦ header.Of (numeral 10 (field line 0)) (numeral 10 (field line 1))
     | false ↦ header.Other
   ]
-
-  pub profile-by : {s a b c d : Bool} → eqb (partsIn space line) 7 ≡ s → isMeasure point (field line 2) ≡ a → isMeasure point (field line 3) ≡ b
-      → isMeasure point (field line 4) ≡ c → isMeasure point (field line 5) ≡ d → (((((s && a) && b) && c) && d) && isCode (field line 6)) ≡ hasProfile line
-  unfolding hasProfile
-  profile-by e f g h k = λ i. ((((sym e i && sym f i) && sym g i) && sym h i) && sym k i) && isCode (field line 6)
 
   -- what a profile's form says of each field
   module _ (e : hasProfile line ≡ true) where

@@ -9,7 +9,7 @@ use lib.Dec.{ltb, eqb}
 use lib.ListN.{length, getD, length-drop}
 use borrow.Author.Tests.{eqb-true, eqb-false}
 use Rattle.lists.specs.Lists.{total}
-use Rattle.lists.proofs.Tests.{and-first}
+use Rattle.lists.proofs.Tests.{and-first, and-second}
 use Rattle.yard_rules.specs.declared.Header.the-variants as header
 use Rattle.yard_rules.specs.declared.Command.the-variants as command
 use Rattle.text_rules.specs.Text.{space, point, minus, onto, parted, partAt, partsIn, isNumeral, numeral}
@@ -18,7 +18,7 @@ use Rattle.yard_rules.specs.Line.{field, onlyByte, isNumber, isCode, hasProfile
 use Rattle.text_rules.proofs.Parts.{SomeParts, parted-some, parted-separator, parted-byte}
 use Rattle.text_rules.proofs.Digits.{numeral-longest}
 use Rattle.text_rules.proofs.Signs.{unsigned-minus, unsigned-plain}
-use Rattle.yard_parse.proofs.Forms.{only-other, digits-code, measure-whole, measure-rest}
+use Rattle.yard_line.proofs.Fields.{fails, only-other, digits-code}
 use Rattle.yard_line.proofs.Lines.{opens-form, header-by, profile-seven, measure-2, measure-3, measure-4, measure-5, code-6, command-by}
 
 -- the bytes of some parts, each with a separator
@@ -100,14 +100,17 @@ measure-short : (text : List ℕ) → isMeasure point text ≡ true → length t
 unfolding isMeasure partsIn partAt
 measure-short text e =
     let size = unsigned text in
-    let parts = eqb-true (partsIn point size) 2 (and-first (eqb (partsIn point size) 2) (isNumeral 10 1 5 (partAt point size 0)) (and-first (eqb (partsIn point size) 2 && isNumeral 10 1 5 (partAt point size 0)) (isNumeral 10 2 2 (partAt point size 1)) e)) in
+    let two = eqb (partsIn point size) 2 in
+    let whole = isNumeral 10 1 5 (partAt point size 0) in
+    let rest = isNumeral 10 2 2 (partAt point size 1) in
+    let first = and-first (two && whole) rest e in
     omega (
       arith,
       sign-short text,
       spread-parted point size,
-      two-parts (parted point size) parts,
-      numeral-longest 10 1 5 (partAt point size 0) (measure-whole point text e),
-      numeral-longest 10 2 2 (partAt point size 1) (measure-rest point text e),
+      two-parts (parted point size) (eqb-true (partsIn point size) 2 (and-first two whole first)),
+      numeral-longest 10 1 5 (partAt point size 0) (and-second two whole first),
+      numeral-longest 10 2 2 (partAt point size 1) (and-second (two && whole) rest e),
     )
 
 number-short : (text : List ℕ) → isNumber text ≡ true → length text ≤ 15
@@ -116,11 +119,6 @@ number-short text e = omega (arith, numeral-longest 10 1 10 text (and-first (isN
 
 tag-short : (text : List ℕ) → isTag text ≡ true → length text ≤ 15
 tag-short text e = numeral-longest 10 15 15 text e
-
--- a test that would make a long line short fails
-fails : (t : Bool) → (t ≡ true → ⊥) → t ≡ false
-fails true h = absurd (h refl)
-fails false h = refl
 
 module _ (line : List ℕ) (long : 90 < length line) where
   letter-short : (letter : ℕ) (form : List ℕ → Bool) → 0 < letter → opens letter form line ≡ true → length (field line 0) ≤ 1

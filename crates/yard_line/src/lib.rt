@@ -1,87 +1,44 @@
-// What a line says: a header, a command, its profile. Every line of bytes is one of them or of another form.
+// What a line says: a header, a command, its profile. Every line of bytes is one of them or of another form. The fields are read in turn.
 ghost use mathlib.Core.Path.{_≡_};
-ghost use mathlib.Core.Bool.{true};
+ghost use mathlib.Core.Bool.{true, false};
 ghost use Prim.Native.Nat.{_<_, _^_};
 ghost use lib.ListN.{length};
-ghost use Rattle.text_rules.specs.Text.{point, numeral};
-ghost use Rattle.text_rules.specs.Fields.{isTag, isMeasure, measureIn};
-ghost use Rattle.yard_rules.specs.Line.{field, isNumber, hasProfile, profileIn, headerIn, opens, commandIn};
+ghost use Rattle.text_rules.specs.Text.{space};
+ghost use Rattle.text_read.specs.Parts.{partsBehind};
+ghost use Rattle.yard_rules.specs.Line.{hasProfile, profileIn, headerIn, commandIn};
+ghost use Rattle.yard_line.specs.Found.{wordIn, CodeAt, ProfileAt, areWhole, commandOf};
 use metric_rules::Profile;
+use text_read::NumberRead;
 use yard_rules::Command;
 use yard_rules::Header;
 
-// A field of a line: its measure's form and value.
-fn has_measure(line: &[u8], n: usize) -> bool
-    requires { ⌜ length (now line) < 2 ^ 32 ⌝ }
-    ensures { λ r. ⌜ r ≡ isMeasure point (field (now (line .entry)) n) ⌝ }
-{
-    yard_parse::is_measure(yard_fields::part(line, b' ', n), b'.')
+// A number within 32 bits, or a field of another form.
+pub enum WordRead {
+    Word(u32),
+    NoWord,
 }
 
-fn measure(line: &[u8], n: usize) -> i32
-    requires { ⌜ (length (now line) < 2 ^ 32) × (isMeasure point (field (now line) n) ≡ true) ⌝ }
-    ensures { λ r. ⌜ r ≡ measureIn point (field (now (line .entry)) n) ⌝ }
-{
-    yard_parse::measure(yard_fields::part(line, b' ', n), b'.')
+// Where no code or profile is found, the words or the profile are left free: all that holds of them is their type.
+pub struct CodeRead {
+    pub found: bool,
+    pub words: [u64; 2],
 }
 
-// Four measures and a code, the last of seven fields.
-pub fn has_profile(line: &[u8]) -> bool
-    requires { ⌜ length (now line) < 2 ^ 32 ⌝ }
-    ensures { λ r. ⌜ r ≡ hasProfile (now (line .entry)) ⌝ }
+pub struct ProfileRead {
+    pub found: bool,
+    pub profile: Profile,
+}
+
+fn word(text: &[u8]) -> WordRead
+    ensures { λ r. ⌜ r ≡ wordIn (now (text .entry)) ⌝ }
 {
-    if yard_fields::parts(line, b' ') != 7 {
-        return false;
+    let NumberRead::Number(n) = text_read::number(text, 10, 1, 10) else {
+        return WordRead::NoWord;
+    };
+    if n < 0x1_0000_0000 {
+        return WordRead::Word(n as u32);
     }
-    if !has_measure(line, 2) {
-        return false;
-    }
-    if !has_measure(line, 3) {
-        return false;
-    }
-    if !has_measure(line, 4) {
-        return false;
-    }
-    if !has_measure(line, 5) {
-        return false;
-    }
-    yard_parse::is_code(yard_fields::part(line, b' ', 6))
-}
-
-pub fn profile(line: &[u8]) -> Profile
-    requires { ⌜ (length (now line) < 2 ^ 32) × (hasProfile (now line) ≡ true) ⌝ }
-    ensures { λ r. ⌜ r ≡ profileIn (now (line .entry)) ⌝ }
-{
-    let measures = [
-        measure(line, 2),
-        measure(line, 3),
-        measure(line, 4),
-        measure(line, 5),
-    ];
-    let code = yard_parse::code(yard_fields::part(line, b' ', 6));
-    Profile { measures, code }
-}
-
-// A number's field, and a tag's.
-fn is_number(line: &[u8], n: usize) -> bool
-    requires { ⌜ length (now line) < 2 ^ 32 ⌝ }
-    ensures { λ r. ⌜ r ≡ isNumber (field (now (line .entry)) n) ⌝ }
-{
-    yard_numerals::is_number(yard_fields::part(line, b' ', n))
-}
-
-fn number(line: &[u8], n: usize) -> u32
-    requires { ⌜ (length (now line) < 2 ^ 32) × (isNumber (field (now line) n) ≡ true) ⌝ }
-    ensures { λ r. ⌜ r ≡ numeral 10 (field (now (line .entry)) n) ⌝ }
-{
-    yard_numerals::number(yard_fields::part(line, b' ', n))
-}
-
-fn tag(line: &[u8]) -> u64
-    requires { ⌜ (length (now line) < 2 ^ 32) × (isTag (field (now line) 1) ≡ true) ⌝ }
-    ensures { λ r. ⌜ r ≡ numeral 10 (field (now (line .entry)) 1) ⌝ }
-{
-    yard_numerals::tag(yard_fields::part(line, b' ', 1))
+    WordRead::NoWord
 }
 
 // The first line.
@@ -89,39 +46,141 @@ pub fn header(line: &[u8]) -> Header
     requires { ⌜ length (now line) < 2 ^ 32 ⌝ }
     ensures { λ r. ⌜ r ≡ headerIn (now (line .entry)) ⌝ }
 {
-    if yard_fields::parts(line, b' ') != 2 {
+    let end = text_read::two_parts(line, b' ');
+    if line.len() <= end {
         return Header::Other;
     }
-    if !is_number(line, 0) {
+    let WordRead::Word(order) = word(&line[..end]) else {
         return Header::Other;
-    }
-    if !is_number(line, 1) {
+    };
+    let WordRead::Word(metric) = word(&line[end + 1..]) else {
         return Header::Other;
-    }
-    Header::Of(number(line, 0), number(line, 1))
+    };
+    Header::Of(order, metric)
 }
 
-// A line's letter, with a tag or a number after it.
-fn opens_tag(line: &[u8], letter: u8) -> bool
-    requires { ⌜ length (now line) < 2 ^ 32 ⌝ }
-    ensures { λ r. ⌜ r ≡ opens letter isTag (now (line .entry)) ⌝ }
+fn no_code() -> CodeRead
+    ensures { λ r. ⌜ r .found ≡ false ⌝ }
 {
-    if yard_parse::only_byte(yard_fields::part(line, b' ', 0)) == letter {
-        yard_numerals::is_tag(yard_fields::part(line, b' ', 1))
-    } else {
-        false
+    CodeRead {
+        found: false,
+        words: [0; 2],
     }
 }
 
-fn opens_number(line: &[u8], letter: u8) -> bool
-    requires { ⌜ length (now line) < 2 ^ 32 ⌝ }
-    ensures { λ r. ⌜ r ≡ opens letter isNumber (now (line .entry)) ⌝ }
+// A code's two words: the first half of the digits is the first word.
+fn code(text: &[u8]) -> CodeRead
+    ensures { λ r. ⌜ CodeAt (now (text .entry)) r ⌝ }
 {
-    if yard_parse::only_byte(yard_fields::part(line, b' ', 0)) == letter {
-        is_number(line, 1)
-    } else {
-        false
+    if text.len() == 1 {
+        return CodeRead {
+            found: text[0] == b'-',
+            words: [0; 2],
+        };
     }
+    if text.len() != 32 {
+        return no_code();
+    }
+    let NumberRead::Number(first) = text_read::number(&text[..16], 16, 16, 16) else {
+        return no_code();
+    };
+    let NumberRead::Number(second) = text_read::number(&text[16..], 16, 16, 16) else {
+        return no_code();
+    };
+    CodeRead {
+        found: true,
+        words: [first, second],
+    }
+}
+
+fn no_profile() -> ProfileRead
+    ensures { λ r. ⌜ r .found ≡ false ⌝ }
+{
+    ProfileRead {
+        found: false,
+        profile: Profile {
+            measures: [0; 4],
+            code: [0; 2],
+        },
+    }
+}
+
+// The profile behind the field that ends at a place: four measures and a code, and nothing behind them.
+fn profile_behind(line: &[u8], end: usize) -> ProfileRead
+    ensures { λ r. ⌜ ProfileAt (partsBehind space (now (line .entry)) end) r ⌝ }
+{
+    let read = text_read::measures(line, end, b' ', b'.');
+    if !read.found {
+        return no_profile();
+    }
+    if line.len() <= read.end {
+        return no_profile();
+    }
+    let code_end = text_read::part_end(line, b' ', read.end + 1);
+    if code_end < line.len() {
+        return no_profile();
+    }
+    let coded = code(&line[read.end + 1..code_end]);
+    let measures = read.measures;
+    let words = coded.words;
+    let profile = Profile {
+        measures,
+        code: words,
+    };
+    ProfileRead {
+        found: coded.found,
+        profile,
+    }
+}
+
+pub fn profile(line: &[u8]) -> Profile
+    requires { ⌜ (length (now line) < 2 ^ 32) × (hasProfile (now line) ≡ true) ⌝ }
+    ensures { λ r. ⌜ r ≡ profileIn (now (line .entry)) ⌝ }
+{
+    let first_end = text_read::part_end(line, b' ', 0);
+    let second_end = text_read::part_end(line, b' ', first_end + 1);
+    let read = profile_behind(line, second_end);
+    let profile = read.profile;
+    profile
+}
+
+// Whether behind the second field stands what the letter asks for.
+fn is_whole(line: &[u8], letter: u8, end: usize) -> bool
+    ensures { λ r. ⌜ r ≡ areWhole letter (partsBehind space (now (line .entry)) end) ⌝ }
+{
+    if letter == b'R' {
+        return line.len() <= end;
+    }
+    let read = profile_behind(line, end);
+    read.found
+}
+
+// The command of a letter, by the field behind it.
+fn spoken(letter: u8, text: &[u8]) -> Command
+    ensures { λ r. ⌜ r ≡ commandOf letter (now (text .entry)) ⌝ }
+{
+    if letter == b'W' {
+        let WordRead::Word(radius) = word(text) else {
+            return Command::Other;
+        };
+        return Command::Within(radius);
+    }
+    if letter == b'N' {
+        let WordRead::Word(k) = word(text) else {
+            return Command::Other;
+        };
+        return Command::Nearest(k);
+    }
+    let NumberRead::Number(tag) = text_read::number(text, 10, 15, 15) else {
+        return Command::Other;
+    };
+    if letter == b'A' {
+        return Command::Add(tag);
+    }
+    if letter == b'R' {
+        return Command::Remove(tag);
+    }
+    Command::Other
 }
 
 // A later line.
@@ -129,23 +188,17 @@ pub fn command(line: &[u8]) -> Command
     requires { ⌜ length (now line) < 2 ^ 32 ⌝ }
     ensures { λ r. ⌜ r ≡ commandIn (now (line .entry)) ⌝ }
 {
-    if has_profile(line) {
-        if opens_tag(line, b'A') {
-            return Command::Add(tag(line));
-        }
-        if opens_number(line, b'W') {
-            return Command::Within(number(line, 1));
-        }
-        if opens_number(line, b'N') {
-            return Command::Nearest(number(line, 1));
-        }
+    let first_end = text_read::part_end(line, b' ', 0);
+    if first_end != 1 {
         return Command::Other;
     }
-    if yard_fields::parts(line, b' ') != 2 {
+    if line.len() <= first_end {
         return Command::Other;
     }
-    if opens_tag(line, b'R') {
-        return Command::Remove(tag(line));
+    let second_end = text_read::part_end(line, b' ', first_end + 1);
+    let letter = line[0];
+    if !is_whole(line, letter, second_end) {
+        return Command::Other;
     }
-    Command::Other
+    spoken(letter, &line[first_end + 1..second_end])
 }

@@ -1,30 +1,42 @@
--- `yard_line::header` meets its contract: each return has made some of the tests of `headerIn`, in the same order, and those decide (`header-by`).
--- Both numbers are read only where both forms were tested.
-use mathlib.Core.Path.{refl, sym, ap₂, _∙_}
-use borrow.Author.Tests.{eq-eqb, ne-eqb, not-true, not-false}
-use Rattle.yard_rules.specs.declared.Header.{Header}
-use Rattle.yard_line.proofs.Lines.{header-by}
+-- `yard_line::header` meets its contract: two fields, and a number in each.
+use mathlib.Core.Path.{refl, sym}
+use native.Mathlib.Omega.{arith}
+use lib.Seq.{length-take-le}
 use borrow.Author.Needs.{needs}
+use borrow.Author.Tests.{ne-eqb}
+use Rattle.text_read.proofs.Finding.{two-sliced}
+use Rattle.yard_line.specs.Found.{wordIn}
+use Rattle.yard_line.proofs.Fields.{no-word, a-word, two-by}
+use Rattle.yard_line.proofs.Lines.{header-by}
 use Rattle.yard_line.proofs.header.Statement.{statement}
 use Rattle.yard_line.proofs.header.Tie as tie
 
 returns : tie.Need-returns
-returns c = header-by _ (ne-eqb _ 2 (λ e. c .if1 .taken (c .before .parts .ensures ∙ e))) refl refl
+returns c = header-by _ (ne-eqb _ 2 (c .before .two-parts .ensures .other (c .if1 .taken))) refl refl
+
+slice-aggregate-word : tie.Need-slice-aggregate-word
+slice-aggregate-word c = sym (length-take-le (c .before .before .two-parts .result) (c .before .before .before .before .args .line .now) (omega arith))
 
 returns-2 : tie.Need-returns-2
-returns-2 c = header-by _ (eq-eqb _ 2 (sym (c .before .before .before .parts .ensures) ∙ c .before .before .if1 .left)) (sym (c .before .is-number .ensures) ∙ not-true _ (c .if2 .taken)) refl
+unfolding wordIn
+returns-2 c =
+    let parts = two-sliced _ _ (c .before .before .before .before .before .two-parts .result) (c .before .before .before .before .before .two-parts .ensures) (omega arith) in
+    two-by _ parts (no-word _ _ (c .before .before .word .ensures) (c .enum-told .given .1)) refl refl refl
 
 returns-3 : tie.Need-returns-3
-returns-3 c = header-by _ (eq-eqb _ 2 (sym (c .before .before .before .before .before .parts .ensures) ∙ c .before .before .before .before .if1 .left)) (sym (c .before .before .before .is-number .ensures) ∙ not-false _ (c .before .before .if2 .left)) (sym (c .before .is-number2 .ensures) ∙ not-true _ (c .if3 .taken))
-
-number-requires : tie.Need-number-requires
-number-requires c κs = (c .before .before .before .before .before .before .before .pre, sym (c .before .before .before .is-number .ensures) ∙ not-false _ (c .before .before .if2 .left))
-
-number-requires-2 : tie.Need-number-requires-2
-number-requires-2 c κs = (c .before .before .before .before .before .before .before .before .pre, sym (c .before .before .is-number2 .ensures) ∙ not-false _ (c .before .if3 .left))
+unfolding wordIn
+returns-3 c =
+    let parts = two-sliced _ _ (c .before .before .before .before .before .before .before .before .before .before .two-parts .result) (c .before .before .before .before .before .before .before .before .before .before .two-parts .ensures) (omega arith) in
+    let order = a-word _ _ (c .before .before .before .before .before .before .before .word .ensures) (c .before .before .before .before .before .order .given .1) in
+    two-by _ parts (order .0) (no-word _ _ (c .before .before .word2 .ensures) (c .enum-told2 .given .1)) (order .1) refl
 
 returns-4 : tie.Need-returns-4
-returns-4 c = ap₂ Header.Of (c .before .number .ensures) (c .number2 .ensures) ∙ header-by _ (eq-eqb _ 2 (sym (c .before .before .before .before .before .before .before .parts .ensures) ∙ c .before .before .before .before .before .before .if1 .left)) (sym (c .before .before .before .before .before .is-number .ensures) ∙ not-false _ (c .before .before .before .before .if2 .left)) (sym (c .before .before .before .is-number2 .ensures) ∙ not-false _ (c .before .before .if3 .left))
+unfolding wordIn
+returns-4 c =
+    let parts = two-sliced _ _ (c .before .before .before .before .before .before .before .before .before .before .before .two-parts .result) (c .before .before .before .before .before .before .before .before .before .before .before .two-parts .ensures) (omega arith) in
+    let order = a-word _ _ (c .before .before .before .before .before .before .before .before .word .ensures) (c .before .before .before .before .before .before .order .given .1) in
+    let metric = a-word _ _ (c .before .before .before .word2 .ensures) (c .before .metric .given .1) in
+    two-by _ parts (order .0) (metric .0) (order .1) (metric .1)
 
 pub header-spec : {M : Type 1} → statement M
 header-spec =
@@ -32,10 +44,9 @@ header-spec =
     (tie.spec
     (λ c κs. search needs)
     returns
-    (λ c κs. search needs)
+    slice-aggregate-word
+    (λ c κs. search needs) (λ c. search needs) (λ c. search needs)
     returns-2
-    (λ c κs. search needs)
+    (λ c. search needs) (λ c. search needs) (λ c. search needs) (λ c. search needs) (λ c κs. search needs) (λ c. search needs) (λ c. search needs)
     returns-3
-    number-requires
-    number-requires-2
     returns-4)

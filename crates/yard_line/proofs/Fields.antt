@@ -1,0 +1,373 @@
+-- The fields of a line in turn: a number within 32 bits, a code, the fields behind the second one, and the command of a letter. Each law has the tests in the
+-- order of the code.
+use Prim.Native.Nat.{ℕ, suc, _+_, _-_, _^_, _≤_, _<_}
+use mathlib.Core.Path.{_≡_, refl, ap, ap₂, sym, subst, _∙_}
+use mathlib.Core.Bool.{Bool, true, false, _&&_, _||_, false≢true}
+use mathlib.Core.List.{List, [], _∷_}
+use native.Mathlib.Omega.{arith}
+use lib.Dec.{leb, ltb, eqb}
+use lib.ListN.{length, getD, take, drop, length-take, length-drop, take-append-drop}
+use lib.Seq.{getD-drop}
+use borrow.Author.Tests.{eq-eqb, ne-eqb, eqb-true, leb-true, leb-false}
+use Rattle.lists.specs.Lists.{every, All}
+use Rattle.lists.proofs.Lists.{all-append, all-take, all-drop}
+use Rattle.lists.proofs.Tests.{every-all, all-every}
+use Rattle.text_rules.specs.Text.{space, point, minus, parted, partAt, partsIn, isDigit, isNumeral, numeral}
+use Rattle.text_rules.specs.Fields.{isTag, isMeasure, measureIn}
+use Rattle.text_rules.proofs.Digits.{length-passes, numeral-digits, numeral-longest, numeral-shortest}
+use Rattle.text_read.specs.declared.MeasuresRead.{MeasuresRead}
+use Rattle.text_read.specs.Parts.{partsBehind, PartEnd}
+use Rattle.text_read.specs.Found.{fourMeasures, measuresOf, MeasuresAt}
+use Rattle.text_read.proofs.Finding.{first-part, next-part, none-behind, some-behind}
+use Rattle.text_read.proofs.Forms.{one-more, left-over}
+use Rattle.yard_rules.specs.declared.Header.the-variants as header
+use Rattle.yard_rules.specs.declared.Command.{Command}
+use Rattle.yard_rules.specs.declared.Command.the-variants as command
+use Rattle.yard_rules.specs.Line.{onlyByte, isNumber, isCode, codeIn, hasProfile, profileIn, headerIn, opens, commandIn, letterA, letterN, letterR, letterW}
+use Rattle.yard_line.specs.declared.WordRead.{WordRead}
+use Rattle.yard_line.specs.declared.WordRead.the-variants.{Word, NoWord}
+use Rattle.yard_line.specs.declared.CodeRead.{CodeRead}
+use Rattle.yard_line.specs.declared.ProfileRead.{ProfileRead}
+use Rattle.yard_line.specs.Found.{wordIf, wordIn, CodeAt, areProfile, profileOf, ProfileAt, areWhole, commandBy, commandOf}
+use Rattle.yard_line.proofs.Lines.{header-by, profile-seven, command-by}
+
+pub fails : (t : Bool) → (t ≡ true → ⊥) → t ≡ false
+fails true h = absurd (h refl)
+fails false h = refl
+
+and-false : (t : Bool) → (t && false) ≡ false
+and-false true = refl
+and-false false = refl
+
+two-more : (n m : ℕ) → eqb (suc (suc n)) (suc (suc m)) ≡ eqb n m
+two-more n m = one-more (suc n) (suc m) ∙ one-more n m
+
+-- a number within 32 bits
+module _ (text : List ℕ) where
+  pub word-by : {s t : Bool} {n : ℕ} → isNumeral 10 1 10 text ≡ s → ltb (numeral 10 text) (2 ^ 32) ≡ t → n ≡ numeral 10 text → wordIf (s && t) n ≡ wordIn text
+  unfolding wordIn isNumber
+  word-by e f g = λ i. wordIf (sym e i && sym f i) (g i)
+
+module _ (t : Bool) (n : ℕ) where
+  abbrev AsWord : Bool → WordRead → Type 0
+  AsWord t (Word v) = (t ≡ true) × (v ≡ n)
+  AsWord t NoWord = t ≡ false
+
+  as-word : (t : Bool) → AsWord t (wordIf t n)
+  unfolding wordIf
+  as-word true = (refl, refl)
+  as-word false = refl
+
+  pub no-word : {r : WordRead} → r ≡ wordIf t n → r ≡ NoWord → t ≡ false
+  no-word e f = subst (AsWord t) (sym e ∙ f) (as-word t)
+
+  pub a-word : {r : WordRead} {v : ℕ} → r ≡ wordIf t n → r ≡ Word v → (t ≡ true) × (v ≡ n)
+  a-word e f = subst (AsWord t) (sym e ∙ f) (as-word t)
+
+-- the first line
+pub two-by : (line : List ℕ) {x y : List ℕ} {s t : Bool} {n m : ℕ} → parted space line ≡ x ∷ y ∷ [] → isNumber x ≡ s → isNumber y ≡ t → n ≡ numeral 10 x → m ≡ numeral 10 y
+    → elim (s && t) [ true ↦ header.Of n m | false ↦ header.Other ] ≡ headerIn line
+unfolding partsIn partAt
+two-by line parts e f g h =
+    (λ i. elim (sym e i && sym f i) [ true ↦ header.Of (g i) (h i) | false ↦ header.Other ])
+    ∙ (λ i. elim (isNumber (getD (sym parts i) 0 []) && isNumber (getD (sym parts i) 1 [])) [
+      | true ↦ header.Of (numeral 10 (getD (sym parts i) 0 [])) (numeral 10 (getD (sym parts i) 1 []))
+      | false ↦ header.Other
+    ])
+    ∙ header-by line (ap (λ ps. eqb (length ps) 2) parts) refl refl
+
+-- a code is a minus or 32 digits
+module _ (text : List ℕ) where
+  pub only-one : length text ≡ 1 → getD text 0 0 ≡ onlyByte text
+  unfolding onlyByte
+  only-one h = ap (λ t. elim t [ true ↦ getD text 0 0 | false ↦ 0 ]) (sym (eq-eqb (length text) 1 h))
+
+  pub only-other : (length text ≡ 1 → ⊥) → 0 ≡ onlyByte text
+  unfolding onlyByte
+  only-other h = ap (λ t. elim t [ true ↦ getD text 0 0 | false ↦ 0 ]) (sym (ne-eqb (length text) 1 h))
+
+  pub digits-code : (onlyByte text ≡ minus → ⊥) → isNumeral 16 32 32 text ≡ isCode text
+  unfolding isCode
+  digits-code h = ap (λ t. t || isNumeral 16 32 32 text) (sym (ne-eqb (onlyByte text) minus h))
+
+  other-length : (length text ≡ 32 → ⊥) → isNumeral 16 32 32 text ≡ false
+  other-length h = fails (isNumeral 16 32 32 text) (λ e. h (omega (arith, numeral-shortest 16 32 32 text e, numeral-longest 16 32 32 text e)))
+
+  pub one-byte : length text ≡ 1 → CodeAt text (record { found = eqb (getD text 0 0) minus; words = 0 ∷ 0 ∷ [] })
+  unfolding isCode codeIn
+  one-byte h = record { found = same; words = λ e. ap (λ t. elim t [ true ↦ 0 ∷ 0 ∷ [] | false ↦ numeral 16 (take 16 text) ∷ numeral 16 (drop 16 text) ∷ [] ]) (sym (ap (λ b. eqb b minus) (sym (only-one h)) ∙ same ∙ e)) }
+    where
+      or-false : (t : Bool) → t ≡ (t || false)
+      or-false true = refl
+      or-false false = refl
+
+      same : eqb (getD text 0 0) minus ≡ isCode text
+      same = or-false (eqb (getD text 0 0) minus) ∙ ap₂ (λ b t. eqb b minus || t) (only-one h) (sym (other-length (λ e. omega arith)))
+
+  pub no-code-at : {r : CodeRead} → r .found ≡ false → isCode text ≡ false → CodeAt text r
+  no-code-at e f = record { found = e ∙ sym f; words = λ g. absurd (false≢true (sym f ∙ g)) }
+
+  module _ (several : length text ≡ 1 → ⊥) where
+    no-minus : onlyByte text ≡ minus → ⊥
+    no-minus e = omega (arith, e, only-other several)
+
+    pub wrong-length : (length text ≡ 32 → ⊥) → isCode text ≡ false
+    wrong-length h = sym (digits-code no-minus) ∙ other-length h
+
+    -- sixteen digits and sixteen
+    module _ (long : length text ≡ 32) where
+      half : (xs : List ℕ) → length xs ≡ 16 → every (isDigit 16) xs ≡ isNumeral 16 16 16 xs
+      half xs h = length-passes 16 16 16 xs (omega arith) (omega arith)
+
+      pub first-wrong : isNumeral 16 16 16 (take 16 text) ≡ false → isCode text ≡ false
+      first-wrong e =
+          sym (digits-code no-minus)
+          ∙ fails (isNumeral 16 32 32 text) (λ f.
+          false≢true (sym e ∙ sym (half (take 16 text) (omega (arith, length-take 16 text)))
+          ∙ all-every (isDigit 16) (take 16 text) (all-take (λ x. isDigit 16 x ≡ true) 16 text (every-all (isDigit 16) text (numeral-digits 16 32 32 text f)))))
+
+      pub second-wrong : isNumeral 16 16 16 (drop 16 text) ≡ false → isCode text ≡ false
+      second-wrong e =
+          sym (digits-code no-minus)
+          ∙ fails (isNumeral 16 32 32 text) (λ f.
+          false≢true (sym e ∙ sym (half (drop 16 text) (omega (arith, length-drop 16 text)))
+          ∙ all-every (isDigit 16) (drop 16 text) (all-drop (λ x. isDigit 16 x ≡ true) 16 text (every-all (isDigit 16) text (numeral-digits 16 32 32 text f)))))
+
+      pub both-halves : {a b : ℕ} → isNumeral 16 16 16 (take 16 text) ≡ true → isNumeral 16 16 16 (drop 16 text) ≡ true → a ≡ numeral 16 (take 16 text) → b ≡ numeral 16 (drop 16 text)
+          → CodeAt text (record { found = true; words = a ∷ b ∷ [] })
+      unfolding codeIn
+      both-halves e f g h =
+          record {
+            found =
+                sym
+                (sym (digits-code no-minus)
+                ∙ sym (length-passes 16 32 32 text (omega arith) (omega arith))
+                ∙ all-every (isDigit 16) text (subst (All (λ x. isDigit 16 x ≡ true)) (take-append-drop 16 text)
+                (all-append (λ x. isDigit 16 x ≡ true) (take 16 text) (drop 16 text)
+                (every-all (isDigit 16) (take 16 text) (numeral-digits 16 16 16 (take 16 text) e))
+                (every-all (isDigit 16) (drop 16 text) (numeral-digits 16 16 16 (drop 16 text) f)))));
+            words =
+                λ k. ap₂ (λ a b. a ∷ b ∷ []) g h
+                ∙ ap (λ t. elim t [ true ↦ 0 ∷ 0 ∷ [] | false ↦ numeral 16 (take 16 text) ∷ numeral 16 (drop 16 text) ∷ [] ]) (sym (ne-eqb (onlyByte text) minus no-minus));
+          }
+
+-- the fields behind the second
+pub fields-by : (ps : List (List ℕ)) {s t u : Bool} → eqb (length ps) 5 ≡ s → fourMeasures point ps ≡ t → isCode (getD ps 4 []) ≡ u → areProfile ps ≡ ((s && t) && u)
+unfolding areProfile
+fields-by ps e f g = λ i. (e i && f i) && g i
+
+module _ (ps : List (List ℕ)) where
+  no-profile-at : {r : ProfileRead} → r .found ≡ false → areProfile ps ≡ false → ProfileAt ps r
+  no-profile-at e f = record { found = e ∙ sym f; profile = λ g. absurd (false≢true (sym f ∙ g)) }
+
+  pub measures-wrong : {r : ProfileRead} → r .found ≡ false → fourMeasures point ps ≡ false → ProfileAt ps r
+  measures-wrong e f = no-profile-at e (fields-by ps refl f refl ∙ ap (λ t. t && isCode (getD ps 4 [])) (and-false (eqb (length ps) 5)))
+
+  other-number : {r : ProfileRead} → r .found ≡ false → (length ps ≡ 5 → ⊥) → ProfileAt ps r
+  other-number e h = no-profile-at e (fields-by ps (ne-eqb (length ps) 5 h) refl refl)
+
+module _ {line : List ℕ} {ps : List (List ℕ)} {m : MeasuresRead} (known : MeasuresAt space point line ps m) (four : fourMeasures point ps ≡ true) where
+  pub code-missing : {r : ProfileRead} → r .found ≡ false → length line ≤ m .end → ProfileAt ps r
+  code-missing e h = other-number ps e (λ f. omega (arith, f, left-over known four, ap length (none-behind space line (m .end) h)))
+
+  module _ {last : ℕ} (within : m .end < length line) (p : PartEnd space line (m .end + 1) last) where
+    abbrev coded : List ℕ
+    coded = take (last - (m .end + 1)) (drop (m .end + 1) line)
+
+    behind : partsBehind space line (m .end) ≡ coded ∷ partsBehind space line last
+    behind = next-part space line (m .end) last within p
+
+    pub more-behind : {r : ProfileRead} → r .found ≡ false → last < length line → ProfileAt ps r
+    more-behind e h = other-number ps e (λ f. omega (arith, f, left-over known four, ap length behind, some-behind space line last h))
+
+    pub last-field : length line ≤ last → {c : CodeRead} → CodeAt coded c
+        → ProfileAt ps (record { found = c .found; profile = record { measures = m .measures; code = c .words } })
+    unfolding profileOf
+    last-field h k =
+        let five : length ps ≡ 5 = omega (arith, left-over known four, ap length behind, ap length (none-behind space line last h)) in
+        let fifth : getD ps 4 [] ≡ coded = sym (getD-drop 4 ps 0 []) ∙ ap (λ qs. getD qs 0 []) (sym (known .behind four) ∙ behind) in
+        let same : areProfile ps ≡ isCode coded = fields-by ps (eq-eqb (length ps) 5 five) four (ap isCode fifth) in
+        record {
+          found = k .found ∙ sym same;
+          profile = λ e. λ i. record { measures = known .values four i; code = (k .words (sym same ∙ e) ∙ ap codeIn (sym fifth)) i };
+        }
+
+-- a line whose third field begins ps
+module _ (line : List ℕ) {x y : List ℕ} {ps : List (List ℕ)} (parts : parted space line ≡ x ∷ y ∷ ps) where
+  pub has-profile : hasProfile line ≡ areProfile ps
+  unfolding hasProfile areProfile fourMeasures partsIn partAt
+  has-profile =
+      ap (λ qs. ((((eqb (length qs) 7 && isMeasure point (getD qs 2 [])) && isMeasure point (getD qs 3 [])) && isMeasure point (getD qs 4 [])) && isMeasure point (getD qs 5 [])) && isCode (getD qs 6 [])) parts
+      ∙ by (eqb (suc (suc (length ps))) 7) (two-more (length ps) 5)
+    where
+      by : (t : Bool) → t ≡ eqb (length ps) 5
+          → (((((t && isMeasure point (getD ps 0 [])) && isMeasure point (getD ps 1 [])) && isMeasure point (getD ps 2 [])) && isMeasure point (getD ps 3 [])) && isCode (getD ps 4 []))
+          ≡ ((eqb (length ps) 5 && (((isMeasure point (getD ps 0 []) && isMeasure point (getD ps 1 [])) && isMeasure point (getD ps 2 [])) && isMeasure point (getD ps 3 []))) && isCode (getD ps 4 []))
+      by true e = ap (λ t. (t && (((isMeasure point (getD ps 0 []) && isMeasure point (getD ps 1 [])) && isMeasure point (getD ps 2 [])) && isMeasure point (getD ps 3 []))) && isCode (getD ps 4 [])) e
+      by false e = ap (λ t. (t && (((isMeasure point (getD ps 0 []) && isMeasure point (getD ps 1 [])) && isMeasure point (getD ps 2 [])) && isMeasure point (getD ps 3 []))) && isCode (getD ps 4 [])) e
+
+  pub profile-in : profileOf ps ≡ profileIn line
+  unfolding profileIn profileOf measuresOf partAt
+  profile-in =
+      ap (λ qs. record {
+        measures = measureIn point (getD qs 2 []) ∷ measureIn point (getD qs 3 []) ∷ measureIn point (getD qs 4 []) ∷ measureIn point (getD qs 5 []) ∷ [];
+        code = codeIn (getD qs 6 []);
+      }) (sym parts)
+
+-- the first two fields, by where they end
+module _ (line : List ℕ) {end : ℕ} (p : PartEnd space line 0 end) where
+  pub several-fields : hasProfile line ≡ true → end + 1 ≤ length line
+  unfolding partsIn
+  several-fields e = by (leb (end + 1) (length line)) refl
+    where
+      by : (t : Bool) → leb (end + 1) (length line) ≡ t → end + 1 ≤ length line
+      by true f = leb-true (end + 1) (length line) f
+      by false f =
+          let short = leb-false (end + 1) (length line) f in
+          absurd (omega (arith, profile-seven line e, ap length (first-part space line end p), ap length (none-behind space line end (omega arith))))
+
+  pub two-fields : {last : ℕ} → end < length line → PartEnd space line (end + 1) last
+      → parted space line ≡ take end line ∷ take (last - (end + 1)) (drop (end + 1) line) ∷ partsBehind space line last
+  two-fields {last} h q = first-part space line end p ∙ ap (λ ps. take end line ∷ ps) (next-part space line end last h q)
+
+-- what a letter asks for
+module _ (letter : ℕ) (line : List ℕ) (end : ℕ) where
+  pub nothing-more : letter ≡ letterR → leb (length line) end ≡ areWhole letter (partsBehind space line end)
+  unfolding areWhole
+  nothing-more e =
+      by (leb (length line) end) refl
+      ∙ ap (λ t. elim t [ true ↦ eqb (length (partsBehind space line end)) 0 | false ↦ areProfile (partsBehind space line end) ]) (sym (eq-eqb letter letterR e))
+    where
+      by : (t : Bool) → leb (length line) end ≡ t → t ≡ eqb (length (partsBehind space line end)) 0
+      by true f = sym (eq-eqb (length (partsBehind space line end)) 0 (ap length (none-behind space line end (leb-true (length line) end f))))
+      by false f = sym (ne-eqb (length (partsBehind space line end)) 0 (λ g. omega (arith, g, some-behind space line end (leb-false (length line) end f))))
+
+  pub a-profile : (letter ≡ letterR → ⊥) → areProfile (partsBehind space line end) ≡ areWhole letter (partsBehind space line end)
+  unfolding areWhole
+  a-profile h = ap (λ t. elim t [ true ↦ eqb (length (partsBehind space line end)) 0 | false ↦ areProfile (partsBehind space line end) ]) (sym (ne-eqb letter letterR h))
+
+-- the command of a letter
+other-letter : (letter other : ℕ) (t : Bool) → (letter ≡ other → ⊥) → (eqb letter other && t) ≡ false
+other-letter letter other t h = ap (λ s. s && t) (ne-eqb letter other h)
+
+this-letter : (letter other : ℕ) {s t : Bool} → letter ≡ other → t ≡ s → (eqb letter other && t) ≡ s
+this-letter letter other h e = ap₂ _&&_ (eq-eqb letter other h) e
+
+module _ (letter : ℕ) (text : List ℕ) where
+  of-by : {a w n r : Bool} {v : ℕ} → (eqb letter letterA && isTag text) ≡ a → (eqb letter letterW && isNumber text) ≡ w → (eqb letter letterN && isNumber text) ≡ n
+      → (eqb letter letterR && isTag text) ≡ r → v ≡ numeral 10 text → commandBy a w n r v ≡ commandOf letter text
+  unfolding commandOf
+  of-by e f g h k = λ i. commandBy (sym e i) (sym f i) (sym g i) (sym h i) (k i)
+
+  module _ {t : Bool} {v : ℕ} (value : v ≡ numeral 10 text) where
+    pub within-said : letter ≡ letterW → isNumber text ≡ t → commandBy false t false false v ≡ commandOf letter text
+    within-said e f =
+        of-by (other-letter letter letterA _ (λ k. omega arith)) (this-letter letter letterW e f) (other-letter letter letterN _ (λ k. omega arith))
+        (other-letter letter letterR _ (λ k. omega arith)) value
+
+    pub nearest-said : letter ≡ letterN → isNumber text ≡ t → commandBy false false t false v ≡ commandOf letter text
+    nearest-said e f =
+        of-by (other-letter letter letterA _ (λ k. omega arith)) (other-letter letter letterW _ (λ k. omega arith)) (this-letter letter letterN e f)
+        (other-letter letter letterR _ (λ k. omega arith)) value
+
+    pub add-said : letter ≡ letterA → isTag text ≡ t → commandBy t false false false v ≡ commandOf letter text
+    add-said e f =
+        of-by (this-letter letter letterA e f) (other-letter letter letterW _ (λ k. omega arith)) (other-letter letter letterN _ (λ k. omega arith))
+        (other-letter letter letterR _ (λ k. omega arith)) value
+
+    pub remove-said : letter ≡ letterR → isTag text ≡ t → commandBy false false false t v ≡ commandOf letter text
+    remove-said e f =
+        of-by (other-letter letter letterA _ (λ k. omega arith)) (other-letter letter letterW _ (λ k. omega arith)) (other-letter letter letterN _ (λ k. omega arith))
+        (this-letter letter letterR e f) value
+
+  module _ (no-within : letter ≡ letterW → ⊥) (no-nearest : letter ≡ letterN → ⊥) where
+    pub no-tag-said : isTag text ≡ false → command.Other ≡ commandOf letter text
+    no-tag-said e =
+        of-by (ap (λ t. eqb letter letterA && t) e ∙ and-false (eqb letter letterA)) (other-letter letter letterW _ no-within) (other-letter letter letterN _ no-nearest)
+        (ap (λ t. eqb letter letterR && t) e ∙ and-false (eqb letter letterR)) refl
+
+    pub nothing-said : (letter ≡ letterA → ⊥) → (letter ≡ letterR → ⊥) → command.Other ≡ commandOf letter text
+    nothing-said h k =
+        of-by (other-letter letter letterA _ h) (other-letter letter letterW _ no-within) (other-letter letter letterN _ no-nearest) (other-letter letter letterR _ k) refl
+
+-- the letter of a first field of one byte
+pub first-byte : (line : List ℕ) → 1 ≤ length line → getD line 0 0 ≡ onlyByte (take 1 line)
+unfolding onlyByte
+first-byte [] h = absurd (omega arith)
+first-byte (b ∷ bs) h = refl
+
+-- a later line
+module _ (line : List ℕ) where
+  other-command : hasProfile line ≡ false → opens letterR isTag line ≡ false → command.Other ≡ commandIn line
+  other-command e r =
+      ap (λ t. elim t as (λ _. Command) [ true ↦ command.Remove (numeral 10 (partAt space line 1)) | false ↦ command.Other ]) (sym (and-false (eqb (partsIn space line) 2)))
+      ∙ command-by line e refl refl refl refl r
+
+  none-open : opens letterA isTag line ≡ false → opens letterW isNumber line ≡ false → opens letterN isNumber line ≡ false → opens letterR isTag line ≡ false
+      → command.Other ≡ commandIn line
+  none-open a w n r = by (hasProfile line) refl
+    where
+      by : (t : Bool) → hasProfile line ≡ t → command.Other ≡ commandIn line
+      by true e = command-by line e a w n refl refl
+      by false e = other-command e r
+
+  pub long-letter : {end : ℕ} → PartEnd space line 0 end → (end ≡ 1 → ⊥) → command.Other ≡ commandIn line
+  unfolding opens partAt
+  long-letter {end} p h = none-open (closed letterA isTag (omega arith)) (closed letterW isNumber (omega arith)) (closed letterN isNumber (omega arith)) (closed letterR isTag (omega arith))
+    where
+      letter : 0 ≡ onlyByte (partAt space line 0)
+      letter = only-other (take end line) (λ e. h (omega (arith, e, length-take end line, p .within))) ∙ ap (λ ps. onlyByte (getD ps 0 [])) (sym (first-part space line end p))
+
+      closed : (b : ℕ) (form : List ℕ → Bool) → 0 < b → opens b form line ≡ false
+      closed b form l = other-letter (onlyByte (partAt space line 0)) b (form (partAt space line 1)) (λ e. omega (arith, letter, e))
+
+  pub one-field : {end : ℕ} → PartEnd space line 0 end → length line ≤ end → command.Other ≡ commandIn line
+  unfolding partsIn
+  one-field {end} p h =
+      let one : partsIn space line ≡ 1 = ap length (first-part space line end p ∙ ap (λ ps. take end line ∷ ps) (none-behind space line end h)) in
+      command-by line (fails (hasProfile line) (λ e. omega (arith, one, profile-seven line e))) refl refl refl (ne-eqb (partsIn space line) 2 (λ e. omega (arith, one, e))) refl
+
+  -- a letter, the second field, and the fields behind it
+  module _ {x y : List ℕ} {ps : List (List ℕ)} (parts : parted space line ≡ x ∷ y ∷ ps) {b : ℕ} (letter : b ≡ onlyByte x) where
+    opens-as : (l : ℕ) (form : List ℕ → Bool) → opens l form line ≡ (eqb b l && form y)
+    unfolding opens partAt
+    opens-as l form = ap (λ qs. eqb (onlyByte (getD qs 0 [])) l && form (getD qs 1 [])) parts ∙ ap (λ k. eqb k l && form y) (sym letter)
+
+    second : numeral 10 y ≡ numeral 10 (partAt space line 1)
+    unfolding partAt
+    second = ap (λ qs. numeral 10 (getD qs 1 [])) (sym parts)
+
+    count : eqb (partsIn space line) 2 ≡ eqb (length ps) 0
+    unfolding partsIn
+    count = ap (λ qs. eqb (length qs) 2) parts ∙ two-more (length ps) 0
+
+    -- the grammar's choice, by the tests that the code makes
+    pub said : (t : Bool) → areWhole b ps ≡ t → elim t [ true ↦ commandOf b y | false ↦ command.Other ] ≡ commandIn line
+    unfolding areWhole
+    said t e = by (eqb b letterR) refl t e
+      where
+        told : {u : Bool} → eqb b letterR ≡ u → areWhole b ps ≡ elim u [ true ↦ eqb (length ps) 0 | false ↦ areProfile ps ]
+        told f = ap (λ u. elim u [ true ↦ eqb (length ps) 0 | false ↦ areProfile ps ]) f
+
+        no : (l : ℕ) (form : List ℕ → Bool) → (b ≡ l → ⊥) → opens l form line ≡ false
+        no l form h = opens-as l form ∙ other-letter b l (form y) h
+
+        removal : b ≡ letterR → (t : Bool) → eqb (length ps) 0 ≡ t → elim t [ true ↦ commandOf b y | false ↦ command.Other ] ≡ commandIn line
+        removal f true e =
+            sym (remove-said b y refl f refl)
+            ∙ ap (λ v. commandBy false false false (isTag y) v) second
+            ∙ command-by line (has-profile line parts ∙ fields-by ps (ne-eqb (length ps) 5 (λ k. omega (arith, k, eqb-true (length ps) 0 e))) refl refl) refl refl refl (count ∙ e)
+            (opens-as letterR isTag ∙ this-letter b letterR f refl)
+        removal f false e = kept (hasProfile line) refl
+          where
+            kept : (p : Bool) → hasProfile line ≡ p → command.Other ≡ commandIn line
+            kept true k = command-by line k (no letterA isTag (λ l. omega arith)) (no letterW isNumber (λ l. omega arith)) (no letterN isNumber (λ l. omega arith)) refl refl
+            kept false k = command-by line k refl refl refl (count ∙ e) refl
+
+        by : (u : Bool) → eqb b letterR ≡ u → (t : Bool) → areWhole b ps ≡ t → elim t [ true ↦ commandOf b y | false ↦ command.Other ] ≡ commandIn line
+        by true f t e = removal (eqb-true b letterR f) t (sym (told f) ∙ e)
+        by false f true e =
+            sym (of-by b y refl refl refl (ap (λ u. u && isTag y) f) refl)
+            ∙ ap (λ v. commandBy (eqb b letterA && isTag y) (eqb b letterW && isNumber y) (eqb b letterN && isNumber y) false v) second
+            ∙ command-by line (has-profile line parts ∙ sym (told f) ∙ e) (opens-as letterA isTag) (opens-as letterW isNumber) (opens-as letterN isNumber) refl refl
+        by false f false e = other-command (has-profile line parts ∙ sym (told f) ∙ e) (opens-as letterR isTag ∙ ap (λ u. u && isTag y) f)
