@@ -7,7 +7,7 @@ use mathlib.Core.List.{List, [], _∷_, map, foldl}
 use lib.ListN.{length}
 use Rattle.lists.specs.Lists.{total}
 use Rattle.metric_rules.specs.declared.Profile.{Profile}
-use Rattle.metric_rules.specs.Row.{isLive}
+use Rattle.metric_rules.specs.Row.{queryRow, mayReport}
 use Rattle.metric_rules.specs.Distance.{distance}
 use Rattle.search_rules.specs.Nearest.{Tally, nearestTree}
 use Rattle.search_rules.proofs.NearestLaws.{nearest-counted}
@@ -16,13 +16,13 @@ use Rattle.table_rules.specs.Search.{bucketsDown, nearestTally, nearestA
 
 module _ (t : Table) (query : Profile) (k : ℕ) where
   kept-over : (bs : List ℕ) (u : Tally) → length (u .kept) ≤ k
-      → length (foldl (λ tally b. nearestTree (distance (tableSpace t)) query isLive k tally (slotsOf t b)) u bs .kept)
+      → length (foldl (λ tally b. nearestTree (distance (tableSpace t)) query (mayReport (queryRow query 0)) k tally (slotsOf t b)) u bs .kept)
       ≡ min k (length (u .kept) + total (map (λ b. length (liveSlots t b)) bs))
   unfolding total liveSlots
   kept-over [] u few = omega arith
   kept-over (b ∷ bs) u few =
-      let next = nearestTree (distance (tableSpace t)) query isLive k u (slotsOf t b) in
-      let size = nearest-counted (distance (tableSpace t)) query isLive k u (slotsOf t b) few .size in
+      let next = nearestTree (distance (tableSpace t)) query (mayReport (queryRow query 0)) k u (slotsOf t b) in
+      let size = nearest-counted (distance (tableSpace t)) query (mayReport (queryRow query 0)) k u (slotsOf t b) few .size in
       omega (arith, size, kept-over bs next (omega (arith, size)))
 
   pub nearest-size : length (nearestAnswer t query k .entries) ≡ min k (total (map (λ b. length (liveSlots t b)) (bucketsDown t)))

@@ -6,7 +6,7 @@ use mathlib.Core.List.{List, [], _∷_, map, foldr}
 use lib.ListN.{length}
 use Rattle.lists.specs.Lists.{total}
 use Rattle.metric_rules.specs.declared.Profile.{Profile}
-use Rattle.metric_rules.specs.Row.{isLive}
+use Rattle.metric_rules.specs.Row.{queryRow, mayReport}
 use Rattle.metric_rules.specs.Distance.{distance}
 use Rattle.search_rules.specs.Range.{nothing, both, rangeTree}
 use Rattle.search_rules.specs.Reached.{reached}
@@ -16,11 +16,11 @@ use Rattle.table_rules.specs.Search.{bucketsDown, rangeMet, rangeAnswer}
 
 module _ (t : Table) (query : Profile) (radius : ℕ) where
   visits : (ks : List ℕ)
-      → foldr (λ k met. both (rangeTree (distance (tableSpace t)) query isLive radius (slotsOf t k)) met) nothing ks .count
+      → foldr (λ k met. both (rangeTree (distance (tableSpace t)) query (mayReport (queryRow query radius)) radius (slotsOf t k)) met) nothing ks .count
       ≡ total (map (λ k. length (reached (distance (tableSpace t)) query radius (slotsOf t k))) ks)
   unfolding nothing both total
   visits [] = refl
-  visits (k ∷ ks) = ap₂ _+_ (range-count (distance (tableSpace t)) query isLive radius (slotsOf t k)) (visits ks)
+  visits (k ∷ ks) = ap₂ _+_ (range-count (distance (tableSpace t)) query (mayReport (queryRow query radius)) radius (slotsOf t k)) (visits ks)
 
   pub range-visits :
       rangeAnswer t query radius .count ≡ total (map (λ k. length (reached (distance (tableSpace t)) query radius (slotsOf t k))) (bucketsDown t))

@@ -5,7 +5,7 @@ use mathlib.Core.List.{List, [], _++_, foldl, foldr, reverse}
 use lib.ListN.{length, replicate}
 use lib.Dec.{leb, eqb}
 use Rattle.metric_rules.specs.declared.Profile.{Profile}
-use Rattle.metric_rules.specs.Row.{isLive}
+use Rattle.metric_rules.specs.Row.{queryRow, mayReport}
 use Rattle.metric_rules.specs.Validity.{validMeasures}
 use Rattle.metric_rules.specs.Distance.{distance}
 use Rattle.search_rules.specs.Range.{Entry, Met, entry, nothing, both, ordered, rangeTree}
@@ -28,7 +28,7 @@ bucketsDown t = reverse (bucketsOf (orderOf t))
 -- RULES 11.5: range with one radius over all buckets: what each meets, joined
 unfoldable pub rangeMet : Table → Profile → ℕ → Met
 rangeMet t query radius =
-    foldr (λ k met. both (rangeTree (distance (tableSpace t)) query isLive radius (slotsOf t k)) met) nothing (bucketsDown t)
+    foldr (λ k met. both (rangeTree (distance (tableSpace t)) query (mayReport (queryRow query radius)) radius (slotsOf t k)) met) nothing (bucketsDown t)
 
 -- RULES 11.6, 11.10: the hits by distance, then tag. The count is the number of slots all of whose ancestors let their side be entered (`range-visits`)
 unfoldable pub rangeAnswer : Table → Profile → ℕ → Answer
@@ -37,7 +37,7 @@ rangeAnswer t query radius = let met = rangeMet t query radius in record { entri
 -- RULES 11.8: the kept entries and the count pass through every bucket
 unfoldable pub nearestTally : Table → Profile → ℕ → Tally
 nearestTally t query k =
-    foldl (λ tally b. nearestTree (distance (tableSpace t)) query isLive k tally (slotsOf t b)) (record { kept = []; count = 0 }) (bucketsDown t)
+    foldl (λ tally b. nearestTree (distance (tableSpace t)) query (mayReport (queryRow query 0)) k tally (slotsOf t b)) (record { kept = []; count = 0 }) (bucketsDown t)
 
 -- RULES 11.9, 15.3: the reply is what is kept, over any table min(k, Z) entries, Z being the number of built slots with mark 0 (`nearest-size`)
 unfoldable pub nearestAnswer : Table → Profile → ℕ → Answer

@@ -9,7 +9,7 @@ use Rattle.metric_rules.specs.declared.Profile.{Profile}
 use Rattle.metric_rules.specs.Row.{Row, tagOf, isLive}
 use Rattle.tree_rules.specs.Layout.{leftSize}
 use Rattle.search_rules.specs.Range.{Entry, entry, entersLeft, entersRight, Met, nothing, both, rangeTree}
-use Rattle.search_asked.specs.Asked.{distanceAsked, queryAsked, radiusAsked}
+use Rattle.search_asked.specs.Asked.{distanceAsked, queryAsked, reportsAsked, radiusAsked}
 use Rattle.tree_range.specs.declared.Found.{Found}
 
 -- the numbers before a visit and what it met give the numbers after it
@@ -36,4 +36,4 @@ metInHalves dist query reports radius d m rest =
 
 -- range over one tree's slots, by what is asked
 abbrev pub rangeAsked : List Row → List Row → Met
-rangeAsked asked slots = rangeTree (distanceAsked asked) (queryAsked asked) isLive (radiusAsked asked) slots
+rangeAsked asked slots = rangeTree (distanceAsked asked) (queryAsked asked) (reportsAsked asked) (radiusAsked asked) slots

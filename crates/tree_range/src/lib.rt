@@ -2,13 +2,14 @@
 ghost use mathlib.Core.Path.{_≡_};
 ghost use Prim.Native.Nat.{_+_, _<_, _^_};
 ghost use lib.ListN.{length};
-ghost use Rattle.metric_rules.specs.Row.{isLive};
-ghost use Rattle.search_asked.specs.Asked.{distanceAsked, queryAsked, radiusAsked};
+ghost use Rattle.metric_rules.specs.Row.{thresholdOf, mayReport};
+ghost use Rattle.search_asked.specs.Asked.{distanceAsked, queryAsked, reportsAsked, radiusAsked};
 ghost use Rattle.tree_range.specs.Collected.{foundAfter, collected, metAlone, metInHalves, rangeAsked};
 use metric::distance_between;
 use metric_rules::Row;
 use rows::threshold_of;
 use search_asked::Asked;
+use search_asked::may_report;
 use search_rules::Entry;
 
 // What a range search hands on: how many hits it found, and how many slots it visited.
@@ -18,16 +19,17 @@ pub struct Found {
 }
 
 // A slot alone, at distance d from the query: a hit is put behind those found before, where the area has room.
-fn meet(found: Found, row: Row, d: u32, radius: u32, area: &mut [Entry]) -> Found
+fn meet(found: Found, row: Row, d: u32, query: &Row, area: &mut [Entry]) -> Found
     requires { ⌜ (found .hits < 2 ^ 32) × (found .count < 2 ^ 32) ⌝ }
-    ensures reply { λ r. ⌜ r ≡ foundAfter found (metAlone isLive row d radius) ⌝ }
-    ensures area { λ _. ⌜ now (area .exit) ≡ collected (now (area .entry)) found (metAlone isLive row d radius) ⌝ }
+    ensures reply { λ r. ⌜ r ≡ foundAfter found (metAlone (mayReport (now (query .entry))) row d (thresholdOf (now (query .entry)))) ⌝ }
+    ensures area { λ _. ⌜ now (area .exit) ≡ collected (now (area .entry)) found (metAlone (mayReport (now (query .entry))) row d (thresholdOf (now (query .entry)))) ⌝ }
 {
     let at = found.hits;
     let count = found.count + 1;
-    if !rows::is_live(row) {
+    if !may_report(query, row) {
         return Found { hits: at, count };
     }
+    let radius = threshold_of(*query);
     if radius < d {
         return Found {
             hits: found.hits,
@@ -55,7 +57,7 @@ pub fn range_tree(found: Found, slots: &[Row], area: &mut [Entry], asked: &Asked
     }
     let row = slots[0];
     let d = distance_between(&asked[0], row, asked[1]);
-    let met = meet(found, row, d, threshold_of(asked[1]), area);
+    let met = meet(found, row, d, &asked[1], area);
     range_halves(met, &slots[1..], d, threshold_of(row), area, asked)
 }
 
@@ -69,8 +71,8 @@ fn range_halves(
     asked: &Asked,
 ) -> Found
     requires { ⌜ (found .hits + length (now rest) < 2 ^ 32) × (found .count + length (now rest) < 2 ^ 32) ⌝ }
-    ensures reply { λ r. ⌜ r ≡ foundAfter found (metInHalves (distanceAsked (now (asked .entry))) (queryAsked (now (asked .entry))) isLive (radiusAsked (now (asked .entry))) d m (now (rest .entry))) ⌝ }
-    ensures area { λ _. ⌜ now (area .exit) ≡ collected (now (area .entry)) found (metInHalves (distanceAsked (now (asked .entry))) (queryAsked (now (asked .entry))) isLive (radiusAsked (now (asked .entry))) d m (now (rest .entry))) ⌝ }
+    ensures reply { λ r. ⌜ r ≡ foundAfter found (metInHalves (distanceAsked (now (asked .entry))) (queryAsked (now (asked .entry))) (reportsAsked (now (asked .entry))) (radiusAsked (now (asked .entry))) d m (now (rest .entry))) ⌝ }
+    ensures area { λ _. ⌜ now (area .exit) ≡ collected (now (area .entry)) found (metInHalves (distanceAsked (now (asked .entry))) (queryAsked (now (asked .entry))) (reportsAsked (now (asked .entry))) (radiusAsked (now (asked .entry))) d m (now (rest .entry))) ⌝ }
 {
     let l = rest.len() - rest.len() / 2;
     let radius = threshold_of(asked[1]);

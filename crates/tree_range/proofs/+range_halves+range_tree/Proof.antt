@@ -8,13 +8,13 @@ use borrow.Author.Tests.{ltb-false}
 use lib.Dec.{leb, ltb}
 use Rattle.lists.proofs.Tests.{and-second}
 use Rattle.tree_rules.proofs.Parts.{left-size, part-rest}
-use Rattle.metric_rules.specs.Row.{Row, isLive}
+use Rattle.metric_rules.specs.Row.{Row}
 use Rattle.tree_rules.specs.Layout.{leftSize}
 use Rattle.search_rules.specs.Range.{Met, nothing, entersLeft, entersRight, toQuery}
 use Rattle.search_rules.proofs.RangeLaws.{ifEntered, range-count-le, range-hits-le}
 use Rattle.tree_range.specs.declared.Found.{Found}
-use Rattle.search_asked.specs.Asked.{distanceAsked, queryAsked, radiusAsked}
-use Rattle.tree_range.specs.Collected.{foundAfter, collected, metAlone, metInHalves, rangeAsked}
+use Rattle.search_asked.specs.Asked.{distanceAsked, queryAsked, reportsAsked, radiusAsked}
+use Rattle.tree_range.specs.Collected.{foundAfter, collected, metInHalves, rangeAsked}
 use Rattle.tree_range.proofs.Collecting.{tree-empty, empty-half, entered, skipped, half-found, found-nothing, collected-nothing, collected-length, alone-found, two-steps, tree-visit}
 use Prim.Native.Nat.{ℕ, suc, _+_, _-_, _*_, _/_, _^_, _<_}
 use native.Mathlib.Omega.{arith}
@@ -65,7 +65,7 @@ abbrev range-halves-callees : ℕ → range-halves-lts.Claims
 range-halves-callees t = (threshold-of-reads.Asked, threshold-of-reads.Learnt, range-tree-below t, range-tree.Post)
 
 abbrev range-tree-callees : ℕ → range-tree-lts.Claims
-range-tree-callees t = (distance-between-reads.Asked, distance-between-reads.Learnt, threshold-of-reads.Asked, threshold-of-reads.Learnt, meet-reads.Asked, meet-reads.Learnt, range-halves-below t, range-halves.Post)
+range-tree-callees t = (distance-between-reads.Asked, distance-between-reads.Learnt, meet-reads.Asked, meet-reads.Learnt, threshold-of-reads.Asked, threshold-of-reads.Learnt, range-halves-below t, range-halves.Post)
 
 -- what the left half gives, and what the right half gives
 abbrev leftMet : List Row → ℕ → ℕ → List Row → Met
@@ -88,7 +88,7 @@ module _ (asked : List Row) (r d m : ℕ) (rest : List Row) (q : r ≡ radiusAsk
     where
       go : (b : Bool) → ltb 0 (length rest - length rest / 2) ≡ b → b && leb d (m + r) ≡ false → nothing ≡ leftMet asked d m rest
       go true e f = sym (skipped (leb d (m + radiusAsked asked)) _ (ap (λ (x : ℕ). leb d (m + x)) (sym q) ∙ f))
-      go false e f = sym (empty-half (distanceAsked asked) (queryAsked asked) isLive (radiusAsked asked) (leb d (m + radiusAsked asked)) (take (leftSize (suc (length rest))) rest) (rw length-take (omega (arith, ltb-false 0 (length rest - length rest / 2) e, left-size (length rest)))))
+      go false e f = sym (empty-half (distanceAsked asked) (queryAsked asked) (reportsAsked asked) (radiusAsked asked) (leb d (m + radiusAsked asked)) (take (leftSize (suc (length rest))) rest) (rw length-take (omega (arith, ltb-false 0 (length rest - length rest / 2) e, left-size (length rest)))))
 
   right-entered : ltb (length rest - length rest / 2) (length rest) && leb m (d + r) ≡ true
       → rangeAsked asked (take (length rest - (length rest - length rest / 2)) (drop (length rest - length rest / 2) rest)) ≡ rightMet asked d m rest
@@ -103,7 +103,7 @@ module _ (asked : List Row) (r d m : ℕ) (rest : List Row) (q : r ≡ radiusAsk
     where
       go : (b : Bool) → ltb (length rest - length rest / 2) (length rest) ≡ b → b && leb m (d + r) ≡ false → nothing ≡ rightMet asked d m rest
       go true e f = sym (skipped (leb m (d + radiusAsked asked)) _ (ap (λ (x : ℕ). leb m (d + x)) (sym q) ∙ f))
-      go false e f = sym (empty-half (distanceAsked asked) (queryAsked asked) isLive (radiusAsked asked) (leb m (d + radiusAsked asked)) (drop (leftSize (suc (length rest))) rest) (rw length-drop (omega (arith, ltb-false (length rest - length rest / 2) (length rest) e, left-size (length rest)))))
+      go false e f = sym (empty-half (distanceAsked asked) (queryAsked asked) (reportsAsked asked) (radiusAsked asked) (leb m (d + radiusAsked asked)) (drop (leftSize (suc (length rest))) rest) (rw length-drop (omega (arith, ltb-false (length rest - length rest / 2) (length rest) e, left-size (length rest)))))
 
 -- the numbers that the left half's turn leaves have room for the right half
 left-leaves : (asked : List Row) (d m : ℕ) (rest : List Row) (f met : Found) → met ≡ foundAfter f (leftMet asked d m rest)
@@ -114,7 +114,7 @@ left-leaves asked d m rest f met e p q =
     let left = take (leftSize (suc (length rest))) rest in
     let size : length left ≡ length rest - length rest / 2 = ap (λ (l : ℕ). length (take l rest)) (sym (left-size (length rest))) ∙ length-take-le (length rest - length rest / 2) rest (omega arith) in
     let few =
-    half-found f (entersLeft d m (radiusAsked asked)) (rangeAsked asked left) (length left) (length rest / 2) (range-hits-le (distanceAsked asked) (queryAsked asked) isLive (radiusAsked asked) left) (range-count-le (distanceAsked asked) (queryAsked asked) isLive (radiusAsked asked) left) (omega arith) (omega arith)
+    half-found f (entersLeft d m (radiusAsked asked)) (rangeAsked asked left) (length left) (length rest / 2) (range-hits-le (distanceAsked asked) (queryAsked asked) (reportsAsked asked) (radiusAsked asked) left) (range-count-le (distanceAsked asked) (queryAsked asked) (reportsAsked asked) (radiusAsked asked) left) (omega arith) (omega arith)
     in
     let far : length (take (length rest - (length rest - length rest / 2)) (drop (length rest - length rest / 2) rest)) ≡ length rest / 2 = simp (length-take, length-drop) (omega arith) in
     (omega (arith, few .0, ap (λ (g : Found). g .hits) e), omega (arith, few .1, ap (λ (g : Found). g .count) e))
@@ -190,7 +190,7 @@ range-halves-returns-2 t c =
 range-tree-returns : (t : ℕ) → range-tree-lts.Need-returns (range-tree-callees t) (range-tree-at t) range-tree.Post
 range-tree-returns t c =
     let a = c .before .args in
-    let none = tree-empty (distanceAsked (a .asked .now)) (queryAsked (a .asked .now)) isLive (radiusAsked (a .asked .now)) (a .slots .now) (c .if1 .taken) in (
+    let none = tree-empty (distanceAsked (a .asked .now)) (queryAsked (a .asked .now)) (reportsAsked (a .asked .now)) (radiusAsked (a .asked .now)) (a .slots .now) (c .if1 .taken) in (
       sym (ap (foundAfter (a .found)) none ∙ found-nothing (a .found)),
       sym (ap (collected (a .area .now) (a .found)) none ∙ collected-nothing (a .area .now) (a .found)),
     )
@@ -198,12 +198,11 @@ range-tree-returns t c =
 range-tree-range-halves-requires : (t : ℕ) → range-tree-lts.Need-range-halves-requires (range-tree-callees t) (range-tree-at t) range-tree.Post
 range-tree-range-halves-requires t c κs =
     let met = c .before .before .before .before in
-    let radius = met .before .before in
-    let d = radius .before .before in
+    let d = met .before .before .before in
     let start = d .before .before .before .before .before in
     let a = start .args in
     let n = length (a .slots .now) in
-    let few = alone-found isLive (a .found) (getD (a .slots .now) 0 []) (d .distance-between .result) (radius .threshold-of .result) n (search needs) (start .pre .1 .0) (start .pre .1 .1) in
+    let few = alone-found (reportsAsked (a .asked .now)) (a .found) (getD (a .slots .now) 0 []) (d .distance-between .result) (radiusAsked (a .asked .now)) n (search needs) (start .pre .1 .0) (start .pre .1 .1) in
     let size : length (take (n - 1) (drop 1 (a .slots .now))) ≡ n - 1 = simp (length-take, length-drop) (omega arith) in (
       omega (arith, start .pre .0, size),
       (omega (arith, size, few .0, ap (λ (g : Found). g .hits) (met .meet .ensures .0)), omega (arith, size, few .1, ap (λ (g : Found). g .count) (met .meet .ensures .0))),
@@ -217,18 +216,15 @@ unfolding toQuery
 range-tree-returns-2 t c =
     let m = c .before .before .before in
     let met = m .before .before .before in
-    let radius = met .before .before in
-    let d = radius .before .before in
+    let d = met .before .before .before in
     let a = d .before .before .before .before .before .args in
     let halves = c .before .range-halves in
-    let r = radius .threshold-of .ensures in
-    let alone = ap (metAlone isLive (getD (a .slots .now) 0 []) (d .distance-between .result)) r in
-    tree-visit (distanceAsked (a .asked .now)) (queryAsked (a .asked .now)) isLive (radiusAsked (a .asked .now)) (a .slots .now) (a .found) (a .area .now)
+    tree-visit (distanceAsked (a .asked .now)) (queryAsked (a .asked .now)) (reportsAsked (a .asked .now)) (radiusAsked (a .asked .now)) (a .slots .now) (a .found) (a .area .now)
     (omega (arith, d .before .before .before .before .if1 .left))
-    (d .distance-between .result) (m .threshold-of2 .result) (d .distance-between .ensures) (m .threshold-of2 .ensures)
+    (d .distance-between .result) (m .threshold-of .result) (d .distance-between .ensures) (m .threshold-of .ensures)
     (met .meet .result) (met .meet .last .1 .1 .1 .1 .0)
-    (met .meet .ensures .0 ∙ ap (foundAfter (a .found)) alone)
-    (met .meet .ensures .1 ∙ ap (collected (a .area .now) (a .found)) alone)
+    (met .meet .ensures .0)
+    (met .meet .ensures .1)
     (halves .result) (halves .last .1 .1 .1 .1 .0) (halves .ensures .0) (halves .ensures .1)
 
 pub +range-halves+range-tree-spec : {M : Type 1} → statement M
@@ -247,7 +243,7 @@ pub +range-halves+range-tree-spec : {M : Type 1} → statement M
     range-tree.Post
     (range-tree-returns t)
     (λ c. search needs) (λ c. search needs) (λ c. search needs) (λ c κs. search needs) (λ c. search needs)
-    (λ c κs. search needs) (λ c κs. search needs) (λ c. search needs) (λ c. search needs) (λ c. search needs)
+    (λ c κs. search needs) (λ c. search needs) (λ c. search needs) (λ c. search needs)
     (λ c κs. search needs)
     (range-tree-range-halves-requires t)
     (range-tree-same-length t)
