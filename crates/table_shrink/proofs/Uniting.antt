@@ -39,9 +39,9 @@ one-gathered t k work n used e f =
     record { number = omega (arith, e, ap length (items-one t k)); stored = f ∙ ap (sets work 0) (sym (items-one t k)) }
 
 pub two-gathered :
-    (t : Table) (k j : ℕ) (work : List Row) (first n : ℕ) (half used : List Row) → first ≡ 0 + length (liveSlots t k) → half ≡ sets work 0 (liveSlots t k)
-    → n ≡ first + length (liveSlots t j) → used ≡ sets half first (liveSlots t j) → Gathered t (k ∷ j ∷ []) work n used
-two-gathered t k j work first n half used e f g h =
+    (t : Table) (k j : ℕ) (work : List Row) (first n : ℕ) (half used : List Row) → half ≡ sets work 0 (liveSlots t k) → used ≡ sets half first (liveSlots t j)
+    → first ≡ 0 + length (liveSlots t k) → n ≡ first + length (liveSlots t j) → Gathered t (k ∷ j ∷ []) work n used
+two-gathered t k j work first n half used f h e g =
     record {
       number = omega (arith, e, g, ap length (items-two t k j), length-append (liveSlots t k) (liveSlots t j));
       stored =

@@ -64,7 +64,7 @@ build-bucket-requires c κs =
     let g = c .before .before .before .before .before .before .before .before .before .gather-bucket2 in
     let made : Gathered (s .args .table .now) (s .args .k ∷ s .args .other ∷ []) (s .args .work .now) (g .result) (g .last .1 .1 .1 .0) =
     two-gathered (s .args .table .now) (s .args .k) (s .args .other) (s .args .work .now) (f .result) (g .result) (f .last .1 .1 .1 .0) (g .last .1 .1 .1 .0)
-    (f .ensures .0) (f .ensures .1) (g .ensures .0) (g .ensures .1) in (
+    (f .ensures .1) (g .ensures .1) (f .ensures .0) (g .ensures .0) in (
       subst⁻¹ (λ (u : List Row). OfOrder u (s .args .order .t)) (c .before .before .before .empty-bucket2 .ensures ∙ ap (putBucket (s .args .other) [] 0) (c .before .before .before .before .before .before .empty-bucket .ensures)) (lent-emptied (fit s)),
       s .pre .3,
       omega (arith, made .number, s .pre .4),
@@ -80,7 +80,7 @@ returns c =
     let b = c .before .before .build-bucket .ensures in
     let made : Gathered (s .args .table .now) (s .args .k ∷ s .args .other ∷ []) (s .args .work .now) (g .result) (g .last .1 .1 .1 .0) =
     two-gathered (s .args .table .now) (s .args .k) (s .args .other) (s .args .work .now) (f .result) (g .result) (f .last .1 .1 .1 .0) (g .last .1 .1 .1 .0)
-    (f .ensures .0) (f .ensures .1) (g .ensures .0) (g .ensures .1) in (
+    (f .ensures .1) (g .ensures .1) (f .ensures .0) (g .ensures .0) in (
       table-united (fit s) made (c .before .before .before .before .before .before .empty-bucket2 .ensures ∙ ap (putBucket (s .args .other) [] 0) (c .before .before .before .before .before .before .before .before .before .empty-bucket .ensures)) (b .0),
       (b .1 .0 ∙ work-cleared (fit s) made, cost-united (fit s) made (b .1 .1)),
     )
