@@ -18,10 +18,10 @@ use Rattle.table_rules.specs.Add.{addRefusal, emptyFrom, lowestEmpty, gathered,
 use Rattle.table_rules.specs.Remove.{removeRefusal, marked, united, rebuiltLower, shrunk, removed, removeReply, tableAfterRemove, workAfterRemove}
 use Rattle.table_rules.specs.LookUp.{placeFrom, placeIn, find, isLiveTag, lookUpRefusal, noProfile, notFound, lookUpReply}
 use Rattle.table_rules.specs.Search.{bucketsDown, rangeMet, rangeAnswer, nearestTally, nearestAnswer, fitRefusal, rangeRefusal, nearestRefusal, searchReply, zeroEntry, resultAfter, rangeReply, resultAfterRange, nearestReply, resultAfterNearest}
-use Rattle.image_rules.specs.Bytes.{bytesOf, numberOf, headerFields, tagFields, recordFields, bytesOfFields, headerBytes, tagBytes, recordBytes, sizeBytes, pairBytes, sizesEnd, tagWords, imageLength}
-use Rattle.image_rules.specs.Write.{headerBytesOf, sizesOf, tagsOf, recordsOf, allSlots, imageOf, writeRefusal, writeReply, imageAfterWrite}
-use Rattle.image_rules.specs.Read.{numberAt, fieldsAt, headerNumbers, orderIn, spaceIn, zerosIn, builtIn, liveIn, slotsBefore, slotsIn, rowIn, bucketIn}
-use Rattle.image_rules.specs.Load.{fieldsPass, bucketPasses, liveRows, slotsPass, bodyRefusal, loadRefusal, loadedTable, tableAfterLoad}
+use Rattle.image_rules.specs.Bytes.{bytesOf, numberOf, lastForm, validForm, writtenForm, startFields, headerFields, tagFields, recordFields, bytesOfFields, startBytes, headerBytes, tagBytes, recordBytes, sizeBytes, pairBytes, sizesEnd, tagWords, imageLength}
+use Rattle.image_rules.specs.Write.{headerBytesOf, sizesOf, tagsOf, recordsOf, allSlots, imageAs, imageOf, writeRefusal, writeReply, imageAfterWrite}
+use Rattle.image_rules.specs.Read.{numberAt, fieldsAt, startNumbers, orderIn, spaceIn, formIn, builtIn, liveIn, slotsBefore, slotsIn, rowIn, bucketIn}
+use Rattle.image_rules.specs.Load.{fieldsPass, bucketPasses, liveRows, slotsPass, loadRefusal, loadedTable, tableAfterLoad}
 use Rattle.text_rules.specs.Text.{onto, parted, partAt, partsIn, digitOf, isDigit, isNumeral, numeralAfter, numeral}
 use Rattle.text_rules.specs.Fields.{isNegative, unsigned, isMeasure, hundredths, measureIn}
 use Rattle.list_rules.specs.Lines.{listHeader, hasHeader, isItemLine, itemTag, itemProfile, lineOf, linesFrom, linesOf, itemLines}
@@ -48,10 +48,10 @@ unfolding
     workAfterAdd removeRefusal marked united rebuiltLower shrunk removed removeReply tableAfterRemove workAfterRemove
     placeFrom placeIn find isLiveTag lookUpRefusal noProfile notFound lookUpReply bucketsDown rangeMet rangeAnswer
     nearestTally nearestAnswer fitRefusal rangeRefusal nearestRefusal searchReply zeroEntry resultAfter rangeReply
-    resultAfterRange nearestReply resultAfterNearest bytesOf numberOf headerFields tagFields recordFields bytesOfFields headerBytes tagBytes
-    recordBytes sizeBytes pairBytes sizesEnd tagWords imageLength headerBytesOf sizesOf tagsOf recordsOf allSlots imageOf writeRefusal
-    writeReply imageAfterWrite numberAt fieldsAt headerNumbers orderIn spaceIn zerosIn builtIn liveIn slotsBefore slotsIn rowIn bucketIn
-    distinct fieldsPass bucketPasses liveRows slotsPass bodyRefusal loadRefusal loadedTable tableAfterLoad onto parted partAt partsIn digitOf isDigit
+    resultAfterRange nearestReply resultAfterNearest bytesOf numberOf lastForm validForm writtenForm startFields headerFields tagFields recordFields bytesOfFields startBytes headerBytes tagBytes
+    recordBytes sizeBytes pairBytes sizesEnd tagWords imageLength headerBytesOf sizesOf tagsOf recordsOf allSlots imageAs imageOf writeRefusal
+    writeReply imageAfterWrite numberAt fieldsAt startNumbers orderIn spaceIn formIn builtIn liveIn slotsBefore slotsIn rowIn bucketIn
+    distinct fieldsPass bucketPasses liveRows slotsPass loadRefusal loadedTable tableAfterLoad onto parted partAt partsIn digitOf isDigit
     isNumeral numeralAfter numeral isNegative unsigned isMeasure hundredths measureIn listHeader hasHeader isItemLine itemTag itemProfile lineOf
     linesFrom linesOf itemLines stopped oneMore reading listReading readListReply tableAfterReadList workAfterReadList
 performed c t areas = record { reply = replyTo c t areas; table = tableAfter c t areas; areas = areasAfter c t areas }

@@ -3,6 +3,7 @@ use Prim.Native.Nat.{ℕ, _≤_}
 use mathlib.Core.Path.{_≡_, sym, ap, ap₂, _∙_}
 use mathlib.Core.Bool.{true}
 use native.Mathlib.Omega.{arith}
+use borrow.Author.Tests.{le-leb}
 use Rattle.lists.specs.Lists.{every}
 use Rattle.lists.proofs.Tests.{and-second, and-pass, all-every}
 use Rattle.metric_rules.specs.Distance.{validSpace}
@@ -12,12 +13,12 @@ use Rattle.table_rules.specs.Table.{Table, orderOf, tableSpace, liveOf, slotsOf
 use Rattle.table_rules.specs.Checks.{marksPass, liveSizeHolds, slotsMarked}
 use Rattle.table_rules.proofs.Buckets.{order-most, every-bucket}
 use Rattle.table_rules.proofs.Live.{slots-length}
-use Rattle.image_rules.specs.Bytes.{imageLength}
+use Rattle.image_rules.specs.Bytes.{lastForm, validForm, writtenForm, imageLength}
 use Rattle.image_rules.specs.Write.{imageOf}
-use Rattle.image_rules.specs.Read.{orderIn}
+use Rattle.image_rules.specs.Read.{formIn, orderIn, slotsIn}
 use Rattle.image_rules.specs.Load.{bucketPasses}
 use Rattle.image_rules.proofs.EachBucket.{buckets-all}
-use Rattle.image_rules.proofs.ReadBack.{FitsImage, reads-back, zeros-back}
+use Rattle.image_rules.proofs.ReadBack.{FitsImage, reads-back, form-back}
 use Rattle.image_rules.proofs.ReadTests.{reads-slots, reads-sizes, reads-buckets}
 use Rattle.image_rules.proofs.Accepting.{Accepted}
 use Rattle.image_rules.proofs.Lengths.{length-image-built}
@@ -54,17 +55,25 @@ module _ {t : Table} (invariant : Invariant t) where
       and-second (every validMark slots) (liveSizeHolds slots (liveOf t k)) marks in
       and-pass _ _ (and-pass _ _ (and-pass _ _ (invariant .fields k h) live) (invariant .apart k h)) (invariant .laid k h)
 
+  -- the form that is written is one that loads
+  written-valid : (form : ℕ) → form ≡ writtenForm → validForm form ≡ true
+  unfolding validForm lastForm writtenForm
+  written-valid form e = le-leb form 0 (omega (arith, e))
+
   -- the image of a sound table loads into any area that is long enough
   pub invariant-accepted : (rows : ℕ) → tableRows (orderOf t) ≤ rows → Accepted rows (imageOf t)
   invariant-accepted rows h =
       let reads = reads-back t invariant-fits in
       let order : orderIn (imageOf t) ≡ orderOf t = reads .order in
+      let form : formIn (imageOf t) ≡ writtenForm = form-back t invariant-fits in
       record {
         order = ap validOrder order ∙ invariant .order;
         space = ap validSpace (reads .space) ∙ invariant .space;
-        zeros = zeros-back t invariant-fits;
+        form = written-valid (formIn (imageOf t)) form;
         sizes = reads-sizes reads ∙ invariant .sizes;
-        long = length-image-built t (slots-length (invariant-roomy invariant)) ∙ ap₂ imageLength (sym order) (sym (reads-slots reads));
+        long = length-image-built t (slots-length (invariant-roomy invariant))
+            ∙ ap₂ (imageLength writtenForm) (sym order) (sym (reads-slots reads))
+            ∙ ap (λ (f : ℕ). imageLength f (orderIn (imageOf t)) (slotsIn (imageOf t))) (sym form);
         roomy = rw order h;
         slots = reads-buckets reads ∙ and-pass _ _ (all-every _ _ (buckets-all (λ k. bucketPasses (tableSpace t) (liveOf t k) (slotsOf t k) ≡ true) (orderOf t) bucket-invariant)) (invariant .once);
       }

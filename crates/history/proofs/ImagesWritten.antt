@@ -14,9 +14,9 @@ use Rattle.table_rules.specs.Geometry.{tableRows}
 use Rattle.table_rules.specs.Table.{Table, orderOf}
 use Rattle.table_rules.proofs.Views.{same-order, same-space, kept-built, kept-live, kept-slots, own-header, own-kept}
 use Rattle.image_rules.specs.Write.{imageOf, writeRefusal, writeReply, imageAfterWrite}
-use Rattle.image_rules.proofs.ReadBack.{reads-back}
+use Rattle.image_rules.proofs.ReadBack.{reads-back, form-back}
 use Rattle.image_rules.proofs.Lengths.{image-below}
-use Rattle.image_rules.proofs.GivesBack.{gives-back}
+use Rattle.image_rules.proofs.GivesBack.{gives-written}
 use Rattle.history.specs.Trace.{overlaid}
 use Rattle.history.specs.Images.{writing, imageWritten}
 use Rattle.history.proofs.Invariant.{Invariant}
@@ -49,7 +49,7 @@ image-own {t} invariant u own =
     let order : orderOf u ≡ orderOf t = same-order (own-header t u own) in
     let at : (k : ℕ) → k ≤ orderOf u → k ≤ orderOf t = λ k h. omega (arith, order) in
     let ok = invariant-accepted invariant (tableRows (orderOf t)) (omega arith) in
-    gives-back u (imageOf t) (record { bytes = image-below t; long = ok .long; zeros = ok .zeros })
+    gives-written u (imageOf t) (record { bytes = image-below t; long = ok .long }) (form-back t (invariant-fits invariant))
     (record {
       order = reads .order ∙ sym order;
       space = reads .space ∙ sym (same-space (own-header t u own));

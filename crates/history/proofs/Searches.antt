@@ -1,4 +1,4 @@
--- Searches worked by hand from 01's "Searching": equal bounds, dead and foreign slots, the three metrics, ties of tag and of rank, and the largest distance.
+-- Searches worked by hand from RULES 11: equal bounds, dead and foreign slots, the three metrics, ties of tag and of rank, and the largest distance.
 -- Each is a run that antt computes. A reply is refusal, found, distances and then each entry's tag and distance.
 use Prim.Native.Nat.{ℕ, _+_, _-_, _*_, _^_}
 use mathlib.Core.Path.{_≡_, refl}

@@ -7,7 +7,7 @@ use Rattle.lists.specs.Lists.{total}
 use Rattle.table_rules.specs.Geometry.{bucketsOf, tableRows}
 use Rattle.table_rules.specs.Table.{Table, orderOf, builtOf}
 use Rattle.image_rules.specs.declared.Written.{Written}
-use Rattle.image_rules.specs.Bytes.{imageLength}
+use Rattle.image_rules.specs.Bytes.{writtenForm, imageLength}
 use Rattle.call_rules.specs.Calls.{beginReply, tableBegun, replyTo, areasAfter}
 use Rattle.call_rules.specs.Calls.Begin.{load}
 use Rattle.call_rules.specs.Calls.Call.{write}
@@ -15,7 +15,7 @@ use Rattle.history.specs.Trace.{overlaid}
 
 -- RULES 12.1: the bytes that a table's image takes
 unfoldable pub imageSize : Table → ℕ
-imageSize t = imageLength (orderOf t) (total (map (builtOf t) (bucketsOf (orderOf t))))
+imageSize t = imageLength writtenForm (orderOf t) (total (map (builtOf t) (bucketsOf (orderOf t))))
 
 -- the call that writes a table's image, lent a table area and one for the bytes: its reply, and the bytes that it wrote
 unfoldable pub writing : Table → Table → List ℕ → Written

@@ -4,4 +4,3 @@ pub mod Ranking
 pub mod Apart
 pub mod Arranging
 pub mod Filling
-pub mod Reading

@@ -6,32 +6,17 @@ ghost use mathlib.Core.List.{map};
 ghost use lib.ListN.{length};
 ghost use Rattle.lists.specs.Lists.{distinct, All};
 ghost use Rattle.search_rules.specs.Range.{ordered};
+ghost use Rattle.image_read.specs.InImage.{InImage, slotIn};
 ghost use Rattle.image_entries.specs.Entries.{places, entryTag, tagEntry, Fresh, TagsFit, slotEntries};
-ghost use Rattle.image_entries.specs.InImage.{InImage, slotIn};
 use entry_sort::sort_entries;
-use image_read::row_in;
+use image_read::Slots;
+use image_read::slot_in;
 use metric_rules::Row;
 use rows::tag_of;
 use search_rules::Entry;
 
 // A bucket has at most so many slots, and an entry's first word room for as many places below the tag.
 pub const PLACES: u64 = 4096;
-
-// A bucket's slots in an image: the places of the tags and of the records, the bucket's first slot among all, and the number of its slots.
-pub struct Slots {
-    pub tags: usize,
-    pub records: usize,
-    pub first: usize,
-    pub count: usize,
-}
-
-// Slot i of a bucket.
-pub fn slot_in(image: &[u8], at: Slots, i: usize) -> Row
-    requires { ⌜ InImage (now image) at × (i < at .count) ⌝ }
-    ensures { λ r. ⌜ r ≡ slotIn (now (image .entry)) at i ⌝ }
-{
-    row_in(image, at.tags, at.records, at.first + i)
-}
 
 // The entry of a tag and a place.
 pub fn tag_entry(tag: u64, place: usize) -> Entry

@@ -1,20 +1,21 @@
 // What an image's sizes and its slots one by one must pass. Tags and layouts of whole buckets come after this.
 ghost use mathlib.Core.Path.{_≡_};
 ghost use mathlib.Core.List.{map};
-ghost use Prim.Native.Nat.{_+_, _≤_};
-ghost use lib.ListN.{length};
-ghost use Rattle.lists.specs.Lists.{total, countFrom, every};
+ghost use Prim.Native.Nat.{_≤_};
+ghost use Rattle.lists.specs.Lists.{total, every};
 ghost use Rattle.table_rules.specs.Geometry.{bucketsOf};
 ghost use Rattle.table_rules.specs.Checks.{sizePasses, sizesPass};
-ghost use Rattle.image_rules.specs.Bytes.{sizesEnd};
-ghost use Rattle.image_rules.specs.Read.{orderIn, builtIn, liveIn, slotsIn, rowIn, bucketIn};
+ghost use Rattle.image_rules.specs.Read.{orderIn, builtIn, liveIn, bucketIn};
 ghost use Rattle.image_rules.specs.Load.{fieldsPass};
-ghost use Rattle.image_read.specs.Places.{Places};
+ghost use Rattle.image_read.specs.InImage.{HasSizes, Whole, InImage, slotsAt};
 ghost use Rattle.image_fields.specs.SlotsRead.{slotsRead};
+use image_form::Form;
+use image_read::Header;
+use image_read::Slots;
 use image_read::built_in;
 use image_read::live_in;
-use image_read::order_in;
-use image_read::row_in;
+use image_read::slot_in;
+use image_read::some_of;
 use metric::valid_measures;
 use metric::valid_tag;
 use metric_rules::Row;
@@ -25,13 +26,13 @@ use table_checks::size_passes;
 use table_order::Order;
 
 // Every bucket's sizes.
-fn each_size_passes(image: &[u8], t: u32) -> bool
-    requires { ⌜ (t ≤ 12) × (sizesEnd t ≤ length (now image)) ⌝ }
+fn each_size_passes(image: &[u8], form: Form, t: u32) -> bool
+    requires { ⌜ (t ≤ 12) × HasSizes (now image) form t ⌝ }
     ensures { λ r. ⌜ r ≡ every (λ k. sizePasses k (builtIn (now (image .entry)) k) (liveIn (now (image .entry)) k)) (bucketsOf t) ⌝ }
 {
     let mut k = 0;
     while k <= t {
-        if !size_passes(k, built_in(image, k), live_in(image, k)) {
+        if !size_passes(k, built_in(image, form, k), live_in(image, form, k)) {
             return false;
         }
         k += 1;
@@ -40,27 +41,27 @@ fn each_size_passes(image: &[u8], t: u32) -> bool
 }
 
 // The live sizes of all buckets.
-fn live_total(image: &[u8], t: u32) -> usize
-    requires { ⌜ (t ≤ 12) × (sizesEnd t ≤ length (now image)) ⌝ }
+fn live_total(image: &[u8], form: Form, t: u32) -> usize
+    requires { ⌜ (t ≤ 12) × HasSizes (now image) form t ⌝ }
     ensures { λ r. ⌜ r ≡ total (map (liveIn (now (image .entry))) (bucketsOf t)) ⌝ }
 {
     let mut sum: usize = 0;
     let mut k = 0;
     while k <= t {
-        sum += live_in(image, k) as usize;
+        sum += live_in(image, form, k) as usize;
         k += 1;
     }
     sum
 }
 
-pub fn sizes_pass(image: &[u8], t: u32) -> bool
-    requires { ⌜ (t ≤ 12) × (sizesEnd t ≤ length (now image)) ⌝ }
+pub fn sizes_pass(image: &[u8], form: Form, t: u32) -> bool
+    requires { ⌜ (t ≤ 12) × HasSizes (now image) form t ⌝ }
     ensures { λ r. ⌜ r ≡ sizesPass t (builtIn (now (image .entry))) (liveIn (now (image .entry))) ⌝ }
 {
-    if !each_size_passes(image, t) {
+    if !each_size_passes(image, form, t) {
         return false;
     }
-    live_total(image, t) <= Order::room(t)
+    live_total(image, form, t) <= Order::room(t)
 }
 
 // A slot's own fields.
@@ -71,21 +72,15 @@ fn slot_passes(row: Row) -> bool
 }
 
 // Some slots: a field that fails ends it, and the 0 marks are counted.
-fn slots_read(
-    image: &[u8],
-    tags: usize,
-    records: usize,
-    first: usize,
-    count: usize,
-    live: u32,
-) -> bool
-    requires { ⌜ Places (now image) tags records × (first + count ≤ slotsIn (now image)) ⌝ }
-    ensures { λ r. ⌜ r ≡ slotsRead (map (rowIn (now (image .entry))) (countFrom first count)) live ⌝ }
+fn slots_read(image: &[u8], at: Slots, live: u32) -> bool
+    requires { ⌜ InImage (now image) at ⌝ }
+    ensures { λ r. ⌜ r ≡ slotsRead (slotsAt (now (image .entry)) at) live ⌝ }
 {
+    let count = at.count;
     let mut found: usize = 0;
     let mut i = 0;
     while i < count {
-        let row = row_in(image, tags, records, first + i);
+        let row = slot_in(image, at, i);
         if !slot_passes(row) {
             return false;
         }
@@ -96,16 +91,17 @@ fn slots_read(
 }
 
 // The slots of every bucket.
-pub fn buckets_read(image: &[u8], tags: usize, records: usize) -> bool
-    requires { ⌜ Places (now image) tags records × (orderIn (now image) ≤ 12) ⌝ }
+pub fn buckets_read(image: &[u8], header: Header, all: Slots) -> bool
+    requires { ⌜ Whole (now image) header × InImage (now image) all ⌝ }
     ensures { λ r. ⌜ r ≡ every (λ k. slotsRead (bucketIn (now (image .entry)) k) (liveIn (now (image .entry)) k)) (bucketsOf (orderIn (now (image .entry)))) ⌝ }
 {
-    let t = order_in(image);
+    let form = header.form;
+    let t = header.order.t;
     let mut first = 0;
     let mut k = 0;
     while k <= t {
-        let count = built_in(image, k) as usize;
-        if !slots_read(image, tags, records, first, count, live_in(image, k)) {
+        let count = built_in(image, form, k) as usize;
+        if !slots_read(image, some_of(all, first, count), live_in(image, form, k)) {
             return false;
         }
         first += count;

@@ -1,99 +1,74 @@
 // The buckets of an image written into a table: each bucket's slots, and zeros in the rest of its room.
 ghost use mathlib.Core.Path.{_≡_};
-ghost use mathlib.Core.Bool.{true};
-ghost use mathlib.Core.List.{_++_, map, foldl};
-ghost use Prim.Native.Nat.{_+_, _-_, _≤_};
+ghost use mathlib.Core.List.{_++_, foldl};
+ghost use Prim.Native.Nat.{_-_, _≤_};
 ghost use lib.ListN.{length, getD, replicate};
-ghost use Rattle.lists.specs.Lists.{countFrom};
 ghost use Rattle.metric_rules.specs.Row.{zeroRow};
-ghost use Rattle.table_rules.specs.Geometry.{room, bucketsOf};
+ghost use Rattle.table_rules.specs.Geometry.{bucketsOf};
 ghost use Rattle.table_rules.specs.Table.{putBucket};
-ghost use Rattle.table_rules.specs.Checks.{sizesPass};
-ghost use Rattle.image_rules.specs.Read.{orderIn, builtIn, liveIn, slotsBefore, slotsIn, rowIn, bucketIn};
-ghost use Rattle.image_read.specs.Places.{Places};
+ghost use Rattle.image_rules.specs.Read.{orderIn, liveIn, bucketIn};
+ghost use Rattle.image_read.specs.InImage.{Whole, InImage, slotsAt};
 ghost use Rattle.table_buckets.specs.OfOrder.{OfOrder};
+ghost use Rattle.image_fill.specs.IsBucket.{IsBucket};
+use image_read::Header;
+use image_read::Slots;
 use image_read::built_in;
 use image_read::live_in;
-use image_read::row_in;
+use image_read::slot_in;
+use image_read::some_of;
 use metric_rules::ROW_WIDTH;
 use metric_rules::Row;
 use table_buckets::put_sizes;
 use table_order::Order;
 
-// Row i of a room with count slots from the image's first on.
-fn slot_or_zero(
-    image: &[u8],
-    tags: usize,
-    records: usize,
-    first: usize,
-    count: usize,
-    i: usize,
-) -> Row
-    requires { ⌜ Places (now image) tags records × (first + count ≤ slotsIn (now image)) ⌝ }
-    ensures { λ r. ⌜ r ≡ getD (map (rowIn (now (image .entry))) (countFrom first count)) i zeroRow ⌝ }
+// Row i of a room with some slots of an image.
+fn slot_or_zero(image: &[u8], at: Slots, i: usize) -> Row
+    requires { ⌜ InImage (now image) at ⌝ }
+    ensures { λ r. ⌜ r ≡ getD (slotsAt (now (image .entry)) at) i zeroRow ⌝ }
 {
-    if i < count {
-        return row_in(image, tags, records, first + i);
+    if i < at.count {
+        return slot_in(image, at, i);
     }
     [0u32; ROW_WIDTH]
 }
 
-fn fill_room(
-    rows: &mut [Row],
-    image: &[u8],
-    tags: usize,
-    records: usize,
-    first: usize,
-    count: usize,
-)
-    requires { ⌜ Places (now image) tags records × (first + count ≤ slotsIn (now image)) × (count ≤ length (now rows)) ⌝ }
-    ensures { λ _. ⌜ now (rows .exit) ≡ map (rowIn (now (image .entry))) (countFrom first count) ++ replicate (length (now (rows .entry)) - count) zeroRow ⌝ }
+fn fill_room(rows: &mut [Row], image: &[u8], at: Slots)
+    requires { ⌜ InImage (now image) at × (at .count ≤ length (now rows)) ⌝ }
+    ensures { λ _. ⌜ now (rows .exit) ≡ slotsAt (now (image .entry)) at ++ replicate (length (now (rows .entry)) - at .count) zeroRow ⌝ }
 {
     let mut i = 0;
     while i < rows.len() {
-        rows[i] = slot_or_zero(image, tags, records, first, count, i);
+        rows[i] = slot_or_zero(image, at, i);
         i += 1;
     }
 }
 
-// Bucket k, whose slots are those of the image from one on.
-fn put_bucket(
-    table: &mut [Row],
-    order: Order,
-    k: u32,
-    image: &[u8],
-    tags: usize,
-    records: usize,
-    first: usize,
-)
-    requires { ⌜ OfOrder (now table) (order .t) × (order .t ≡ orderIn (now image)) × (k ≤ order .t) × Places (now image) tags records × (first ≡ slotsBefore (now image) k) × (builtIn (now image) k ≤ room k) ⌝ }
+// Bucket k, whose slots these are.
+fn put_bucket(table: &mut [Row], order: Order, k: u32, image: &[u8], at: Slots)
+    requires { ⌜ OfOrder (now table) (order .t) × (k ≤ order .t) × IsBucket (now image) k at ⌝ }
     ensures { λ _. ⌜ now (table .exit) ≡ putBucket k (bucketIn (now (image .entry)) k) (liveIn (now (image .entry)) k) (now (table .entry)) ⌝ }
 {
-    let at = order.first_slot(k);
-    let end = at + Order::room(k);
-    let built = built_in(image, k);
-    fill_room(
-        &mut table[at..end],
-        image,
-        tags,
-        records,
-        first,
-        built as usize,
-    );
-    put_sizes(table, k, built, live_in(image, k));
+    let first = order.first_slot(k);
+    let end = first + Order::room(k);
+    fill_room(&mut table[first..end], image, at);
+    let form = at.form;
+    put_sizes(table, k, at.count as u32, live_in(image, form, k));
 }
 
 // Every bucket.
-pub fn put_buckets(table: &mut [Row], order: Order, image: &[u8], tags: usize, records: usize)
-    requires { ⌜ OfOrder (now table) (order .t) × (order .t ≡ orderIn (now image)) × Places (now image) tags records × (sizesPass (order .t) (builtIn (now image)) (liveIn (now image)) ≡ true) ⌝ }
-    ensures { λ _. ⌜ now (table .exit) ≡ foldl (λ u k. putBucket k (bucketIn (now (image .entry)) k) (liveIn (now (image .entry)) k) u) (now (table .entry)) (bucketsOf (order .t)) ⌝ }
+pub fn put_buckets(table: &mut [Row], image: &[u8], header: Header, all: Slots)
+    requires { ⌜ OfOrder (now table) (orderIn (now image)) × Whole (now image) header × InImage (now image) all ⌝ }
+    ensures { λ _. ⌜ now (table .exit) ≡ foldl (λ u k. putBucket k (bucketIn (now (image .entry)) k) (liveIn (now (image .entry)) k) u) (now (table .entry)) (bucketsOf (orderIn (now (image .entry)))) ⌝ }
 {
+    let form = header.form;
+    let order = header.order;
     let t = order.t;
     let mut first = 0;
     let mut k = 0;
     while k <= t {
-        put_bucket(table, order, k, image, tags, records, first);
-        first += built_in(image, k) as usize;
+        let count = built_in(image, form, k) as usize;
+        put_bucket(table, order, k, image, some_of(all, first, count));
+        first += count;
         k += 1;
     }
 }

@@ -16,6 +16,8 @@ use Rattle.image_rules.specs.Read.{orderIn, spaceIn, liveIn, bucketIn}
 use Rattle.image_rules.specs.Load.{loadRefusal, loadedTable, tableAfterLoad}
 use Rattle.image_rules.proofs.Accepting.{Accepted}
 use Rattle.image_rules.proofs.Loaded.{table-after-load}
+use Rattle.image_read.specs.declared.Header.{Header}
+use Rattle.image_read.specs.InImage.{Headed, Whole}
 use Rattle.table_buckets.specs.OfOrder.{OfOrder}
 
 -- a header row shows what it was made of
@@ -45,6 +47,10 @@ module _ (image : List ℕ) (t : Table) (ok : Accepted (length t) image) where
       → last ≡ tableAfterLoad image t
   unfolding loadedTable
   load-puts e last put = put ∙ sym (table-after-load image t e)
+
+  -- the image is whole
+  pub accepted-whole : (header : Header) → Headed image header → Whole image header
+  accepted-whole header headed = record { headed = headed; order = order-most (orderIn image) (ok .order); sizes = ok .sizes; long = ok .long }
 
 -- a refusal changes nothing
 pub load-stops : (image : List ℕ) (t : Table) (n : ℕ) → n ≡ loadRefusal (length t) image → (n ≡ 0 → ⊥) → t ≡ tableAfterLoad image t

@@ -1,26 +1,27 @@
--- Load's checks in two steps before the slots': those of the header, and those of the sizes and lengths, each with 0 where all pass.
+-- Load's checks behind the first four bytes, in three steps: those of the header, those of the sizes and lengths, and those of the slots, each with 0
+-- where all pass.
 use Prim.Native.Nat.{ℕ}
 use mathlib.Core.Bool.{Bool}
 use mathlib.Core.List.{List}
 use lib.ListN.{length}
-use lib.Dec.{leb, ltb, eqb}
+use lib.Dec.{leb, eqb}
 use Rattle.metric_rules.specs.Distance.{validMetric}
-use Rattle.table_rules.specs.Refusals.{badOrder, badMetric, badLength, badImage, shortArea, badTable, unless, when}
+use Rattle.table_rules.specs.Refusals.{badOrder, badMetric, badLength, badImage, shortArea, badTable, unless, orElse}
 use Rattle.table_rules.specs.Geometry.{validOrder, tableRows}
 use Rattle.table_rules.specs.Checks.{sizesPass}
-use Rattle.image_rules.specs.Bytes.{headerBytes, sizesEnd, imageLength}
-use Rattle.image_rules.specs.Read.{orderIn, spaceIn, zerosIn, builtIn, liveIn, slotsIn}
+use Rattle.image_rules.specs.Bytes.{validForm, sizesEnd, imageLength}
+use Rattle.image_rules.specs.Read.{formIn, orderIn, spaceIn, builtIn, liveIn, slotsIn}
+use Rattle.image_rules.specs.Load.{slotsPass}
 
-unfoldable pub headerBy : Bool → Bool → Bool → Bool → ℕ
-headerBy short order space zeros =
-    when short badLength
-    (unless order badOrder
+unfoldable pub headerBy : Bool → Bool → Bool → ℕ
+headerBy order space form =
+    unless order badOrder
     (unless space badMetric
-    (unless zeros badImage
-    0)))
+    (unless form badImage
+    0))
 
 unfoldable pub headerRefusal : List ℕ → ℕ
-headerRefusal image = headerBy (ltb (length image) headerBytes) (validOrder (orderIn image)) (validMetric (spaceIn image)) (eqb (zerosIn image) 0)
+headerRefusal image = headerBy (validOrder (orderIn image)) (validMetric (spaceIn image)) (validForm (formIn image))
 
 unfoldable pub sizesBy : Bool → Bool → Bool → Bool → ℕ
 sizesBy pairs sizes whole roomy =
@@ -32,5 +33,11 @@ sizesBy pairs sizes whole roomy =
 
 unfoldable pub sizesRefusal : ℕ → List ℕ → ℕ
 sizesRefusal rows image =
-    sizesBy (leb (sizesEnd (orderIn image)) (length image)) (sizesPass (orderIn image) (builtIn image) (liveIn image))
-    (eqb (length image) (imageLength (orderIn image) (slotsIn image))) (leb (tableRows (orderIn image)) rows)
+    sizesBy (leb (sizesEnd (formIn image) (orderIn image)) (length image)) (sizesPass (orderIn image) (builtIn image) (liveIn image))
+    (eqb (length image) (imageLength (formIn image) (orderIn image) (slotsIn image))) (leb (tableRows (orderIn image)) rows)
+
+unfoldable pub slotsBy : Bool → ℕ
+slotsBy slots = unless slots badImage 0
+
+unfoldable pub laterRefusal : ℕ → List ℕ → ℕ
+laterRefusal rows image = orElse (headerRefusal image) (orElse (sizesRefusal rows image) (slotsBy (slotsPass image)))

@@ -10,7 +10,7 @@ use Rattle.lists.specs.Lists.{total, All}
 use Rattle.lists.proofs.Lists.{all-always, all-take}
 use Rattle.metric_rules.specs.Row.{Row}
 use Rattle.tree_rules.proofs.Stores.{sets-more}
-use Rattle.image_rules.specs.Bytes.{bytesOf, tagFields, recordFields, bytesOfFields, tagWords}
+use Rattle.image_rules.specs.Bytes.{writtenForm, bytesOf, tagFields, recordFields, bytesOfFields, recordBytes, tagWords}
 use Rattle.image_rules.specs.Write.{tagsOf, recordsOf}
 use Rattle.image_rules.proofs.Blocks.{length-blocks}
 use Rattle.image_rules.proofs.Bytes.{length-fields}
@@ -67,23 +67,23 @@ abbrev pub tagBlock : Row → List ℕ
 tagBlock row = bytesOfFields tagFields (take tagWords row)
 
 abbrev pub recordBlock : Row → List ℕ
-recordBlock row = bytesOfFields recordFields (drop tagWords row)
+recordBlock row = bytesOfFields (recordFields writtenForm) (drop tagWords row)
 
 pub length-tag : (row : Row) → length (tagBlock row) ≡ 8
 unfolding tagFields total
 length-tag row = length-fields tagFields (take tagWords row)
 
-pub length-record : (row : Row) → length (recordBlock row) ≡ 40
-unfolding recordFields total
-length-record row = length-fields recordFields (drop tagWords row)
+pub length-record : (row : Row) → length (recordBlock row) ≡ recordBytes writtenForm
+unfolding recordBytes
+length-record row = length-fields (recordFields writtenForm) (drop tagWords row)
 
 pub length-tags : (rows : List Row) → length (tagsOf rows) ≡ 8 * length rows
 unfolding tagsOf tagFields total
 length-tags = length-parts tagFields (take tagWords)
 
-pub length-records : (rows : List Row) → length (recordsOf rows) ≡ 40 * length rows
-unfolding recordsOf recordFields total
-length-records = length-parts recordFields (drop tagWords)
+pub length-records : (rows : List Row) → length (recordsOf writtenForm rows) ≡ recordBytes writtenForm * length rows
+unfolding recordsOf recordBytes
+length-records = length-parts (recordFields writtenForm) (drop tagWords)
 
 -- fields of four bytes each hold words
 pub word-bytes : (ws ns : List ℕ) → length ns ≡ length ws → All (λ w. w ≡ 4) ws → bytesOfFields ws ns ≡ flatten (map (bytesOf 4) ns)

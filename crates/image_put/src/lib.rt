@@ -5,9 +5,9 @@ ghost use Prim.Native.Nat.{_+_, _*_, _≤_};
 ghost use lib.ListN.{length, take, drop};
 ghost use lib.Seq.{sets};
 ghost use Rattle.metric_rules.specs.Row.{rowWidth};
-ghost use Rattle.image_rules.specs.Bytes.{bytesOf, tagFields, recordFields, bytesOfFields, tagBytes, recordBytes, tagWords};
+ghost use Rattle.image_rules.specs.Bytes.{writtenForm, bytesOf, tagFields, recordFields, bytesOfFields, tagBytes, recordBytes, tagWords};
 ghost use Rattle.image_rules.specs.Write.{tagsOf, recordsOf};
-use image_rules::RECORD_BYTES;
+use image_form::Form;
 use image_rules::RECORD_WORDS;
 use image_rules::TAG_BYTES;
 use image_rules::TAG_WORDS;
@@ -52,9 +52,10 @@ fn put_tag(image: &mut [u8], at: usize, row: Row)
     put_words(image, at, row, TAG_LOW, TAG_WORDS);
 }
 
+// The record is put in the form that is written.
 fn put_record(image: &mut [u8], at: usize, row: Row)
-    requires { ⌜ at + recordBytes ≤ length (now image) ⌝ }
-    ensures { λ _. ⌜ now (image .exit) ≡ sets (now (image .entry)) at (bytesOfFields recordFields (drop tagWords row)) ⌝ }
+    requires { ⌜ at + recordBytes writtenForm ≤ length (now image) ⌝ }
+    ensures { λ _. ⌜ now (image .exit) ≡ sets (now (image .entry)) at (bytesOfFields (recordFields writtenForm) (drop tagWords row)) ⌝ }
 {
     put_words(image, at, row, TAG_WORDS, RECORD_WORDS);
 }
@@ -72,12 +73,14 @@ pub fn put_tags(image: &mut [u8], at: usize, rows: &[Row])
 }
 
 pub fn put_records(image: &mut [u8], at: usize, rows: &[Row])
-    requires { ⌜ at + length (recordsOf (now rows)) ≤ length (now image) ⌝ }
-    ensures { λ _. ⌜ now (image .exit) ≡ sets (now (image .entry)) at (recordsOf (now (rows .entry))) ⌝ }
+    requires { ⌜ at + length (recordsOf writtenForm (now rows)) ≤ length (now image) ⌝ }
+    ensures { λ _. ⌜ now (image .exit) ≡ sets (now (image .entry)) at (recordsOf writtenForm (now (rows .entry))) ⌝ }
 {
+    let form = Form::written();
+    let width = form.record_bytes();
     let mut i = 0;
     while i < rows.len() {
-        put_record(image, at + RECORD_BYTES * i, rows[i]);
+        put_record(image, at + width * i, rows[i]);
         i += 1;
     }
 }

@@ -7,9 +7,10 @@ use native.Mathlib.Omega.{arith}
 use lib.ListN.{length, getD}
 use Rattle.lists.specs.Lists.{total}
 use Rattle.image_rules.specs.Bytes.{tagFields, recordFields, tagBytes, recordBytes, imageLength}
-use Rattle.image_rules.specs.Read.{numberAt, fieldsAt, slotsIn}
+use Rattle.image_rules.specs.Read.{numberAt, fieldsAt, formIn, slotsIn}
 use Rattle.image_reader.proofs.Numbers.{number-more, two-at}
-use Rattle.image_read.specs.Places.{Places}
+use Rattle.image_read.specs.declared.Slots.{Slots}
+use Rattle.image_read.specs.InImage.{InImage}
 
 pub four-at : (l : List ℕ) (at : ℕ) → at + 4 ≤ length l
     → numberAt l 4 at ≡ getD l at 0 + 256 * (getD l (at + 1) 0 + 256 * (getD l (at + 2) 0 + 256 * getD l (at + 3) 0))
@@ -24,14 +25,17 @@ pub tag-fields : (l : List ℕ) (t : ℕ) → fieldsAt l tagFields t ≡ numberA
 unfolding fieldsAt tagFields
 tag-fields l t = refl
 
-pub record-fields : (l : List ℕ) (r : ℕ)
-    → fieldsAt l recordFields r
+pub record-fields : (l : List ℕ) (form r : ℕ)
+    → fieldsAt l (recordFields form) r
     ≡ numberAt l 4 r ∷ numberAt l 4 (r + 4) ∷ numberAt l 4 (r + 8) ∷ numberAt l 4 (r + 12) ∷ numberAt l 4 (r + 16) ∷ numberAt l 4 (r + 20) ∷ numberAt l 4 (r + 24) ∷ numberAt l 4 (r + 28) ∷ numberAt l 4 (r + 32) ∷ numberAt l 4 (r + 36) ∷ []
 unfolding fieldsAt recordFields
-record-fields l r = simp add-assoc
+record-fields l form r = simp add-assoc
 
--- in a whole image every slot's tag and record have their bytes
-pub slot-within : {image : List ℕ} {tags records : ℕ} (i : ℕ) → Places image tags records → i < slotsIn image
-    → (tags + 8 * i + 8 ≤ length image) × (records + 40 * i + 40 ≤ length image)
+-- in an image every slot's tag and record have their bytes
+pub slot-within : {image : List ℕ} {at : Slots} (i : ℕ) → InImage image at → i < at .count
+    → (at .tags + 8 * (at .first + i) + 8 ≤ length image)
+    × (at .records + recordBytes (formIn image) * (at .first + i) + recordBytes (formIn image) ≤ length image)
+    × (at .first + i < slotsIn image)
 unfolding imageLength tagBytes recordBytes tagFields recordFields total
-slot-within i p h = (omega (arith, p .tagsAt, p .recordsAt, p .whole), omega (arith, p .tagsAt, p .recordsAt, p .whole))
+slot-within i p h =
+    (omega (arith, p .tagsAt, p .recordsAt, p .whole, p .within), omega (arith, p .tagsAt, p .recordsAt, p .whole, p .within), omega (arith, p .within))

@@ -3,16 +3,33 @@ ghost use mathlib.Core.Path.{_≡_};
 ghost use Prim.Native.Nat.{_+_, _*_, _≤_, _<_};
 ghost use mathlib.Core.List.{_++_};
 ghost use lib.ListN.{length};
-ghost use Rattle.image_rules.specs.Bytes.{tagFields, recordFields, headerBytes, tagBytes, recordBytes, sizesEnd};
-ghost use Rattle.image_rules.specs.Read.{numberAt, fieldsAt, orderIn, spaceIn, zerosIn, builtIn, liveIn, slotsIn, rowIn};
-ghost use Rattle.image_read.specs.Places.{Places};
+ghost use Rattle.image_rules.specs.Bytes.{startBytes, tagFields, recordFields, tagBytes, recordBytes};
+ghost use Rattle.image_rules.specs.Read.{numberAt, fieldsAt, orderIn, builtIn, liveIn, slotsIn};
+ghost use Rattle.image_read.specs.InImage.{Headed, HasSizes, Whole, InImage, slotIn};
+use image_form::Form;
 use image_reader::two_from;
-use image_rules::HEADER_BYTES;
-use image_rules::PAIR_BYTES;
-use image_rules::RECORD_BYTES;
 use image_rules::SIZE_BYTES;
 use image_rules::TAG_BYTES;
 use metric_rules::Row;
+use metric_rules::Space;
+use table_order::Order;
+
+// The numbers that an image of any form begins with, as they stand there: they are tested when they are known.
+pub struct Header {
+    pub order: Order,
+    pub space: Space,
+    pub form: Form,
+}
+
+// Slots of an image that stand one behind the other, as all slots do and those of a bucket: the image's form, the places of all tags and of all
+// records, the number of the first slot among all, and how many there are.
+pub struct Slots {
+    pub form: Form,
+    pub tags: usize,
+    pub records: usize,
+    pub first: usize,
+    pub count: usize,
+}
 
 // The number of four bytes, lowest first.
 fn of_four(a: u8, b: u8, c: u8, d: u8) -> u32
@@ -29,69 +46,92 @@ pub fn number32(image: &[u8], at: usize) -> u32
     of_four(image[at], image[at + 1], image[at + 2], image[at + 3])
 }
 
-// The header's fields: order, metric, and the number of the two zero bytes. Header and sizes are read through a reader.
-pub fn order_in(image: &[u8]) -> u32
-    requires { ⌜ headerBytes ≤ length (now image) ⌝ }
-    ensures { λ r. ⌜ r ≡ orderIn (now (image .entry)) ⌝ }
+// The header, read once. It and the sizes are read through a reader.
+pub fn header_in(image: &[u8]) -> Header
+    requires { ⌜ startBytes ≤ length (now image) ⌝ }
+    ensures { λ r. ⌜ Headed (now (image .entry)) r ⌝ }
 {
-    let header = two_from(image, 0, 1, 1);
-    header.first
-}
-
-pub fn metric_in(image: &[u8]) -> u32
-    requires { ⌜ headerBytes ≤ length (now image) ⌝ }
-    ensures { λ r. ⌜ r ≡ spaceIn (now (image .entry)) .metric ⌝ }
-{
-    let header = two_from(image, 0, 1, 1);
-    header.second
-}
-
-pub fn zeros_in(image: &[u8]) -> u32
-    requires { ⌜ headerBytes ≤ length (now image) ⌝ }
-    ensures { λ r. ⌜ r ≡ zerosIn (now (image .entry)) ⌝ }
-{
-    let header = two_from(image, 1, 1, 2);
-    header.second
+    let first = two_from(image, 0, 1, 1);
+    let last = two_from(image, 1, 1, 2);
+    Header {
+        order: Order { t: first.first },
+        space: Space {
+            metric: first.second,
+        },
+        form: Form {
+            number: last.second,
+        },
+    }
 }
 
 // The sizes of bucket k.
-pub fn built_in(image: &[u8], k: u32) -> u32
-    requires { ⌜ sizesEnd k ≤ length (now image) ⌝ }
+pub fn built_in(image: &[u8], form: Form, k: u32) -> u32
+    requires { ⌜ HasSizes (now image) form k ⌝ }
     ensures { λ r. ⌜ r ≡ builtIn (now (image .entry)) k ⌝ }
 {
-    let at = HEADER_BYTES + PAIR_BYTES * k as usize;
-    let sizes = two_from(image, at, SIZE_BYTES, SIZE_BYTES);
+    let sizes = two_from(image, form.sizes_at(k), SIZE_BYTES, SIZE_BYTES);
     sizes.first
 }
 
-pub fn live_in(image: &[u8], k: u32) -> u32
-    requires { ⌜ sizesEnd k ≤ length (now image) ⌝ }
+pub fn live_in(image: &[u8], form: Form, k: u32) -> u32
+    requires { ⌜ HasSizes (now image) form k ⌝ }
     ensures { λ r. ⌜ r ≡ liveIn (now (image .entry)) k ⌝ }
 {
-    let at = HEADER_BYTES + PAIR_BYTES * k as usize;
-    let sizes = two_from(image, at, SIZE_BYTES, SIZE_BYTES);
+    let sizes = two_from(image, form.sizes_at(k), SIZE_BYTES, SIZE_BYTES);
     sizes.second
 }
 
 // The built slots of all buckets.
-pub fn slots_in(image: &[u8]) -> usize
-    requires { ⌜ (orderIn (now image) ≤ 12) × (sizesEnd (orderIn (now image)) ≤ length (now image)) ⌝ }
+pub fn slots_in(image: &[u8], header: Header) -> usize
+    requires { ⌜ Headed (now image) header × (orderIn (now image) ≤ 12) × HasSizes (now image) (header .form) (orderIn (now image)) ⌝ }
     ensures { λ r. ⌜ r ≡ slotsIn (now (image .entry)) ⌝ }
 {
-    let buckets = order_in(image) + 1;
+    let form = header.form;
+    let buckets = header.order.t + 1;
     let mut slots: usize = 0;
     let mut k = 0;
     while k < buckets {
-        slots += built_in(image, k) as usize;
+        slots += built_in(image, form, k) as usize;
         k += 1;
     }
     slots
 }
 
-// The row whose tag stands at t and whose record stands at r.
-fn row_at(image: &[u8], t: usize, r: usize) -> Row
-    requires { ⌜ (t + tagBytes ≤ length (now image)) × (r + recordBytes ≤ length (now image)) ⌝ }
-    ensures { λ row. ⌜ row ≡ fieldsAt (now (image .entry)) tagFields t ++ fieldsAt (now (image .entry)) recordFields r ⌝ }
+// All slots of a whole image.
+pub fn all_slots(image: &[u8], header: Header) -> Slots
+    requires { ⌜ Whole (now image) header ⌝ }
+    ensures { λ r. ⌜ InImage (now (image .entry)) r × (r .first ≡ 0) × (r .count ≡ slotsIn (now (image .entry))) ⌝ }
+{
+    let form = header.form;
+    let t = header.order.t;
+    let count = slots_in(image, header);
+    Slots {
+        form,
+        tags: form.sizes_end(t),
+        records: form.tags_end(t, count),
+        first: 0,
+        count,
+    }
+}
+
+// As many of them from one on.
+pub fn some_of(all: Slots, first: usize, count: usize) -> Slots
+    ensures { λ r. ⌜ r ≡ record { form = all .form; tags = all .tags; records = all .records; first = first; count = count } ⌝ }
+{
+    let form = all.form;
+    Slots {
+        form,
+        tags: all.tags,
+        records: all.records,
+        first,
+        count,
+    }
+}
+
+// The row whose tag stands at t and whose record, of a form, stands at r.
+fn row_at(image: &[u8], form: Form, t: usize, r: usize) -> Row
+    requires { ⌜ (t + tagBytes ≤ length (now image)) × (r + recordBytes (form .number) ≤ length (now image)) ⌝ }
+    ensures { λ row. ⌜ row ≡ fieldsAt (now (image .entry)) tagFields t ++ fieldsAt (now (image .entry)) (recordFields (form .number)) r ⌝ }
 {
     [
         number32(image, t),
@@ -109,17 +149,17 @@ fn row_at(image: &[u8], t: usize, r: usize) -> Row
     ]
 }
 
-// Slot i as a row, by the places of the tags and of the records.
-pub fn row_in(image: &[u8], tags: usize, records: usize, i: usize) -> Row
-    requires { ⌜ Places (now image) tags records × (i < slotsIn (now image)) ⌝ }
-    ensures { λ row. ⌜ row ≡ rowIn (now (image .entry)) i ⌝ }
+// Slot i of some.
+pub fn slot_in(image: &[u8], at: Slots, i: usize) -> Row
+    requires { ⌜ InImage (now image) at × (i < at .count) ⌝ }
+    ensures { λ row. ⌜ row ≡ slotIn (now (image .entry)) at i ⌝ }
 {
-    row_at(image, tags + TAG_BYTES * i, records + RECORD_BYTES * i)
-}
-
-// The place behind the sizes of an image of order t, where its tags begin.
-pub fn sizes_end(t: u32) -> usize
-    ensures { λ r. ⌜ r ≡ sizesEnd t ⌝ }
-{
-    HEADER_BYTES + PAIR_BYTES * (t as usize + 1)
+    let form = at.form;
+    let slot = at.first + i;
+    row_at(
+        image,
+        form,
+        at.tags + TAG_BYTES * slot,
+        at.records + form.record_bytes() * slot,
+    )
 }

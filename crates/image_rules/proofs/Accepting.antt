@@ -11,17 +11,17 @@ use Rattle.lists.specs.Lists.{total, All}
 use Rattle.metric_rules.specs.Distance.{validSpace}
 use Rattle.table_rules.specs.Geometry.{validOrder, tableRows}
 use Rattle.table_rules.specs.Checks.{sizesPass}
-use Rattle.image_rules.specs.Bytes.{headerFields, headerBytes, sizesEnd, imageLength}
-use Rattle.image_rules.specs.Read.{orderIn, spaceIn, zerosIn, builtIn, liveIn, slotsIn}
-use Rattle.image_rules.specs.Load.{slotsPass, bodyRefusal, loadRefusal}
+use Rattle.image_rules.specs.Bytes.{validForm, startFields, startBytes, headerFields, headerBytes, sizesEnd, imageLength}
+use Rattle.image_rules.specs.Read.{orderIn, spaceIn, formIn, builtIn, liveIn, slotsIn}
+use Rattle.image_rules.specs.Load.{slotsPass, loadRefusal}
 
 -- every check of a load into an area of so many rows
 pub record Accepted (rows : ℕ) (image : List ℕ) : Type 0 where
   pub order : validOrder (orderIn image) ≡ true
   pub space : validSpace (spaceIn image) ≡ true
-  pub zeros : zerosIn image ≡ 0
+  pub form : validForm (formIn image) ≡ true
   pub sizes : sizesPass (orderIn image) (builtIn image) (liveIn image) ≡ true
-  pub long : length image ≡ imageLength (orderIn image) (slotsIn image)
+  pub long : length image ≡ imageLength (formIn image) (orderIn image) (slotsIn image)
   pub roomy : tableRows (orderIn image) ≤ rows
   pub slots : slotsPass image ≡ true
 
@@ -55,20 +55,20 @@ negated false a b = refl
 module _ (rows : ℕ) (image : List ℕ) where
   checks : List Check
   checks =
-      record { test = not (ltb (length image) headerBytes); number = 6 }
+      record { test = not (ltb (length image) startBytes); number = 6 }
       ∷ record { test = validOrder (orderIn image); number = 2 }
       ∷ record { test = validSpace (spaceIn image); number = 3 }
-      ∷ record { test = eqb (zerosIn image) 0; number = 7 }
-      ∷ record { test = leb (sizesEnd (orderIn image)) (length image); number = 6 }
+      ∷ record { test = validForm (formIn image); number = 7 }
+      ∷ record { test = leb (sizesEnd (formIn image) (orderIn image)) (length image); number = 6 }
       ∷ record { test = sizesPass (orderIn image) (builtIn image) (liveIn image); number = 23 }
-      ∷ record { test = eqb (length image) (imageLength (orderIn image) (slotsIn image)); number = 6 }
+      ∷ record { test = eqb (length image) (imageLength (formIn image) (orderIn image) (slotsIn image)); number = 6 }
       ∷ record { test = leb (tableRows (orderIn image)) rows; number = 22 }
       ∷ record { test = slotsPass image; number = 7 }
       ∷ []
 
   load-checks : loadRefusal rows image ≡ firstFailing checks
-  unfolding loadRefusal bodyRefusal checks firstFailing
-  load-checks = negated (ltb (length image) headerBytes) 7 (firstFailing (drop 1 checks))
+  unfolding loadRefusal checks firstFailing
+  load-checks = negated (ltb (length image) startBytes) 7 (firstFailing (drop 1 checks))
 
   pub accepted : loadRefusal rows image ≡ 0 → Accepted rows image
   unfolding checks
@@ -77,21 +77,21 @@ module _ (rows : ℕ) (image : List ℕ) where
       record {
         order = a .1 .0;
         space = a .1 .1 .0;
-        zeros = eqb-true (zerosIn image) 0 (a .1 .1 .1 .0);
+        form = a .1 .1 .1 .0;
         sizes = a .1 .1 .1 .1 .1 .0;
-        long = eqb-true (length image) (imageLength (orderIn image) (slotsIn image)) (a .1 .1 .1 .1 .1 .1 .0);
+        long = eqb-true (length image) (imageLength (formIn image) (orderIn image) (slotsIn image)) (a .1 .1 .1 .1 .1 .1 .0);
         roomy = leb-true (tableRows (orderIn image)) rows (a .1 .1 .1 .1 .1 .1 .1 .0);
         slots = a .1 .1 .1 .1 .1 .1 .1 .1 .0;
       }
 
   pub accepts : Accepted rows image → loadRefusal rows image ≡ 0
-  unfolding checks sizesEnd headerBytes headerFields total imageLength
+  unfolding checks sizesEnd headerBytes headerFields startBytes startFields total imageLength
   accepts a =
       let bytes = length image in
-      let end = sizesEnd (orderIn image) in
+      let end = sizesEnd (formIn image) (orderIn image) in
       let order = orderIn image in
       let body : All (λ c. c .test ≡ true) (drop 6 checks) =
-      (eq-eqb bytes (imageLength order (slotsIn image)) (a .long), (le-leb (tableRows order) rows (a .roomy), (a .slots, tt))) in
+      (eq-eqb bytes (imageLength (formIn image) order (slotsIn image)) (a .long), (le-leb (tableRows order) rows (a .roomy), (a .slots, tt))) in
       let sizes : All (λ c. c .test ≡ true) (drop 3 checks) =
-      (eq-eqb (zerosIn image) 0 (a .zeros), (le-leb end bytes (omega (arith, a .long)), (a .sizes, body))) in
+      (a .form, (le-leb end bytes (omega (arith, a .long)), (a .sizes, body))) in
       load-checks ∙ passing checks (ap not (le-ltb bytes 4 (omega (arith, a .long))), (a .order, (a .space, sizes)))

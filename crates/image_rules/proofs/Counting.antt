@@ -2,7 +2,7 @@
 use Prim.Native.Nat.{ℕ, zero, suc, _+_, _*_, _≤_, _<_}
 use mathlib.Core.Path.{_≡_, refl, sym, ap, _∙_}
 use mathlib.Core.List.{List, [], _∷_, _++_, map, map-append, append-assoc, append-nil, flatten}
-use native.Mathlib.Nat.{mul-suc}
+use native.Mathlib.Nat.{mul-suc, mul-le-mul-left}
 use native.Mathlib.Omega.{arith}
 use Rattle.lists.specs.Lists.{total, countFrom}
 use Rattle.lists.proofs.Totals.{total-more}
@@ -15,6 +15,10 @@ pub total-most : (f : ℕ → ℕ) (m n : ℕ) → ((k : ℕ) → k < n → f k 
 unfolding total countFrom
 total-most f m zero h = omega arith
 total-most f m (suc n) h = omega (arith, total-more f n, total-most f m n (λ k l. h k (omega arith)), h n (omega arith), mul-suc m n)
+
+-- piece i of n pieces of w elements ends within them
+pub piece-within : (w i n : ℕ) → i < n → w * i + w ≤ w * n
+piece-within w i n h = omega (arith, mul-suc w i, mul-le-mul-left w h)
 
 module _ {A : Type 0} where
   pub flatten-append : (xs ys : List (List A)) → flatten (xs ++ ys) ≡ flatten xs ++ flatten ys

@@ -3,7 +3,7 @@
 use Prim.Native.Nat.{ℕ, suc, _+_, _*_, _^_, _≤_, _<_}
 use mathlib.Core.Path.{_≡_, sym, ap, ap₂, _∙_}
 use mathlib.Core.List.{List, [], _∷_, _++_, map, map-map, append-assoc, flatten}
-use native.Mathlib.Nat.{mul-suc, add-mul, mul-le-mul-left}
+use native.Mathlib.Nat.{add-mul}
 use native.Mathlib.Omega.{arith}
 use lib.ListN.{length, take, drop, length-drop, take-append-drop}
 use lib.Seq.{take-all, take-at, drop-at, take-add, drop-drop}
@@ -12,18 +12,18 @@ use Rattle.metric_rules.specs.Row.{Row}
 use Rattle.table_rules.specs.Geometry.{bucketsOf}
 use Rattle.table_rules.specs.Table.{Table, orderOf, tableSpace, builtOf, liveOf, slotsOf}
 use Rattle.table_rules.proofs.ByNumber.{map-count}
-use Rattle.image_rules.specs.Bytes.{bytesOf, bytesOfFields, headerFields, tagFields, recordFields, headerBytes, tagBytes, recordBytes, sizeBytes, pairBytes, sizesEnd, tagWords, imageLength}
-use Rattle.image_rules.specs.Write.{headerBytesOf, sizesOf, tagsOf, recordsOf, allSlots, imageOf}
-use Rattle.image_rules.specs.Read.{numberAt, fieldsAt, headerNumbers, orderIn, spaceIn, zerosIn, builtIn, liveIn, slotsBefore, slotsIn, rowIn, bucketIn}
+use Rattle.image_rules.specs.Bytes.{writtenForm, bytesOf, bytesOfFields, startFields, headerFields, tagFields, recordFields, headerBytes, tagBytes, recordBytes, sizeBytes, pairBytes, sizesEnd, tagWords, imageLength}
+use Rattle.image_rules.specs.Write.{headerBytesOf, sizesOf, tagsOf, recordsOf, allSlots, imageAs, imageOf}
+use Rattle.image_rules.specs.Read.{numberAt, fieldsAt, startNumbers, orderIn, spaceIn, formIn, builtIn, liveIn, slotsBefore, slotsIn, rowIn, bucketIn}
 use Rattle.image_rules.proofs.Numbers.{length-fields-at, bytes-at, bytes-of-fields-at}
+use Rattle.image_rules.proofs.Counting.{piece-within}
 use Rattle.image_rules.proofs.Blocks.{pieces, runs}
 use Rattle.image_rules.proofs.ReadBack.{ReadsBack}
 
--- bytes of the length that the sizes among them say, the two after order and metric zero
+-- bytes of the length that the form and the sizes among them say
 pub record WellFormed (image : List ℕ) : Type 0 where
   pub bytes : All (λ b. b < 2 ^ 8) image
-  pub long : length image ≡ imageLength (orderIn image) (slotsIn image)
-  pub zeros : zerosIn image ≡ 0
+  pub long : length image ≡ imageLength (formIn image) (orderIn image) (slotsIn image)
 
 -- parts of a list that adjoin
 parts : (xs : List ℕ) (a b c d : ℕ) → length xs ≡ a + b + c + d
@@ -33,48 +33,43 @@ parts xs a b c d h =
     take-all d (drop (a + b + c) xs) (omega (arith, length-drop (a + b + c) xs)) ∙ sym (drop-drop c (a + b) xs) in
     rw (last, take-append-drop c (drop (a + b) xs), ← drop-drop b a xs, take-append-drop b (drop a xs)) (take-append-drop a xs)
 
--- piece i of n pieces of w elements ends within them
-piece-within : (w i n : ℕ) → i < n → w * i + w ≤ w * n
-piece-within w i n h = omega (arith, mul-suc w i, mul-le-mul-left w h)
-
 module _ (image : List ℕ) (formed : WellFormed image) where
+  form : ℕ
+  form = formIn image
+
   order : ℕ
   order = orderIn image
 
   slots : ℕ
   slots = slotsIn image
 
-  long : length image ≡ headerBytes + pairBytes * suc order + tagBytes * slots + recordBytes * slots
-  unfolding order slots imageLength sizesEnd
-  long = formed .long ∙ omega (arith, add-mul tagBytes recordBytes slots)
+  long : length image ≡ headerBytes form + pairBytes * suc order + tagBytes * slots + recordBytes form * slots
+  unfolding form order slots imageLength sizesEnd
+  long = formed .long ∙ omega (arith, add-mul tagBytes (recordBytes form) slots)
 
-  -- order, metric and zeros
-  header-there : headerBytesOf order (spaceIn image) ≡ take headerBytes image
-  unfolding order headerBytesOf headerBytes spaceIn orderIn zerosIn headerNumbers headerFields fieldsAt
-  header-there =
-      let first = numberAt image 1 0 in
-      let second = numberAt image 1 1 in
-      ap (λ (n : ℕ). bytesOfFields headerFields (first ∷ second ∷ n ∷ [])) (sym (formed .zeros))
-      ∙ bytes-of-fields-at image (formed .bytes) headerFields 0 (omega (arith, long))
+  -- order, metric and form
+  header-there : headerBytesOf form order (spaceIn image) ≡ take (headerBytes form) image
+  unfolding form order headerBytesOf headerBytes spaceIn orderIn formIn startNumbers headerFields startFields fieldsAt
+  header-there = bytes-of-fields-at image (formed .bytes) startFields 0 (omega (arith, long))
 
   -- the sizes, bucket by bucket
   pair-there : (k : ℕ) → k < suc order
-      → bytesOf sizeBytes (builtIn image k) ++ bytesOf sizeBytes (liveIn image k) ≡ take pairBytes (drop (headerBytes + pairBytes * k) image)
-  unfolding builtIn liveIn pairBytes sizeBytes
+      → bytesOf sizeBytes (builtIn image k) ++ bytesOf sizeBytes (liveIn image k) ≡ take pairBytes (drop (headerBytes form + pairBytes * k) image)
+  unfolding form builtIn liveIn pairBytes sizeBytes
   pair-there k h =
-      let at = headerBytes + 4 * k in
+      let at = headerBytes form + 4 * k in
       let built : bytesOf 2 (builtIn image k) ≡ take 2 (drop at image) = bytes-at image (formed .bytes) 2 at (omega (arith, long)) in
       let live : bytesOf 2 (liveIn image k) ≡ take 2 (drop (at + 2) image) = bytes-at image (formed .bytes) 2 (at + 2) (omega (arith, long)) in
       ap₂ _++_ built (live ∙ ap (take 2) (sym (drop-drop 2 at image))) ∙ sym (take-add 2 2 (drop at image))
 
-  sizes-there : sizesOf order (builtIn image) (liveIn image) ≡ take (pairBytes * suc order) (drop headerBytes image)
+  sizes-there : sizesOf order (builtIn image) (liveIn image) ≡ take (pairBytes * suc order) (drop (headerBytes form) image)
   unfolding sizesOf bucketsOf
   sizes-there =
-      let start : headerBytes + pairBytes * 0 ≡ headerBytes = omega arith in
+      let start : headerBytes form + pairBytes * 0 ≡ headerBytes form = omega arith in
       ap flatten
-      (map-count (λ k. bytesOf sizeBytes (builtIn image k) ++ bytesOf sizeBytes (liveIn image k)) (λ k. take pairBytes (drop (headerBytes + pairBytes * k) image)) 0 (suc order)
+      (map-count (λ k. bytesOf sizeBytes (builtIn image k) ++ bytesOf sizeBytes (liveIn image k)) (λ k. take pairBytes (drop (headerBytes form + pairBytes * k) image)) 0 (suc order)
       (λ k l m. pair-there k (omega arith)))
-      ∙ pieces image pairBytes headerBytes 0 (suc order)
+      ∙ pieces image pairBytes (headerBytes form) 0 (suc order)
       ∙ ap (λ (j : ℕ). take (pairBytes * suc order) (drop j image)) start
 
   -- the rows of all buckets are the image's rows one after the other
@@ -94,28 +89,28 @@ module _ (image : List ℕ) (formed : WellFormed image) where
       ∙ ap (λ (j : ℕ). take (w * slots) (drop j image)) start
 
   tagsAt : ℕ
-  tagsAt = headerBytes + pairBytes * suc order
+  tagsAt = headerBytes form + pairBytes * suc order
 
   tag-there : (i : ℕ) → i < slots → bytesOfFields tagFields (take tagWords (rowIn image i)) ≡ take tagBytes (drop (tagsAt + tagBytes * i) image)
-  unfolding order slots tagsAt sizesEnd rowIn tagWords tagBytes
+  unfolding form order slots tagsAt sizesEnd rowIn tagWords tagBytes
   tag-there i h =
       let at = tagsAt + tagBytes * i in
       ap (bytesOfFields tagFields) (take-at (fieldsAt image tagFields at) _ tagWords (length-fields-at image tagFields at))
       ∙ bytes-of-fields-at image (formed .bytes) tagFields at (omega (arith, long, piece-within tagBytes i slots h))
 
   record-there : (i : ℕ) → i < slots
-      → bytesOfFields recordFields (drop tagWords (rowIn image i)) ≡ take recordBytes (drop (tagsAt + tagBytes * slots + recordBytes * i) image)
-  unfolding order slots tagsAt sizesEnd rowIn tagWords recordBytes
+      → bytesOfFields (recordFields form) (drop tagWords (rowIn image i)) ≡ take (recordBytes form) (drop (tagsAt + tagBytes * slots + recordBytes form * i) image)
+  unfolding form order slots tagsAt sizesEnd rowIn tagWords recordBytes
   record-there i h =
       let tag = tagsAt + tagBytes * i in
-      let at = tagsAt + tagBytes * slots + recordBytes * i in
-      ap (bytesOfFields recordFields)
-      (drop-at (fieldsAt image tagFields tag) (fieldsAt image recordFields at) tagWords (length-fields-at image tagFields tag))
-      ∙ bytes-of-fields-at image (formed .bytes) recordFields at (omega (arith, long, piece-within recordBytes i slots h))
+      let at = tagsAt + tagBytes * slots + recordBytes form * i in
+      ap (bytesOfFields (recordFields form))
+      (drop-at (fieldsAt image tagFields tag) (fieldsAt image (recordFields form) at) tagWords (length-fields-at image tagFields tag))
+      ∙ bytes-of-fields-at image (formed .bytes) (recordFields form) at (omega (arith, long, piece-within (recordBytes form) i slots h))
 
   -- a table that shows the image's fields
   module _ (t : Table) (reads : ReadsBack t image) where
-    header-alike : headerBytesOf (orderOf t) (tableSpace t) ≡ take headerBytes image
+    header-alike : headerBytesOf form (orderOf t) (tableSpace t) ≡ take (headerBytes form) image
     unfolding order
     header-alike = rw (← reads .order, ← reads .space) header-there
 
@@ -138,17 +133,23 @@ module _ (image : List ℕ) (formed : WellFormed image) where
     unfolding tagsOf
     tags-alike = rw slots-alike (fields-there (λ row. bytesOfFields tagFields (take tagWords row)) tagBytes tagsAt tag-there)
 
-    records-alike : recordsOf (allSlots t) ≡ take (recordBytes * slots) (drop (tagsAt + tagBytes * slots) image)
+    records-alike : recordsOf form (allSlots t) ≡ take (recordBytes form * slots) (drop (tagsAt + tagBytes * slots) image)
     unfolding recordsOf
     records-alike =
-        rw slots-alike (fields-there (λ row. bytesOfFields recordFields (drop tagWords row)) recordBytes (tagsAt + tagBytes * slots) record-there)
+        rw slots-alike (fields-there (λ row. bytesOfFields (recordFields form) (drop tagWords row)) (recordBytes form) (tagsAt + tagBytes * slots) record-there)
 
-    whole : imageOf t ≡ image
-    unfolding imageOf tagsAt
+    whole : imageAs form t ≡ image
+    unfolding imageAs tagsAt
     whole =
         rw (header-alike, sizes-alike, sizes-there, tags-alike, records-alike)
-        (simp append-assoc (parts image headerBytes (pairBytes * suc order) (tagBytes * slots) (recordBytes * slots) long))
+        (simp append-assoc (parts image (headerBytes form) (pairBytes * suc order) (tagBytes * slots) (recordBytes form * slots) long))
 
--- a well-formed image is what a table that shows its fields is written as
-pub gives-back : (t : Table) (image : List ℕ) → WellFormed image → ReadsBack t image → imageOf t ≡ image
+-- a well-formed image is what a table that shows its fields is written as in its form
+pub gives-back : (t : Table) (image : List ℕ) → WellFormed image → ReadsBack t image → imageAs (formIn image) t ≡ image
+unfolding form
 gives-back t image formed reads = whole image formed t reads
+
+-- so one of the form that is written is what such a table is written as
+pub gives-written : (t : Table) (image : List ℕ) → WellFormed image → formIn image ≡ writtenForm → ReadsBack t image → imageOf t ≡ image
+unfolding imageOf
+gives-written t image formed form reads = ap (λ (f : ℕ). imageAs f t) (sym form) ∙ gives-back t image formed reads

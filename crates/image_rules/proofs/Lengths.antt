@@ -16,9 +16,9 @@ use Rattle.metric_rules.specs.Row.{Row, IsRow, rowWidth, word}
 use Rattle.table_rules.specs.Geometry.{bucketsOf}
 use Rattle.table_rules.specs.Table.{Table, orderOf, tableSpace, builtOf, liveOf, slotsOf}
 use Rattle.table_rules.proofs.ByNumber.{length-flatten}
-use Rattle.image_rules.specs.Bytes.{bytesOf, bytesOfFields, headerFields, tagFields, recordFields, headerBytes, tagBytes, recordBytes, sizeBytes, pairBytes, sizesEnd, tagWords, imageLength}
-use Rattle.image_rules.specs.Write.{headerBytesOf, sizesOf, tagsOf, recordsOf, allSlots, imageOf}
-use Rattle.image_rules.specs.Read.{fieldsAt, orderIn, slotsIn, slotsBefore, builtIn, liveIn, rowIn, bucketIn}
+use Rattle.image_rules.specs.Bytes.{writtenForm, bytesOf, bytesOfFields, headerFields, tagFields, recordFields, headerBytes, tagBytes, recordBytes, sizeBytes, pairBytes, sizesEnd, tagWords, imageLength}
+use Rattle.image_rules.specs.Write.{headerBytesOf, sizesOf, tagsOf, recordsOf, allSlots, imageAs, imageOf}
+use Rattle.image_rules.specs.Read.{fieldsAt, formIn, orderIn, slotsIn, slotsBefore, builtIn, liveIn, rowIn, bucketIn}
 use Rattle.image_rules.proofs.Blocks.{length-blocks, length-count}
 use Rattle.image_rules.proofs.Bytes.{length-bytes, length-fields}
 use Rattle.image_rules.proofs.EachBucket.{map-buckets}
@@ -40,21 +40,21 @@ length-parts ws part rows =
     length-blocks (λ row. bytesOfFields ws (part row)) (total ws) rows
     (all-always {P = λ row. length (bytesOfFields ws (part row)) ≡ total ws} (λ row. length-fields ws (part row)) rows)
 
-pub length-image : (t : Table) → length (imageOf t) ≡ imageLength (orderOf t) (length (allSlots t))
-unfolding imageOf headerBytesOf tagsOf recordsOf imageLength sizesEnd headerBytes tagBytes recordBytes
+pub length-image : (t : Table) → length (imageOf t) ≡ imageLength writtenForm (orderOf t) (length (allSlots t))
+unfolding imageOf imageAs headerBytesOf tagsOf recordsOf imageLength sizesEnd headerBytes tagBytes recordBytes
 length-image t =
     let rows = allSlots t in
     let order = orderOf t in
     simp length-append
-    (omega (arith, length-fields headerFields (order ∷ tableSpace t .metric ∷ 0 ∷ []), length-sizes order (builtOf t) (liveOf t), length-parts tagFields (take tagWords) rows, length-parts recordFields (drop tagWords) rows, add-mul tagBytes recordBytes (length rows)))
+    (omega (arith, length-fields (headerFields writtenForm) (order ∷ tableSpace t .metric ∷ writtenForm ∷ []), length-sizes order (builtOf t) (liveOf t), length-parts tagFields (take tagWords) rows, length-parts (recordFields writtenForm) (drop tagWords) rows, add-mul tagBytes (recordBytes writtenForm) (length rows)))
 
 -- where every bucket has as many slots as its built size
 pub length-image-built : (t : Table) → ((k : ℕ) → k ≤ orderOf t → length (slotsOf t k) ≡ builtOf t k)
-    → length (imageOf t) ≡ imageLength (orderOf t) (total (map (builtOf t) (bucketsOf (orderOf t))))
+    → length (imageOf t) ≡ imageLength writtenForm (orderOf t) (total (map (builtOf t) (bucketsOf (orderOf t))))
 unfolding allSlots
 length-image-built t h =
     length-image t
-    ∙ ap (imageLength (orderOf t))
+    ∙ ap (imageLength writtenForm (orderOf t))
     (length-flatten (slotsOf t) (bucketsOf (orderOf t)) ∙ ap total (map-buckets (λ k. length (slotsOf t k)) (builtOf t) (orderOf t) h))
 
 -- a row read from bytes: each of its fields has four
@@ -75,11 +75,12 @@ words-fit (n ∷ ns) h (suc i) = words-fit ns (h .1) i
 pub row-in-fits : (image : List ℕ) → All (λ b. b < 2 ^ 8) image → (i : ℕ) → IsRow (rowIn image i)
 unfolding rowIn tagFields recordFields rowWidth every
 row-in-fits image bytes i =
-    let tag = fieldsAt image tagFields (sizesEnd (orderIn image) + tagBytes * i) in
-    let rest = fieldsAt image recordFields (sizesEnd (orderIn image) + tagBytes * slotsIn image + recordBytes * i) in
+    let form = formIn image in
+    let tag = fieldsAt image tagFields (sizesEnd form (orderIn image) + tagBytes * i) in
+    let rest = fieldsAt image (recordFields form) (sizesEnd form (orderIn image) + tagBytes * slotsIn image + recordBytes form * i) in
     record {
-      width = length-append tag rest ∙ ap₂ _+_ (length-fields-at image tagFields _) (length-fields-at image recordFields _);
-      fits = words-fit (tag ++ rest) (all-append (λ n. n < 2 ^ 32) tag rest (numbers-fit image bytes tagFields _ refl) (numbers-fit image bytes recordFields _ refl));
+      width = length-append tag rest ∙ ap₂ _+_ (length-fields-at image tagFields _) (length-fields-at image (recordFields form) _);
+      fits = words-fit (tag ++ rest) (all-append (λ n. n < 2 ^ 32) tag rest (numbers-fit image bytes tagFields _ refl) (numbers-fit image bytes (recordFields form) _ refl));
     }
 
 pub bucket-in-fits : (image : List ℕ) → All (λ b. b < 2 ^ 8) image → (k : ℕ) → All IsRow (bucketIn image k)
@@ -90,11 +91,11 @@ bucket-in-fits image bytes k =
 -- sizes read from bytes
 pub built-in-fits : (image : List ℕ) → All (λ b. b < 2 ^ 8) image → (k : ℕ) → builtIn image k < 256 ^ 2
 unfolding builtIn sizeBytes
-built-in-fits image bytes k = number-at-fits image bytes 2 (headerBytes + pairBytes * k)
+built-in-fits image bytes k = number-at-fits image bytes 2 (headerBytes (formIn image) + pairBytes * k)
 
 pub live-in-fits : (image : List ℕ) → All (λ b. b < 2 ^ 8) image → (k : ℕ) → liveIn image k < 256 ^ 2
 unfolding liveIn sizeBytes
-live-in-fits image bytes k = number-at-fits image bytes 2 (headerBytes + pairBytes * k + 2)
+live-in-fits image bytes k = number-at-fits image bytes 2 (headerBytes (formIn image) + pairBytes * k + 2)
 
 -- every byte of an image is below 256
 bytes-below : (w n : ℕ) → All (λ b. b < 2 ^ 8) (bytesOf w n)
@@ -125,10 +126,10 @@ all-joined : (P : ℕ → Type 0) (a b c d : List ℕ) → All P a → All P b �
 all-joined P a b c d ha hb hc hd = all-append P (a ++ b ++ c) d (all-append P (a ++ b) c (all-append P a b ha hb) hc) hd
 
 pub image-below : (t : Table) → All (λ b. b < 2 ^ 8) (imageOf t)
-unfolding imageOf headerBytesOf tagsOf recordsOf
+unfolding imageOf imageAs headerBytesOf tagsOf recordsOf
 image-below t =
-    all-joined (λ b. b < 2 ^ 8) (headerBytesOf (orderOf t) (tableSpace t)) (sizesOf (orderOf t) (builtOf t) (liveOf t)) (tagsOf (allSlots t)) (recordsOf (allSlots t))
-    (fields-below headerFields (orderOf t ∷ tableSpace t .metric ∷ 0 ∷ []))
+    all-joined (λ b. b < 2 ^ 8) (headerBytesOf writtenForm (orderOf t) (tableSpace t)) (sizesOf (orderOf t) (builtOf t) (liveOf t)) (tagsOf (allSlots t)) (recordsOf writtenForm (allSlots t))
+    (fields-below (headerFields writtenForm) (orderOf t ∷ tableSpace t .metric ∷ writtenForm ∷ []))
     (sizes-below (orderOf t) (builtOf t) (liveOf t))
     (parts-below (λ row. bytesOfFields tagFields (take tagWords row)) (λ row. fields-below tagFields (take tagWords row)) (allSlots t))
-    (parts-below (λ row. bytesOfFields recordFields (drop tagWords row)) (λ row. fields-below recordFields (drop tagWords row)) (allSlots t))
+    (parts-below (λ row. bytesOfFields (recordFields writtenForm) (drop tagWords row)) (λ row. fields-below (recordFields writtenForm) (drop tagWords row)) (allSlots t))

@@ -2,9 +2,11 @@
 -- the table is the image's, and an accepted image is what the loaded table is written as.
 use Prim.Native.Nat.{ℕ, _^_, _≤_, _<_}
 use mathlib.Core.Path.{_≡_, refl, sym, ap, _∙_}
+use mathlib.Core.Bool.{true}
 use mathlib.Core.List.{List}
 use native.Mathlib.Omega.{arith}
 use lib.ListN.{length, drop, length-map}
+use borrow.Author.Tests.{leb-true}
 use Rattle.lists.specs.Lists.{countFrom, All}
 use Rattle.table_rules.specs.Geometry.{room, bucketsOf, headerRow, tableRows}
 use Rattle.table_rules.specs.Table.{Table, rowAt, orderOf, tableSpace, headerOf}
@@ -13,14 +15,15 @@ use Rattle.table_rules.proofs.Sizes.{size-room, sizes-at}
 use Rattle.table_rules.proofs.Views.{same-order, same-space}
 use Rattle.table_rules.proofs.Puts.{Holds, held-built, held-live, held-slots, putEach, put-each-only, put-each-holds}
 use Rattle.table_rules.proofs.Changes.{fresh-header, fresh-order, fresh-space, fresh-past, fresh-long}
-use Rattle.image_rules.specs.Read.{orderIn, spaceIn, builtIn, liveIn, slotsBefore, rowIn, bucketIn}
+use Rattle.image_rules.specs.Bytes.{lastForm, validForm, writtenForm}
+use Rattle.image_rules.specs.Read.{formIn, orderIn, spaceIn, builtIn, liveIn, slotsBefore, rowIn, bucketIn}
 use Rattle.image_rules.specs.Write.{imageOf}
 use Rattle.image_rules.specs.Load.{loadRefusal, loadedTable, tableAfterLoad}
 use Rattle.image_rules.proofs.Blocks.{length-count}
 use Rattle.image_rules.proofs.EachBucket.{all-buckets, buckets-all}
 use Rattle.image_rules.proofs.Accepting.{Accepted, accepted}
 use Rattle.image_rules.proofs.ReadBack.{ReadsBack}
-use Rattle.image_rules.proofs.GivesBack.{gives-back}
+use Rattle.image_rules.proofs.GivesBack.{gives-written}
 
 -- u is the area t with an image loaded
 pub record Loaded (image : List ℕ) (t u : Table) : Type 0 where
@@ -105,9 +108,14 @@ pub load-reads : (image : List ℕ) (area : Table) → loadRefusal (length area)
 load-reads image area h =
     rw (table-after-load image area h) (loaded-reads image area (loadedTable image area) (loaded image area (accepted (length area) image h)))
 
--- and is written as the image
+-- the only form that loads is the one that is written
+valid-written : (form : ℕ) → validForm form ≡ true → form ≡ writtenForm
+unfolding validForm lastForm writtenForm
+valid-written form h = omega (arith, leb-true form 0 h)
+
+-- so it is written as the image
 pub accepted-image : (image : List ℕ) (area : Table) → All (λ b. b < 2 ^ 8) image → loadRefusal (length area) image ≡ 0
     → imageOf (tableAfterLoad image area) ≡ image
 accepted-image image area bytes h =
     let ok = accepted (length area) image h in
-    gives-back (tableAfterLoad image area) image (record { bytes = bytes; long = ok .long; zeros = ok .zeros }) (load-reads image area h)
+    gives-written (tableAfterLoad image area) image (record { bytes = bytes; long = ok .long }) (valid-written (formIn image) (ok .form)) (load-reads image area h)

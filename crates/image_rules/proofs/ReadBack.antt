@@ -11,9 +11,9 @@ use Rattle.lists.proofs.Lists.{all-always, all-take, all-drop}
 use Rattle.metric_rules.specs.Row.{Row, IsRow, rowWidth}
 use Rattle.table_rules.specs.Geometry.{bucketsOf}
 use Rattle.table_rules.specs.Table.{Table, orderOf, tableSpace, builtOf, liveOf, slotsOf}
-use Rattle.image_rules.specs.Bytes.{bytesOf, headerFields, tagFields, recordFields, bytesOfFields, headerBytes, tagBytes, recordBytes, sizeBytes, pairBytes, sizesEnd, tagWords}
-use Rattle.image_rules.specs.Write.{headerBytesOf, sizesOf, tagsOf, recordsOf, allSlots, imageOf}
-use Rattle.image_rules.specs.Read.{fieldsAt, headerNumbers, orderIn, spaceIn, zerosIn, builtIn, liveIn, slotsBefore, slotsIn, rowIn, bucketIn}
+use Rattle.image_rules.specs.Bytes.{writtenForm, bytesOf, startFields, headerFields, tagFields, recordFields, bytesOfFields, headerBytes, tagBytes, recordBytes, sizeBytes, pairBytes, sizesEnd, tagWords}
+use Rattle.image_rules.specs.Write.{headerBytesOf, sizesOf, tagsOf, recordsOf, allSlots, imageAs, imageOf}
+use Rattle.image_rules.specs.Read.{fieldsAt, startNumbers, orderIn, spaceIn, formIn, builtIn, liveIn, slotsBefore, slotsIn, rowIn, bucketIn}
 use Rattle.image_rules.proofs.Bytes.{length-bytes, length-fields, number-at, words-fill, fields-in}
 use Rattle.image_rules.proofs.Blocks.{all-flatten, all-at, all-words, Block, block-at, length-blocks, length-count, getD-count, part-at, length-flatten, map-count, picked}
 
@@ -44,18 +44,37 @@ module _ (t : Table) (fit : FitsImage t) where
   length-pair k = length-append (bytesOf 2 (builtOf t k)) (bytesOf 2 (liveOf t k)) ∙ ap₂ _+_ (length-bytes 2 (builtOf t k)) (length-bytes 2 (liveOf t k))
 
   after-sizes : List ℕ
-  after-sizes = tagsOf (allSlots t) ++ recordsOf (allSlots t)
+  after-sizes = tagsOf (allSlots t) ++ recordsOf writtenForm (allSlots t)
 
   header : List ℕ
-  header = headerBytesOf (orderOf t) (tableSpace t)
+  header = headerBytesOf writtenForm (orderOf t) (tableSpace t)
 
-  length-header : length header ≡ 4
-  unfolding header headerBytesOf headerFields total
-  length-header = length-fields headerFields (orderOf t ∷ tableSpace t .metric ∷ 0 ∷ [])
+  length-header : length header ≡ headerBytes writtenForm
+  unfolding header headerBytesOf headerBytes
+  length-header = length-fields (headerFields writtenForm) (orderOf t ∷ tableSpace t .metric ∷ writtenForm ∷ [])
 
   image-is : imageOf t ≡ header ++ (flatten (map pair (countFrom 0 (suc (orderOf t)))) ++ after-sizes)
-  unfolding imageOf header after-sizes pair sizesOf bucketsOf sizeBytes
+  unfolding imageOf imageAs header after-sizes pair sizesOf bucketsOf sizeBytes
   image-is = simp append-assoc
+
+  -- order, metric and form
+  start-back : startNumbers (imageOf t) ≡ orderOf t ∷ tableSpace t .metric ∷ writtenForm ∷ []
+  unfolding startNumbers header headerBytesOf headerFields startFields writtenForm
+  start-back =
+      fields-in (imageOf t) [] startFields (orderOf t ∷ tableSpace t .metric ∷ writtenForm ∷ []) _ 0 image-is refl
+      (fit .order, (fit .metric, (omega arith, tt)))
+
+  order-back : orderIn (imageOf t) ≡ orderOf t
+  unfolding orderIn
+  order-back = ap (λ (ns : List ℕ). getD ns 0 0) start-back
+
+  space-back : spaceIn (imageOf t) ≡ tableSpace t
+  unfolding spaceIn
+  space-back = rw start-back refl
+
+  pub form-back : formIn (imageOf t) ≡ writtenForm
+  unfolding formIn
+  form-back = ap (λ (ns : List ℕ). getD ns 2 0) start-back
 
   pair-at : (k : ℕ) → k ≤ orderOf t → Block pair 4 (countFrom 0 (suc (orderOf t))) k k
   pair-at k h =
@@ -63,27 +82,29 @@ module _ (t : Table) (fit : FitsImage t) where
       subst (Block pair 4 (countFrom 0 (suc (orderOf t))) k) e
       (block-at pair 4 (countFrom 0 (suc (orderOf t))) k 0 (all-always {P = λ x. length (pair x) ≡ 4} length-pair (countFrom 0 (suc (orderOf t)))) (omega (arith, length-count 0 (suc (orderOf t)))))
 
-  -- the pair of bucket k stands after 4 + 4·k bytes
+  -- the pair of bucket k stands behind the header and k pairs
   split-at : (k : ℕ) (h : k ≤ orderOf t)
       → imageOf t
       ≡ (header ++ pair-at k h .front) ++ (bytesOf 2 (builtOf t k) ++ (bytesOf 2 (liveOf t k) ++ (pair-at k h .back ++ after-sizes)))
   unfolding pair
   split-at k h = image-is ∙ ap (λ (r : List ℕ). header ++ (r ++ after-sizes)) (pair-at k h .split) ∙ simp append-assoc
 
-  length-before : (k : ℕ) (h : k ≤ orderOf t) → length (header ++ pair-at k h .front) ≡ 4 + 4 * k
+  length-before : (k : ℕ) (h : k ≤ orderOf t) → length (header ++ pair-at k h .front) ≡ headerBytes writtenForm + 4 * k
   length-before k h = omega (arith, length-append header (pair-at k h .front), length-header, pair-at k h .long)
 
   built-back : (k : ℕ) → k ≤ orderOf t → builtIn (imageOf t) k ≡ builtOf t k
-  unfolding builtIn sizeBytes headerBytes headerFields total pairBytes
-  built-back k h = rw (split-at k h) (number-at (header ++ pair-at k h .front) 2 (builtOf t k) _ (4 + 4 * k) (length-before k h) (fit .built k h))
+  unfolding builtIn sizeBytes pairBytes
+  built-back k h =
+      rw (form-back, split-at k h)
+      (number-at (header ++ pair-at k h .front) 2 (builtOf t k) _ (headerBytes writtenForm + 4 * k) (length-before k h) (fit .built k h))
 
   live-back : (k : ℕ) → k ≤ orderOf t → liveIn (imageOf t) k ≡ liveOf t k
-  unfolding liveIn sizeBytes headerBytes headerFields total pairBytes
+  unfolding liveIn sizeBytes pairBytes
   live-back k h =
       let before = header ++ pair-at k h .front in
       let size = bytesOf 2 (builtOf t k) in
-      rw (split-at k h, ← append-assoc before size (bytesOf 2 (liveOf t k) ++ (pair-at k h .back ++ after-sizes)))
-      (number-at (before ++ size) 2 (liveOf t k) _ (4 + 4 * k + 2)
+      rw (form-back, split-at k h, ← append-assoc before size (bytesOf 2 (liveOf t k) ++ (pair-at k h .back ++ after-sizes)))
+      (number-at (before ++ size) 2 (liveOf t k) _ (headerBytes writtenForm + 4 * k + 2)
       (length-append before size ∙ ap₂ _+_ (length-before k h) (length-bytes 2 (builtOf t k)))
       (fit .live k h))
 
@@ -105,51 +126,34 @@ module _ (t : Table) (fit : FitsImage t) where
   all-rows : All IsRow rows
   all-rows = rw rows-are (all-flatten IsRow (slotsOf t) 0 (suc (orderOf t)) (λ k l. fit .rows k (omega arith)))
 
-  header-back : headerNumbers (imageOf t) ≡ orderOf t ∷ tableSpace t .metric ∷ 0 ∷ []
-  unfolding headerNumbers header headerBytesOf headerFields
-  header-back =
-      fields-in (imageOf t) [] headerFields (orderOf t ∷ tableSpace t .metric ∷ 0 ∷ []) _ 0 image-is refl
-      (fit .order, (fit .metric, (omega arith, tt)))
-
-  order-back : orderIn (imageOf t) ≡ orderOf t
-  unfolding orderIn
-  order-back = ap (λ (ns : List ℕ). getD ns 0 0) header-back
-
-  space-back : spaceIn (imageOf t) ≡ tableSpace t
-  unfolding spaceIn
-  space-back = rw header-back refl
-
-  pub zeros-back : zerosIn (imageOf t) ≡ 0
-  unfolding zerosIn
-  zeros-back = ap (λ (ns : List ℕ). getD ns 2 0) header-back
-
   slots-back : slotsIn (imageOf t) ≡ length rows
   unfolding slotsIn
   slots-back =
       rw order-back
       (before-back (suc (orderOf t)) (omega arith) ∙ sym (length-flatten (slotsOf t) 0 (suc (orderOf t))) ∙ ap length (sym rows-are))
 
-  -- a row's tag is a block of 8 bytes, its record one of 40
+  -- a row's tag is a block of bytes, and so is its record
   tagBlock : Row → List ℕ
   tagBlock row = bytesOfFields tagFields (take 2 row)
 
   recordBlock : Row → List ℕ
-  recordBlock row = bytesOfFields recordFields (drop 2 row)
+  recordBlock row = bytesOfFields (recordFields writtenForm) (drop 2 row)
 
   tag-blocks : All (λ row. length (tagBlock row) ≡ 8) rows
   unfolding tagBlock tagFields total
   tag-blocks = all-always {P = λ row. length (tagBlock row) ≡ 8} (λ row. length-fields tagFields (take 2 row)) rows
 
-  record-blocks : All (λ row. length (recordBlock row) ≡ 40) rows
-  unfolding recordBlock recordFields total
-  record-blocks = all-always {P = λ row. length (recordBlock row) ≡ 40} (λ row. length-fields recordFields (drop 2 row)) rows
+  record-blocks : All (λ row. length (recordBlock row) ≡ recordBytes writtenForm) rows
+  unfolding recordBlock recordBytes
+  record-blocks =
+      all-always {P = λ row. length (recordBlock row) ≡ recordBytes writtenForm} (λ row. length-fields (recordFields writtenForm) (drop 2 row)) rows
 
   -- what stands before the tags, and its length
   sizes : List ℕ
   sizes = header ++ flatten (map pair (countFrom 0 (suc (orderOf t))))
 
-  length-sizes : length sizes ≡ sizesEnd (orderOf t)
-  unfolding sizes sizesEnd headerBytes headerFields total pairBytes sizeBytes
+  length-sizes : length sizes ≡ sizesEnd writtenForm (orderOf t)
+  unfolding sizes sizesEnd pairBytes sizeBytes
   length-sizes =
       let n = countFrom 0 (suc (orderOf t)) in
       omega (arith, length-append header (flatten (map pair n)), length-header, length-blocks pair 4 n (all-always {P = λ x. length (pair x) ≡ 4} length-pair n), length-count 0 (suc (orderOf t)))
@@ -159,37 +163,37 @@ module _ (t : Table) (fit : FitsImage t) where
   image-parts = image-is ∙ sym (append-assoc header (flatten (map pair (countFrom 0 (suc (orderOf t))))) after-sizes)
 
   -- the words of row i's tag, and those of its record
-  tag-back : (i : ℕ) → i < length rows → fieldsAt (imageOf t) tagFields (sizesEnd (orderOf t) + 8 * i) ≡ take 2 (getD rows i [])
+  tag-back : (i : ℕ) → i < length rows → fieldsAt (imageOf t) tagFields (sizesEnd writtenForm (orderOf t) + 8 * i) ≡ take 2 (getD rows i [])
   unfolding tagBlock tagFields rowWidth
   tag-back i l =
       let row = getD rows i [] in
       let ok = all-at IsRow rows i [] all-rows l in
       let b = block-at tagBlock 8 rows i [] tag-blocks l in
-      fields-in (imageOf t) (sizes ++ b .front) tagFields (take 2 row) (b .back ++ flatten (map recordBlock rows)) (sizesEnd (orderOf t) + 8 * i)
+      fields-in (imageOf t) (sizes ++ b .front) tagFields (take 2 row) (b .back ++ flatten (map recordBlock rows)) (sizesEnd writtenForm (orderOf t) + 8 * i)
       (image-parts ∙ ap (λ (r : List ℕ). sizes ++ (r ++ flatten (map recordBlock rows))) (b .split) ∙ simp append-assoc)
       (length-append sizes (b .front) ∙ ap₂ _+_ length-sizes (b .long))
       (words-fill tagFields (take 2 row) (omega (arith, length-take 2 row, ok .width)) (refl, (refl, tt))
       (all-take (λ x. x < 2 ^ 32) 2 row (all-words row (ok .fits))))
 
   record-back : (i : ℕ) → i < length rows
-      → fieldsAt (imageOf t) recordFields (sizesEnd (orderOf t) + 8 * length rows + 40 * i) ≡ drop 2 (getD rows i [])
+      → fieldsAt (imageOf t) (recordFields writtenForm) (sizesEnd writtenForm (orderOf t) + 8 * length rows + recordBytes writtenForm * i) ≡ drop 2 (getD rows i [])
   unfolding recordBlock recordFields rowWidth
   record-back i l =
       let row = getD rows i [] in
       let ok = all-at IsRow rows i [] all-rows l in
-      let b = block-at recordBlock 40 rows i [] record-blocks l in
+      let b = block-at recordBlock (recordBytes writtenForm) rows i [] record-blocks l in
       let before = sizes ++ flatten (map tagBlock rows) in
-      fields-in (imageOf t) (before ++ b .front) recordFields (drop 2 row) (b .back) (sizesEnd (orderOf t) + 8 * length rows + 40 * i)
+      fields-in (imageOf t) (before ++ b .front) (recordFields writtenForm) (drop 2 row) (b .back) (sizesEnd writtenForm (orderOf t) + 8 * length rows + recordBytes writtenForm * i)
       (image-parts ∙ ap (λ (r : List ℕ). sizes ++ (flatten (map tagBlock rows) ++ r)) (b .split) ∙ simp append-assoc)
       (length-append before (b .front)
       ∙ ap₂ _+_ (length-append sizes (flatten (map tagBlock rows)) ∙ ap₂ _+_ length-sizes (length-blocks tagBlock 8 rows tag-blocks)) (b .long))
-      (words-fill recordFields (drop 2 row) (omega (arith, length-drop 2 row, ok .width))
+      (words-fill (recordFields writtenForm) (drop 2 row) (omega (arith, length-drop 2 row, ok .width))
       (refl, (refl, (refl, (refl, (refl, (refl, (refl, (refl, (refl, (refl, tt))))))))))
       (all-drop (λ x. x < 2 ^ 32) 2 row (all-words row (ok .fits))))
 
   row-back : (i : ℕ) → i < length rows → rowIn (imageOf t) i ≡ getD rows i []
-  unfolding rowIn tagBytes recordBytes tagFields recordFields total
-  row-back i l = rw (order-back, slots-back, tag-back i l, record-back i l) (take-append-drop 2 (getD rows i []))
+  unfolding rowIn tagBytes tagFields total
+  row-back i l = rw (form-back, order-back, slots-back, tag-back i l, record-back i l) (take-append-drop 2 (getD rows i []))
 
   -- bucket k's slots stand in the rows after those of the buckets below it
   rows-split : (k : ℕ) (h : k < suc (orderOf t))

@@ -1,7 +1,9 @@
 -- RULES 12.1: little-endian numbers, the fields with their bytes, and the lengths of the image's parts.
 use Prim.Native.Nat.{ℕ, zero, suc, _+_, _*_, _/_, _%_}
 use mathlib.Core.List.{List, [], _∷_, _++_}
+use mathlib.Core.Bool.{Bool}
 use lib.ListN.{length}
+use lib.Dec.{leb}
 use Rattle.lists.specs.Lists.{total}
 
 -- the w bytes of a number, lowest first, and the number of some bytes
@@ -13,18 +15,33 @@ unfoldable pub numberOf : List ℕ → ℕ
 numberOf [] = 0
 numberOf (b ∷ bs) = b + 256 * numberOf bs
 
--- Fields are a list: of each, in their order, its number of bytes. A later form of the image appends to these lists.
--- RULES 12.1, the header: order, metric, and the two zero bytes
-unfoldable pub headerFields : List ℕ
-headerFields = 1 ∷ 1 ∷ 2 ∷ []
+-- RULES 12.1: images are of forms, which are numbered: the image with its two zero bytes is form 0. The last form that is read, and the one that is written.
+-- Fields and what follows from them go by the form. A form above the last is refused before any field of it is read
+unfoldable pub lastForm : ℕ
+lastForm = 0
+
+unfoldable pub validForm : ℕ → Bool
+validForm form = leb form lastForm
+
+unfoldable pub writtenForm : ℕ
+writtenForm = 0
+
+-- Fields are a list: of each, in their order, its number of bytes.
+-- What an image of any form begins with: order, metric and form
+unfoldable pub startFields : List ℕ
+startFields = 1 ∷ 1 ∷ 2 ∷ []
+
+-- the header, which in form 0 is that alone
+unfoldable pub headerFields : ℕ → List ℕ
+headerFields form = startFields
 
 -- RULES 12.1: a slot is its row's words in their order: the tag's two
 unfoldable pub tagFields : List ℕ
 tagFields = 4 ∷ 4 ∷ []
 
 -- and the record's ten, the four measures, the two of each code word, the threshold and the mark
-unfoldable pub recordFields : List ℕ
-recordFields = 4 ∷ 4 ∷ 4 ∷ 4 ∷ 4 ∷ 4 ∷ 4 ∷ 4 ∷ 4 ∷ 4 ∷ []
+unfoldable pub recordFields : ℕ → List ℕ
+recordFields form = 4 ∷ 4 ∷ 4 ∷ 4 ∷ 4 ∷ 4 ∷ 4 ∷ 4 ∷ 4 ∷ 4 ∷ []
 
 -- the bytes of numbers as these fields; a number that is missing is 0
 unfoldable pub bytesOfFields : List ℕ → List ℕ → List ℕ
@@ -32,15 +49,18 @@ bytesOfFields [] ns = []
 bytesOfFields (w ∷ ws) [] = bytesOf w 0 ++ bytesOfFields ws []
 bytesOfFields (w ∷ ws) (n ∷ ns) = bytesOf w n ++ bytesOfFields ws ns
 
--- the lengths of the header, a tag and a record
-unfoldable pub headerBytes : ℕ
-headerBytes = total headerFields
+-- the lengths of these: the start, the header, a tag and a record
+unfoldable pub startBytes : ℕ
+startBytes = total startFields
+
+unfoldable pub headerBytes : ℕ → ℕ
+headerBytes form = total (headerFields form)
 
 unfoldable pub tagBytes : ℕ
 tagBytes = total tagFields
 
-unfoldable pub recordBytes : ℕ
-recordBytes = total recordFields
+unfoldable pub recordBytes : ℕ → ℕ
+recordBytes form = total (recordFields form)
 
 -- RULES 12.1: a pair of 16-bit sizes for each bucket comes after the header
 unfoldable pub sizeBytes : ℕ
@@ -49,13 +69,13 @@ sizeBytes = 2
 unfoldable pub pairBytes : ℕ
 pairBytes = 2 * sizeBytes
 
-unfoldable pub sizesEnd : ℕ → ℕ
-sizesEnd order = headerBytes + pairBytes * suc order
+unfoldable pub sizesEnd : ℕ → ℕ → ℕ
+sizesEnd form order = headerBytes form + pairBytes * suc order
 
 -- as many words of a row are its tag
 unfoldable pub tagWords : ℕ
 tagWords = length tagFields
 
 -- RULES 12.1: the whole image, of n built slots in all
-unfoldable pub imageLength : ℕ → ℕ → ℕ
-imageLength order n = sizesEnd order + (tagBytes + recordBytes) * n
+unfoldable pub imageLength : ℕ → ℕ → ℕ → ℕ
+imageLength form order n = sizesEnd form order + (tagBytes + recordBytes form) * n

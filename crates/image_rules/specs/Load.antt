@@ -15,8 +15,8 @@ use Rattle.table_rules.specs.Geometry.{validOrder, bucketsOf, tableRows}
 use Rattle.table_rules.specs.Table.{Table, putBucket}
 use Rattle.table_rules.specs.Checks.{sizesPass, liveSizeHolds}
 use Rattle.table_rules.specs.Fresh.{freshTable}
-use Rattle.image_rules.specs.Bytes.{headerBytes, sizesEnd, imageLength}
-use Rattle.image_rules.specs.Read.{orderIn, spaceIn, zerosIn, builtIn, liveIn, slotsIn, bucketIn}
+use Rattle.image_rules.specs.Bytes.{validForm, startBytes, sizesEnd, imageLength}
+use Rattle.image_rules.specs.Read.{orderIn, spaceIn, formIn, builtIn, liveIn, slotsIn, bucketIn}
 
 -- RULES 12.5, a slot's own fields: tag, measures, and a mark that is 0 or 1
 unfoldable pub fieldsPass : Row → Bool
@@ -37,24 +37,20 @@ slotsPass image =
     every (λ k. bucketPasses (spaceIn image) (liveIn image k) (bucketIn image k)) (bucketsOf (orderIn image))
     && distinct (map tagOf (liveRows image))
 
--- RULES 12.4, once the order is known: size pairs cut 7, sizes 24, total length 7, the table's room 23, then 8
-unfoldable pub bodyRefusal : ℕ → List ℕ → ℕ
-bodyRefusal rows image =
-    unless (leb (sizesEnd (orderIn image)) (length image)) badLength
-    (unless (sizesPass (orderIn image) (builtIn image) (liveIn image)) badTable
-    (unless (eqb (length image) (imageLength (orderIn image) (slotsIn image))) badLength
-    (unless (leb (tableRows (orderIn image)) rows) shortArea
-    (unless (slotsPass image) badImage
-    0))))
-
--- RULES 12.4: under 4 bytes 7; order 3; metric 4; the two zero bytes 8; then the body. Of the table only its number of rows is read
+-- under 4 bytes 7; order 3; metric 4; a form that is not known 8; size pairs cut 7; sizes 24; total length 7; the table's room 23, of which only its
+-- number of rows is read; then the slots 8
 unfoldable pub loadRefusal : ℕ → List ℕ → ℕ
 loadRefusal rows image =
-    when (ltb (length image) headerBytes) badLength
+    when (ltb (length image) startBytes) badLength
     (unless (validOrder (orderIn image)) badOrder
     (unless (validMetric (spaceIn image)) badMetric
-    (unless (eqb (zerosIn image) 0) badImage
-    (bodyRefusal rows image))))
+    (unless (validForm (formIn image)) badImage
+    (unless (leb (sizesEnd (formIn image) (orderIn image)) (length image)) badLength
+    (unless (sizesPass (orderIn image) (builtIn image) (liveIn image)) badTable
+    (unless (eqb (length image) (imageLength (formIn image) (orderIn image) (slotsIn image))) badLength
+    (unless (leb (tableRows (orderIn image)) rows) shortArea
+    (unless (slotsPass image) badImage
+    0))))))))
 
 -- RULES 12.3: a fresh table of the image's order and metric, with each bucket put in its place
 unfoldable pub loadedTable : List ℕ → Table → Table

@@ -5,7 +5,7 @@ use lib.ListN.{getD, take, drop}
 use Rattle.lists.specs.Lists.{total, countFrom}
 use Rattle.metric_rules.specs.Row.{Row}
 use Rattle.metric_rules.specs.declared.Space.{Space}
-use Rattle.image_rules.specs.Bytes.{numberOf, headerFields, tagFields, recordFields, headerBytes, tagBytes, recordBytes, sizeBytes, pairBytes, sizesEnd}
+use Rattle.image_rules.specs.Bytes.{numberOf, startFields, tagFields, recordFields, headerBytes, tagBytes, recordBytes, sizeBytes, pairBytes, sizesEnd}
 
 -- the w bytes at a place as a number, and the numbers of some fields from a place on
 unfoldable pub numberAt : List ℕ → ℕ → ℕ → ℕ
@@ -15,24 +15,25 @@ unfoldable pub fieldsAt : List ℕ → List ℕ → ℕ → List ℕ
 fieldsAt image [] at = []
 fieldsAt image (w ∷ ws) at = numberAt image w at ∷ fieldsAt image ws (at + w)
 
--- RULES 12.1: order, metric, and the number of the two zero bytes
-unfoldable pub headerNumbers : List ℕ → List ℕ
-headerNumbers image = fieldsAt image headerFields 0
+-- order, metric and form, which stand at the same places in every form
+unfoldable pub startNumbers : List ℕ → List ℕ
+startNumbers image = fieldsAt image startFields 0
 
 unfoldable pub orderIn : List ℕ → ℕ
-orderIn image = getD (headerNumbers image) 0 0
+orderIn image = getD (startNumbers image) 0 0
 
 unfoldable pub spaceIn : List ℕ → Space
-spaceIn image = record { metric = getD (headerNumbers image) 1 0 }
+spaceIn image = record { metric = getD (startNumbers image) 1 0 }
 
-unfoldable pub zerosIn : List ℕ → ℕ
-zerosIn image = getD (headerNumbers image) 2 0
+unfoldable pub formIn : List ℕ → ℕ
+formIn image = getD (startNumbers image) 2 0
 
+-- the sizes of bucket k
 unfoldable pub builtIn : List ℕ → ℕ → ℕ
-builtIn image k = numberAt image sizeBytes (headerBytes + pairBytes * k)
+builtIn image k = numberAt image sizeBytes (headerBytes (formIn image) + pairBytes * k)
 
 unfoldable pub liveIn : List ℕ → ℕ → ℕ
-liveIn image k = numberAt image sizeBytes (headerBytes + pairBytes * k + sizeBytes)
+liveIn image k = numberAt image sizeBytes (headerBytes (formIn image) + pairBytes * k + sizeBytes)
 
 -- the number of built slots before bucket k
 unfoldable pub slotsBefore : List ℕ → ℕ → ℕ
@@ -45,8 +46,9 @@ slotsIn image = slotsBefore image (suc (orderIn image))
 -- RULES 12.1, slot i of the image: its tag among the tags, then the rest of its row among the records
 unfoldable pub rowIn : List ℕ → ℕ → Row
 rowIn image i =
-    let tags = sizesEnd (orderIn image) in
-    fieldsAt image tagFields (tags + tagBytes * i) ++ fieldsAt image recordFields (tags + tagBytes * slotsIn image + recordBytes * i)
+    let form = formIn image in
+    let tags = sizesEnd form (orderIn image) in
+    fieldsAt image tagFields (tags + tagBytes * i) ++ fieldsAt image (recordFields form) (tags + tagBytes * slotsIn image + recordBytes form * i)
 
 -- the slots of bucket k
 unfoldable pub bucketIn : List ℕ → ℕ → List Row

@@ -10,11 +10,11 @@ use Rattle.table_rules.specs.Geometry.{bucketsOf}
 use Rattle.table_rules.specs.Table.{Table, orderOf, tableSpace, builtOf, liveOf, slotsOf}
 use Rattle.table_rules.specs.Checks.{readRefusal}
 use Rattle.image_rules.specs.declared.Written.{Written}
-use Rattle.image_rules.specs.Bytes.{bytesOf, bytesOfFields, headerFields, sizeBytes, tagFields, recordFields, tagWords}
+use Rattle.image_rules.specs.Bytes.{writtenForm, bytesOf, bytesOfFields, headerFields, sizeBytes, tagFields, recordFields, tagWords}
 
--- RULES 12.1: order, metric, two zero bytes
-unfoldable pub headerBytesOf : ℕ → Space → List ℕ
-headerBytesOf order space = bytesOfFields headerFields (order ∷ space .metric ∷ 0 ∷ [])
+-- order, metric, form
+unfoldable pub headerBytesOf : ℕ → ℕ → Space → List ℕ
+headerBytesOf form order space = bytesOfFields (headerFields form) (order ∷ space .metric ∷ form ∷ [])
 
 -- RULES 12.1: built and live of each bucket from 0 up
 unfoldable pub sizesOf : ℕ → (ℕ → ℕ) → (ℕ → ℕ) → List ℕ
@@ -24,16 +24,20 @@ sizesOf order built live = flatten (map (λ k. bytesOf sizeBytes (built k) ++ by
 unfoldable pub tagsOf : List Row → List ℕ
 tagsOf rows = flatten (map (λ row. bytesOfFields tagFields (take tagWords row)) rows)
 
-unfoldable pub recordsOf : List Row → List ℕ
-recordsOf rows = flatten (map (λ row. bytesOfFields recordFields (drop tagWords row)) rows)
+unfoldable pub recordsOf : ℕ → List Row → List ℕ
+recordsOf form rows = flatten (map (λ row. bytesOfFields (recordFields form) (drop tagWords row)) rows)
 
 -- RULES 12.1: the built slots of all buckets, from bucket 0 up
 unfoldable pub allSlots : Table → List Row
 allSlots t = flatten (map (slotsOf t) (bucketsOf (orderOf t)))
 
--- RULES 12.1: header, sizes, tags, records
+-- a table's bytes in a form, and in the one that is written
+unfoldable pub imageAs : ℕ → Table → List ℕ
+imageAs form t =
+    headerBytesOf form (orderOf t) (tableSpace t) ++ sizesOf (orderOf t) (builtOf t) (liveOf t) ++ tagsOf (allSlots t) ++ recordsOf form (allSlots t)
+
 unfoldable pub imageOf : Table → List ℕ
-imageOf t = headerBytesOf (orderOf t) (tableSpace t) ++ sizesOf (orderOf t) (builtOf t) (liveOf t) ++ tagsOf (allSlots t) ++ recordsOf (allSlots t)
+imageOf t = imageAs writtenForm t
 
 -- RULES 14.4, after 23 and 24: 6, fewer bytes in the area than in the image
 unfoldable pub writeRefusal : Table → List ℕ → ℕ

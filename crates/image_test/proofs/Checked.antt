@@ -26,9 +26,9 @@ use Rattle.image_rules.specs.Read.{orderIn, builtIn, liveIn, slotsBefore, slots
 use Rattle.image_rules.specs.Load.{fieldsPass, bucketPasses, liveRows, slotsPass}
 use Rattle.image_rules.proofs.Blocks.{all-flatten}
 use Rattle.search_rules.specs.Range.{Entry}
-use Rattle.image_read.specs.Places.{Places}
+use Rattle.image_read.specs.declared.Slots.{Slots}
 use Rattle.image_entries.specs.Entries.{places, TagsFit}
-use Rattle.image_entries.specs.InImage.{InImage, slotIn, slotsAt}
+use Rattle.image_read.specs.InImage.{InImage, slotIn, slotsAt}
 use Rattle.image_test.specs.Trees.{bucketRead, treeValid, treesValid}
 use Rattle.image_test.proofs.Buckets.{rows-before, live-all}
 
@@ -44,8 +44,7 @@ tag-fits row h =
     and-first (validTag (tagOf row)) (validMeasures (profileOf row)) (and-first (validTag (tagOf row) && validMeasures (profileOf row)) (leb (markOf row) 1) h) in
     omega (arith, tag-below (tagOf row) valid)
 
-module _ (image : List ℕ) (known : orderIn image ≤ mostOrder) (sizes : sizesPass (orderIn image) (builtIn image) (liveIn image) ≡ true)
-    (read : every (bucketRead image) (bucketsOf (orderIn image)) ≡ true) where
+module _ (image : List ℕ) (known : orderIn image ≤ mostOrder) (sizes : sizesPass (orderIn image) (builtIn image) (liveIn image) ≡ true) where
   pub built-few : (k : ℕ) → k ≤ orderIn image → builtIn image k ≤ places
   built-few k h =
       omega (
@@ -54,6 +53,8 @@ module _ (image : List ℕ) (known : orderIn image ≤ mostOrder) (sizes : sizes
         room-few k (orderIn image) h known,
       )
 
+module _ (image : List ℕ) (known : orderIn image ≤ mostOrder) (sizes : sizesPass (orderIn image) (builtIn image) (liveIn image) ≡ true)
+    (read : every (bucketRead image) (bucketsOf (orderIn image)) ≡ true) where
   bucket-read : (k : ℕ) → k ≤ orderIn image → bucketRead image k ≡ true
   unfolding bucketsOf
   bucket-read k h = count-all (λ j. bucketRead image j ≡ true) 0 (suc (orderIn image)) (every-all (bucketRead image) (bucketsOf (orderIn image)) read) k (omega arith) (omega arith)
@@ -93,15 +94,13 @@ module _ (image : List ℕ) (known : orderIn image ≤ mostOrder) (sizes : sizes
 
   -- what the test of the live tags of all slots asks
   pub all-asks :
-      (tags records count : ℕ) → Places image tags records → count ≡ slotsIn image → (es : List Entry) → length es ≡ places
-      → InImage image (record { tags = tags; records = records; first = 0; count = count })
-      × (length (select isLive (slotsAt image (record { tags = tags; records = records; first = 0; count = count }))) ≤ length es)
-      × TagsFit (slotIn image (record { tags = tags; records = records; first = 0; count = count })) count
+      (at : Slots) → InImage image at → at .first ≡ 0 → at .count ≡ slotsIn image → (es : List Entry) → length es ≡ places
+      → InImage image at × (length (select isLive (slotsAt image at)) ≤ length es) × TagsFit (slotIn image at) (at .count)
   unfolding slotIn
-  all-asks tags records count p n es full = (
-    record { places = p; within = omega arith },
-    omega (arith, ap length (live-all image (record { tags = tags; records = records; first = 0; count = count }) refl n), lives-few),
-    λ i l. tags-fit (0 + i) (omega arith),
+  all-asks at p f n es full = (
+    p,
+    omega (arith, ap length (live-all image at f n), lives-few),
+    λ i l. tags-fit (at .first + i) (omega (arith, p .within)),
   )
 
 -- the two tests, and all slots
@@ -110,14 +109,13 @@ unfolding treesValid
 stand-fails space image b e h = ap (λ (x : Bool). x && distinct (map tagOf (liveRows image))) (sym h ∙ e)
 
 pub stand-tested :
-    (space : Space) (image : List ℕ) (tags records count : ℕ) (b : Bool) → b ≡ every (λ k. treeValid space (bucketIn image k)) (bucketsOf (orderIn image)) → b ≡ true
-    → count ≡ slotsIn image → (r : Bool)
-    → r ≡ distinct (map tagOf (select isLive (slotsAt image (record { tags = tags; records = records; first = 0; count = count }))))
+    (space : Space) (image : List ℕ) (at : Slots) (b : Bool) → b ≡ every (λ k. treeValid space (bucketIn image k)) (bucketsOf (orderIn image)) → b ≡ true
+    → at .first ≡ 0 → at .count ≡ slotsIn image → (r : Bool) → r ≡ distinct (map tagOf (select isLive (slotsAt image at)))
     → r ≡ treesValid space image
 unfolding treesValid
-stand-tested space image tags records count b e h n r f =
+stand-tested space image at b e h first n r f =
     f
-    ∙ ap (λ (rows : List Row). distinct (map tagOf rows)) (sym (live-all image (record { tags = tags; records = records; first = 0; count = count }) refl n))
+    ∙ ap (λ (rows : List Row). distinct (map tagOf rows)) (sym (live-all image at first n))
     ∙ ap (λ (x : Bool). x && distinct (map tagOf (liveRows image))) (sym h ∙ e)
 
 -- tests of all elements, one after the other or both at once

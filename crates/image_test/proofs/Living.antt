@@ -14,23 +14,14 @@ use Rattle.tree_rules.proofs.Parts.{getD-mapped}
 use Rattle.search_rules.specs.Range.{Entry, entry, entryDistance}
 use Rattle.search_rules.proofs.Selecting.{select-append}
 use Rattle.image_rules.proofs.Blocks.{length-count, getD-count}
-use Rattle.image_entries.specs.declared.Slots.{Slots}
+use Rattle.image_read.specs.declared.Slots.{Slots}
 use Rattle.image_entries.specs.Entries.{places, entryTag, tagEntry, Fresh}
-use Rattle.image_entries.specs.InImage.{slotIn, slotsAt}
+use Rattle.image_read.specs.InImage.{slotIn, slotsAt}
 use Rattle.image_entries.proofs.Filling.{tag-entry-tag}
+use Rattle.image_read.proofs.Places.{slots-length, slots-at}
 use Rattle.image_test.specs.Trees.{liveEntry}
 
 module _ (image : List ℕ) (at : Slots) where
-  pub slots-length : length (slotsAt image at) ≡ at .count
-  unfolding slotsAt
-  slots-length = length-map (countFrom 0 (at .count)) (slotIn image at) ∙ length-count 0 (at .count)
-
-  slots-at : (i : ℕ) → i < at .count → getD (slotsAt image at) i [] ≡ slotIn image at i
-  unfolding slotsAt
-  slots-at i h =
-      getD-mapped (slotIn image at) (countFrom 0 (at .count)) i 0 [] (omega (arith, length-count 0 (at .count)))
-      ∙ ap (slotIn image at) (getD-count 0 (at .count) i 0 h ∙ omega arith)
-
   -- the live ones of the first i slots
   abbrev pub livedTo : ℕ → List Row
   livedTo i = select isLive (take i (slotsAt image at))
@@ -39,8 +30,8 @@ module _ (image : List ℕ) (at : Slots) where
   next i h =
       ap (select isLive)
       (ap (λ (k : ℕ). take k (slotsAt image at)) (add-one i)
-      ∙ take-suc (slotsAt image at) i [] (omega (arith, slots-length))
-      ∙ ap (λ (r : Row). take i (slotsAt image at) ++ (r ∷ [])) (slots-at i h))
+      ∙ take-suc (slotsAt image at) i [] (omega (arith, slots-length image at))
+      ∙ ap (λ (r : Row). take i (slotsAt image at) ++ (r ∷ [])) (slots-at image at i [] h))
       ∙ select-append isLive (take i (slotsAt image at)) (slotIn image at i ∷ [])
 
   one-live : (row : Row) → isLive row ≡ true → select isLive (row ∷ []) ≡ row ∷ []
@@ -58,7 +49,7 @@ module _ (image : List ℕ) (at : Slots) where
   next-dead i h e = next i h ∙ ap (λ (r : List Row). livedTo i ++ r) (one-dead (slotIn image at i) e) ∙ append-nil (livedTo i)
 
   pub lived-all : (i : ℕ) → at .count ≤ i → livedTo i ≡ select isLive (slotsAt image at)
-  lived-all i h = ap (select isLive) (take-all i (slotsAt image at) (omega (arith, slots-length)))
+  lived-all i h = ap (select isLive) (take-all i (slotsAt image at) (omega (arith, slots-length image at)))
 
   lived-few : (i : ℕ) → length (livedTo i) ≤ length (select isLive (slotsAt image at))
   lived-few i =

@@ -1,28 +1,26 @@
 // The test of all of an image's slots with one array of entries: every bucket's tags and layout, and that no live tag occurs twice at all.
 ghost use mathlib.Core.Path.{_≡_};
-ghost use Prim.Native.Nat.{ℕ, _+_, _≤_, _<_, _^_};
+ghost use Prim.Native.Nat.{ℕ, _≤_, _<_, _^_};
 ghost use mathlib.Core.Bool.{true};
 ghost use mathlib.Core.List.{map};
 ghost use lib.ListN.{length, take};
 ghost use Rattle.lists.specs.Lists.{every, select, distinct};
 ghost use Rattle.metric_rules.specs.Row.{tagOf, isLive};
 ghost use Rattle.metric_rules.specs.Distance.{spaceOf};
-ghost use Rattle.table_rules.specs.Geometry.{mostOrder, bucketsOf};
-ghost use Rattle.table_rules.specs.Checks.{sizesPass};
-ghost use Rattle.image_rules.specs.Read.{orderIn, builtIn, liveIn, bucketIn, rowIn, slotsIn};
-ghost use Rattle.image_read.specs.Places.{Places};
+ghost use Rattle.table_rules.specs.Geometry.{bucketsOf};
+ghost use Rattle.image_rules.specs.Read.{orderIn, bucketIn, rowIn, slotsIn};
 ghost use Rattle.image_entries.specs.Entries.{places, TagsFit};
-ghost use Rattle.image_entries.specs.InImage.{InImage, slotIn, slotsAt};
+ghost use Rattle.image_read.specs.InImage.{Whole, InImage, slotIn, slotsAt};
 ghost use Rattle.image_test.specs.Trees.{bucketRead, treeValid, treesValid, liveEntry};
 use image_entries::PLACES;
-use image_entries::Slots;
-use image_entries::slot_in;
 use image_entries::tag_entry;
 use image_entries::tags_apart;
 use image_layout::tree_valid;
+use image_read::Header;
+use image_read::Slots;
 use image_read::built_in;
-use image_read::order_in;
-use image_read::slots_in;
+use image_read::slot_in;
+use image_read::some_of;
 use metric_rules::Row;
 use rows::is_live;
 use rows::tag_of;
@@ -57,29 +55,26 @@ fn live_apart(image: &[u8], at: Slots, entries: &mut [Entry]) -> bool
     tags_apart(&mut entries[..count])
 }
 
-// Whether every bucket stands, one after the other. What `entries` holds then is left free; it keeps its length.
+// Whether every bucket stands, one after the other; `row` is a header row with the image's space. What `entries` holds then is left free; it keeps
+// its length.
 fn each_tree_valid(
     image: &[u8],
-    tags: usize,
-    records: usize,
-    header: &Row,
+    header: Header,
+    all: Slots,
+    row: &Row,
     entries: &mut [Entry],
 ) -> bool
-    requires { ⌜ Places (now image) tags records × (orderIn (now image) ≤ mostOrder) × (length (now entries) ≡ places) × ((k : ℕ) → k ≤ orderIn (now image) → builtIn (now image) k ≤ places) × ((i : ℕ) → i < slotsIn (now image) → tagOf (rowIn (now image) i) < 2 ^ 50) ⌝ }
-    ensures { λ r. ⌜ r ≡ every (λ k. treeValid (spaceOf (now (header .entry))) (bucketIn (now (image .entry)) k)) (bucketsOf (orderIn (now (image .entry)))) ⌝ }
+    requires { ⌜ Whole (now image) header × InImage (now image) all × (length (now entries) ≡ places) × ((i : ℕ) → i < slotsIn (now image) → tagOf (rowIn (now image) i) < 2 ^ 50) ⌝ }
+    ensures { λ r. ⌜ r ≡ every (λ k. treeValid (spaceOf (now (row .entry))) (bucketIn (now (image .entry)) k)) (bucketsOf (orderIn (now (image .entry)))) ⌝ }
 {
-    let buckets = order_in(image) + 1;
+    let form = header.form;
+    let buckets = header.order.t + 1;
     let mut first = 0;
     let mut k = 0;
     while k < buckets {
-        let count = built_in(image, k) as usize;
-        let at = Slots {
-            tags,
-            records,
-            first,
-            count,
-        };
-        if !tree_valid(image, at, header, &mut entries[..count]) {
+        let count = built_in(image, form, k) as usize;
+        let at = some_of(all, first, count);
+        if !tree_valid(image, at, row, &mut entries[..count]) {
             return false;
         }
         first += count;
@@ -89,19 +84,13 @@ fn each_tree_valid(
 }
 
 // Whether the slots of an image that is right but for its tags and layouts stand. The array is all the room that this takes.
-pub fn trees_valid(image: &[u8], tags: usize, records: usize, header: &Row) -> bool
-    requires { ⌜ Places (now image) tags records × (orderIn (now image) ≤ mostOrder) × (sizesPass (orderIn (now image)) (builtIn (now image)) (liveIn (now image)) ≡ true) × (every (bucketRead (now image)) (bucketsOf (orderIn (now image))) ≡ true) ⌝ }
-    ensures { λ r. ⌜ r ≡ treesValid (spaceOf (now (header .entry))) (now (image .entry)) ⌝ }
+pub fn trees_valid(image: &[u8], header: Header, all: Slots, row: &Row) -> bool
+    requires { ⌜ Whole (now image) header × InImage (now image) all × (all .first ≡ 0) × (all .count ≡ slotsIn (now image)) × (every (bucketRead (now image)) (bucketsOf (orderIn (now image))) ≡ true) ⌝ }
+    ensures { λ r. ⌜ r ≡ treesValid (spaceOf (now (row .entry))) (now (image .entry)) ⌝ }
 {
     let mut entries = [[0u64; 2]; PLACES as usize];
-    if !each_tree_valid(image, tags, records, header, &mut entries[..]) {
+    if !each_tree_valid(image, header, all, row, &mut entries[..]) {
         return false;
     }
-    let all = Slots {
-        tags,
-        records,
-        first: 0,
-        count: slots_in(image),
-    };
     live_apart(image, all, &mut entries[..])
 }

@@ -15,6 +15,7 @@ use Rattle.table_rules.specs.Geometry.{bucketsOf, sizesRow, firstSlot}
 use Rattle.table_rules.specs.Table.{Table, orderOf, builtOf, slotsOf}
 use Rattle.table_rules.specs.Passed.{Passed}
 use Rattle.table_rules.proofs.Passing.{sizes-inside, built-inside}
+use Rattle.image_rules.specs.Bytes.{writtenForm, recordBytes}
 use Rattle.image_rules.specs.Write.{tagsOf, recordsOf, allSlots}
 use Rattle.image_rules.proofs.Counting.{flatten-append, flatten-more}
 use Rattle.tree_rules.proofs.Stores.{sets-more, sets-apart}
@@ -86,13 +87,13 @@ module _ (t : Table) where
   tagsAt k = tagsOf (slotsOf t k)
 
   unfoldable pub recordsAt : ℕ → List ℕ
-  recordsAt k = recordsOf (slotsOf t k)
+  recordsAt k = recordsOf writtenForm (slotsOf t k)
 
   all-tags : run tagsAt (suc (orderOf t)) ≡ tagsOf (allSlots t)
   unfolding tagsAt tagsOf allSlots bucketsOf run
   all-tags = sym (blocks-by-list tagBlock (slotsOf t) (countFrom 0 (suc (orderOf t))))
 
-  all-records : run recordsAt (suc (orderOf t)) ≡ recordsOf (allSlots t)
+  all-records : run recordsAt (suc (orderOf t)) ≡ recordsOf writtenForm (allSlots t)
   unfolding recordsAt recordsOf allSlots bucketsOf run
   all-records = sym (blocks-by-list recordBlock (slotsOf t) (countFrom 0 (suc (orderOf t))))
 
@@ -109,7 +110,7 @@ module _ (t : Table) where
   none-stored tags records first = record { within = omega arith; same = refl; tagPlace = omega arith; recordPlace = omega arith; area = refl }
 
 module _ {t : Table} {tags records : ℕ} {first image : List ℕ} {tag bytes k : ℕ} (s : Stored t tags records first image tag bytes k) where
-  pub all-stored : orderOf t < k → image ≡ sets (sets first tags (tagsOf (allSlots t))) records (recordsOf (allSlots t))
+  pub all-stored : orderOf t < k → image ≡ sets (sets first tags (tagsOf (allSlots t))) records (recordsOf writtenForm (allSlots t))
   all-stored h =
       let done : k ≡ suc (orderOf t) = omega (arith, s .within) in
       s .area
@@ -121,8 +122,8 @@ module _ {t : Table} {tags records : ℕ} {first image : List ℕ} {tag bytes k 
     tags-within : tag + length (tagsAt t k) ≤ records
     tags-within = omega (arith, s .tagPlace, length-run (tagsAt t) k, run-within (tagsAt t) (suc k) (suc (orderOf t)) (omega arith), ap length (all-tags t))
 
-    pub slots-fit : records + length (recordsOf (allSlots t)) ≤ length first
-        → (tag + length (tagsOf rows) ≤ bytes) × (bytes + length (recordsOf rows) ≤ length image)
+    pub slots-fit : records + length (recordsOf writtenForm (allSlots t)) ≤ length first
+        → (tag + length (tagsOf rows) ≤ bytes) × (bytes + length (recordsOf writtenForm rows) ≤ length image)
     unfolding tagsAt recordsAt
     slots-fit fits =
         rw e (
@@ -130,10 +131,10 @@ module _ {t : Table} {tags records : ℕ} {first image : List ℕ} {tag bytes k 
           omega (arith, s .same, s .recordPlace, length-run (recordsAt t) k, run-within (recordsAt t) (suc k) (suc (orderOf t)) (omega arith), ap length (all-records t)),
         )
 
-    pub more-stored : {next : List ℕ} → length next ≡ length image → next ≡ sets (sets image tag (tagsOf rows)) bytes (recordsOf rows)
-        → Stored t tags records first next (tag + 8 * length rows) (bytes + 40 * length rows) (k + 1)
+    pub more-stored : {width : ℕ} {next : List ℕ} → width ≡ recordBytes writtenForm → length next ≡ length image → next ≡ sets (sets image tag (tagsOf rows)) bytes (recordsOf writtenForm rows)
+        → Stored t tags records first next (tag + 8 * length rows) (bytes + width * length rows) (k + 1)
     unfolding tagsAt recordsAt
-    more-stored {next} same put =
+    more-stored {width} {next} wide same put =
         let tagged = run-next (tagsAt t) k in
         let recorded = run-next (recordsAt t) k in
         rw (add-one k)
@@ -141,10 +142,10 @@ module _ {t : Table} {tags records : ℕ} {first image : List ℕ} {tag bytes k 
           within = omega arith;
           same = same ∙ s .same;
           tagPlace = omega (arith, s .tagPlace, length-run (tagsAt t) k, length-tags rows, ap (λ (rs : List Row). length (tagsOf rs)) e);
-          recordPlace = omega (arith, s .recordPlace, length-run (recordsAt t) k, length-records rows, ap (λ (rs : List Row). length (recordsOf rs)) e);
+          recordPlace = rw wide (omega (arith, s .recordPlace, length-run (recordsAt t) k, length-records rows, ap (λ (rs : List Row). length (recordsOf writtenForm rs)) e));
           area =
               put
-              ∙ ap (λ (rs : List Row). sets (sets image tag (tagsOf rs)) bytes (recordsOf rs)) e
+              ∙ ap (λ (rs : List Row). sets (sets image tag (tagsOf rs)) bytes (recordsOf writtenForm rs)) e
               ∙ both-more first tags records (run (tagsAt t) k) (run (recordsAt t) k) (tagsAt t k) (recordsAt t k) (s .area) (s .tagPlace) tags-within (s .recordPlace)
               ∙ sym (ap₂ (λ (ts bs : List ℕ). sets (sets first tags ts) records bs) tagged recorded);
         })

@@ -8,17 +8,13 @@ ghost use Rattle.metric_rules.specs.Row.{word};
 ghost use Rattle.metric_rules.specs.Distance.{spaceOf};
 ghost use Rattle.table_rules.specs.Table.{orderOf, builtOf, liveOf};
 ghost use Rattle.table_rules.specs.Passed.{Passed};
-ghost use Rattle.image_rules.specs.Bytes.{bytesOf, headerBytes, sizeBytes, pairBytes, sizesEnd};
+ghost use Rattle.image_rules.specs.Bytes.{writtenForm, bytesOf, headerBytes, sizeBytes, pairBytes, sizesEnd};
 ghost use Rattle.image_rules.specs.Write.{headerBytesOf, sizesOf, tagsOf, recordsOf, allSlots, imageOf, writeReply, imageAfterWrite};
+use image_form::Form;
 use image_put::put_records;
 use image_put::put_tags;
 use image_put::put16;
-use image_read::sizes_end;
-use image_rules::HEADER_BYTES;
-use image_rules::PAIR_BYTES;
-use image_rules::RECORD_BYTES;
 use image_rules::SIZE_BYTES;
-use image_rules::SLOT_BYTES;
 use image_rules::TAG_BYTES;
 use image_rules::Written;
 use metric_rules::METRIC_AT;
@@ -33,14 +29,14 @@ use table_views::live_of;
 use table_views::order_in;
 use table_views::slots_of;
 
-// Order, metric and two zero bytes.
+// Order, metric and form.
 fn put_header(image: &mut [u8], header: Row)
-    requires { ⌜ headerBytes ≤ length (now image) ⌝ }
-    ensures { λ _. ⌜ now (image .exit) ≡ sets (now (image .entry)) 0 (headerBytesOf (word header 0) (spaceOf header)) ⌝ }
+    requires { ⌜ headerBytes writtenForm ≤ length (now image) ⌝ }
+    ensures { λ _. ⌜ now (image .exit) ≡ sets (now (image .entry)) 0 (headerBytesOf writtenForm (word header 0) (spaceOf header)) ⌝ }
 {
     image[0] = (header[ORDER_AT] % 256) as u8;
     image[1] = (header[METRIC_AT] % 256) as u8;
-    put16(image, 2, 0);
+    put16(image, 2, Form::WRITTEN);
 }
 
 // The sizes of a bucket.
@@ -54,28 +50,26 @@ fn put_pair(image: &mut [u8], at: usize, built: u32, live: u32)
 
 // Those of every bucket, behind the header.
 fn put_sizes(image: &mut [u8], table: &[Row], order: Order)
-    requires { ⌜ (order .t ≡ orderOf (now table)) × Passed (now table) × (sizesEnd (order .t) ≤ length (now image)) ⌝ }
-    ensures { λ _. ⌜ now (image .exit) ≡ sets (now (image .entry)) headerBytes (sizesOf (order .t) (builtOf (now (table .entry))) (liveOf (now (table .entry)))) ⌝ }
+    requires { ⌜ (order .t ≡ orderOf (now table)) × Passed (now table) × (sizesEnd writtenForm (order .t) ≤ length (now image)) ⌝ }
+    ensures { λ _. ⌜ now (image .exit) ≡ sets (now (image .entry)) (headerBytes writtenForm) (sizesOf (order .t) (builtOf (now (table .entry))) (liveOf (now (table .entry)))) ⌝ }
 {
+    let form = Form::written();
     let t = order.t;
     let mut k = 0;
     while k <= t {
         let built = built_of(table, k);
-        put_pair(
-            image,
-            HEADER_BYTES + PAIR_BYTES * k as usize,
-            built,
-            live_of(table, k),
-        );
+        put_pair(image, form.sizes_at(k), built, live_of(table, k));
         k += 1;
     }
 }
 
 // The slots of all buckets, one bucket after the other: their tags from one place on, and behind all of them their records from another on.
 fn put_all_slots(image: &mut [u8], tags: usize, records: usize, table: &[Row], order: Order)
-    requires { ⌜ (order .t ≡ orderOf (now table)) × Passed (now table) × (tags + length (tagsOf (allSlots (now table))) ≤ records) × (records + length (recordsOf (allSlots (now table))) ≤ length (now image)) ⌝ }
-    ensures { λ _. ⌜ now (image .exit) ≡ sets (sets (now (image .entry)) tags (tagsOf (allSlots (now (table .entry))))) records (recordsOf (allSlots (now (table .entry)))) ⌝ }
+    requires { ⌜ (order .t ≡ orderOf (now table)) × Passed (now table) × (tags + length (tagsOf (allSlots (now table))) ≤ records) × (records + length (recordsOf writtenForm (allSlots (now table))) ≤ length (now image)) ⌝ }
+    ensures { λ _. ⌜ now (image .exit) ≡ sets (sets (now (image .entry)) tags (tagsOf (allSlots (now (table .entry))))) records (recordsOf writtenForm (allSlots (now (table .entry)))) ⌝ }
 {
+    let form = Form::written();
+    let width = form.record_bytes();
     let t = order.t;
     let mut tag_at = tags;
     let mut record_at = records;
@@ -85,7 +79,7 @@ fn put_all_slots(image: &mut [u8], tags: usize, records: usize, table: &[Row], o
         put_tags(image, tag_at, slots);
         put_records(image, record_at, slots);
         tag_at += TAG_BYTES * slots.len();
-        record_at += RECORD_BYTES * slots.len();
+        record_at += width * slots.len();
         k += 1;
     }
 }
@@ -109,7 +103,8 @@ fn image_length(table: &[Row], order: Order) -> usize
     requires { ⌜ (order .t ≡ orderOf (now table)) × Passed (now table) ⌝ }
     ensures { λ r. ⌜ r ≡ length (imageOf (now (table .entry))) ⌝ }
 {
-    sizes_end(order.t) + SLOT_BYTES * slots_in_all(table, order)
+    let form = Form::written();
+    form.image_length(order.t, slots_in_all(table, order))
 }
 
 fn put_image(image: &mut [u8], table: &[Row], order: Order)
@@ -118,9 +113,15 @@ fn put_image(image: &mut [u8], table: &[Row], order: Order)
 {
     put_header(image, table[HEADER_ROW]);
     put_sizes(image, table, order);
-    let tags = sizes_end(order.t);
-    let records = tags + TAG_BYTES * slots_in_all(table, order);
-    put_all_slots(image, tags, records, table, order);
+    let form = Form::written();
+    let slots = slots_in_all(table, order);
+    put_all_slots(
+        image,
+        form.sizes_end(order.t),
+        form.tags_end(order.t, slots),
+        table,
+        order,
+    );
 }
 
 // The whole call: 23 and 24, then 6, then the image.

@@ -1,18 +1,20 @@
 -- `image_fields::buckets_read` meets its contract. The loop's invariant: the buckets that are left decide, and the next one's slots begin behind
 -- those passed.
 use Prim.Native.Nat.{ℕ, _+_, _-_, _≤_}
-use mathlib.Core.Path.{_≡_, refl, sym, _∙_, ap, ap₂}
+use mathlib.Core.Path.{_≡_, refl, sym, _∙_, ap, ap₂, subst}
 use mathlib.Core.Bool.{Bool}
-use mathlib.Core.List.{List, map}
+use mathlib.Core.List.{List}
 use native.Mathlib.Omega.{arith}
+use borrow.Author.Needs.{needs}
 use borrow.Author.Tests.{not-true, not-false}
 use Rattle.lists.specs.Lists.{total, countFrom, every}
 use Rattle.table_rules.specs.Geometry.{bucketsOf}
 use Rattle.table_rules.proofs.Buckets.{bucketsFrom, buckets-all, bucket-fails, bucket-passes, buckets-pass}
-use Rattle.image_rules.specs.Bytes.{headerFields, headerBytes, sizesEnd}
-use Rattle.image_rules.specs.Read.{liveIn, slotsBefore, rowIn, bucketIn}
+use Rattle.image_rules.specs.Read.{orderIn, builtIn, liveIn, slotsBefore, slotsIn, bucketIn}
 use Rattle.image_fields.specs.SlotsRead.{slotsRead}
-use Rattle.image_read.proofs.Slots.{pair-inside, few-slots, sizes-within, bucket-inside, before-more}
+use Rattle.image_read.specs.declared.Slots.{Slots}
+use Rattle.image_read.specs.InImage.{InImage}
+use Rattle.image_read.proofs.Places.{whole-sizes, few-slots, some-in, bucket-inside, before-more, bucket-slots}
 use Rattle.image_fields.proofs.buckets_read.Statement.{statement}
 use Rattle.image_fields.proofs.buckets_read.Tie as tie
 
@@ -20,85 +22,96 @@ abbrev passes : List ℕ → ℕ → Bool
 passes image k = slotsRead (bucketIn image k) (liveIn image k)
 
 abbrev Inv-loop : tie.InvT-loop
-Inv-loop image tags records t first₀ k₀ first k =
+Inv-loop image all form t first₀ k₀ first k =
     (k ≤ t + 1) × (first ≡ slotsBefore image k) × (every (passes image) (bucketsFrom t k) ≡ every (passes image) (bucketsOf t))
 
 abbrev μ-loop : tie.MeasureT-loop
-μ-loop image tags records t first₀ k₀ first k = t + 1 - k
+μ-loop image all form t first₀ k₀ first k = t + 1 - k
 
-order-in-requires : tie.Need-order-in-requires Inv-loop μ-loop
-unfolding sizesEnd headerBytes headerFields total
-order-in-requires c κs = omega (arith, sizes-within (c .before .pre .0))
+-- a bucket of the loop is one of the order
+within : (s : tie.Start Inv-loop μ-loop) (k : ℕ) → k ≤ s .args .header .order .t → k ≤ orderIn (s .args .image .now)
+within s k h = omega (arith, s .pre .0 .headed .order)
+
+-- its slots are among all
+inside : (s : tie.Start Inv-loop μ-loop) (first k : ℕ) → k ≤ s .args .header .order .t → first ≡ slotsBefore (s .args .image .now) k
+    → first + builtIn (s .args .image .now) k ≤ slotsIn (s .args .image .now)
+inside s first k h e = omega (arith, bucket-inside (s .args .image .now) k (within s k h), e)
 
 loop-holds : tie.Need-loop-holds Inv-loop μ-loop
 unfolding slotsBefore total countFrom
-loop-holds c = (omega arith, refl, ap (every (passes (c .before .before .args .image .now))) (buckets-all (c .order-in .result)))
+loop-holds c =
+    let a = c .before .before .args in (omega arith, refl, ap (every (passes (a .image .now))) (buckets-all (a .header .order .t)))
 
 built-in-requires : tie.Need-built-in-requires Inv-loop μ-loop
-built-in-requires c κs = pair-inside (omega (arith, c .before .before .order-in .ensures)) (sizes-within (c .before .before .before .before .pre .0))
+built-in-requires c κs =
+    let s = c .before .before .before .before in
+    let k = c .before .loop .k in
+    whole-sizes (s .pre .0) k (within s k (omega arith))
 
 cast-count : tie.Need-cast-count Inv-loop μ-loop
 cast-count c = omega (arith, c .built-in .ok)
 
 live-in-requires : tie.Need-live-in-requires Inv-loop μ-loop
-live-in-requires c κs = pair-inside (omega (arith, c .before .before .before .order-in .ensures)) (sizes-within (c .before .before .before .before .before .pre .0))
+live-in-requires c κs =
+    let s = c .before .before .before .before .before .before in
+    let k = c .before .before .before .loop .k in
+    whole-sizes (s .pre .0) k (within s k (omega arith))
 
 slots-read-requires : tie.Need-slots-read-requires Inv-loop μ-loop
 slots-read-requires c κs =
-    let start = c .before .before .before .before .before .before in
-    let l = c .before .before .before .loop in (
-      start .pre .0,
-      omega (arith, bucket-inside (start .args .image .now) (l .k) (omega (arith, c .before .before .before .before .order-in .ensures)), l .inv .1, c .before .built-in .ensures),
-    )
+    let s = c .before .before .before .before .before .before .before in
+    let l = c .before .before .before .before .loop in
+    let built = c .before .before .built-in in
+    subst (InImage (s .args .image .now)) (sym (c .before .some-of .ensures))
+    (some-in (s .pre .1) (l .first) (built .result) (omega (arith, inside s (l .first) (l .k) (omega arith) (l .inv .1), built .ensures)))
 
 -- the bucket's test as it was made
-tested : (c : tie.After-slots-read Inv-loop μ-loop) → passes (c .before .before .before .before .before .before .before .args .image .now) (c .before .before .before .before .loop .k) ≡ c .slots-read .result
-unfolding bucketIn
+tested : (c : tie.After-slots-read Inv-loop μ-loop) → passes (c .before .before .before .before .before .before .before .before .args .image .now) (c .before .before .before .before .before .loop .k) ≡ c .slots-read .result
 tested c =
-    let image = c .before .before .before .before .before .before .before .args .image .now in
-    let l = c .before .before .before .before .loop in
+    let image = c .before .before .before .before .before .before .before .before .args .image .now in
+    let l = c .before .before .before .before .before .loop in
+    let some = c .before .before .some-of in
     sym (c .slots-read .ensures
-    ∙ ap₂ slotsRead (ap₂ (λ (a n : ℕ). map (rowIn image) (countFrom a n)) (l .inv .1) (c .before .before .built-in .ensures)) (c .before .live-in .ensures))
+    ∙ ap₂ slotsRead
+    (bucket-slots image (some .result) (l .k) (ap (λ (at : Slots). at .first) (some .ensures) ∙ l .inv .1) (ap (λ (at : Slots). at .count) (some .ensures) ∙ c .before .before .before .built-in .ensures))
+    (c .before .live-in .ensures))
 
 returns : tie.Need-returns Inv-loop μ-loop
 returns c =
-    let image = c .before .before .before .before .before .before .before .before .args .image .now in
-    let l = c .before .before .before .before .before .loop in
-    bucket-fails (passes image) (c .before .before .before .before .before .before .order-in .result) (l .k) (omega arith) (l .inv .2) (tested (c .before) ∙ not-true (c .before .slots-read .result) (c .if1 .taken))
-    ∙ ap (λ (n : ℕ). every (passes image) (bucketsOf n)) (c .before .before .before .before .before .before .order-in .ensures)
+    let s = c .before .before .before .before .before .before .before .before .before in
+    let image = s .args .image .now in
+    let l = c .before .before .before .before .before .before .loop in
+    bucket-fails (passes image) (s .args .header .order .t) (l .k) (omega arith) (l .inv .2) (tested (c .before) ∙ not-true (c .before .slots-read .result) (c .if1 .taken))
+    ∙ ap (λ (n : ℕ). every (passes image) (bucketsOf n)) (s .pre .0 .headed .order)
 
 add-first : tie.Need-add-first Inv-loop μ-loop
 add-first c =
-    let start = c .before .before .before .before .before .before .before .before in
-    let l = c .before .before .before .before .before .loop in
-    omega (
-      arith,
-      bucket-inside (start .args .image .now) (l .k) (omega (arith, c .before .before .before .before .before .before .order-in .ensures)),
-      few-slots (start .pre .0),
-      l .inv .1,
-      c .before .before .before .built-in .ensures,
-    )
+    let s = c .before .before .before .before .before .before .before .before .before in
+    let l = c .before .before .before .before .before .before .loop in
+    omega (arith, inside s (l .first) (l .k) (omega arith) (l .inv .1), few-slots (s .pre .1), c .before .before .before .before .built-in .ensures)
 
 add-k : tie.Need-add-k Inv-loop μ-loop
-add-k c = omega (arith, c .before .before .before .before .before .before .order-in .ensures, c .before .before .before .before .before .before .before .before .pre .1)
+add-k c = let w = c .before .before .before .before .before .before .before .before .before .pre .0 in omega (arith, w .headed .order, w .order)
 
 loop-less : tie.Need-loop-less Inv-loop μ-loop
 loop-less c = omega arith
 
 loop-again : tie.Need-loop-again Inv-loop μ-loop
 loop-again c =
-    let image = c .before .before .before .before .before .before .before .before .args .image .now in
-    let l = c .before .before .before .before .before .loop in (
+    let s = c .before .before .before .before .before .before .before .before .before in
+    let image = s .args .image .now in
+    let l = c .before .before .before .before .before .before .loop in (
       omega arith,
-      omega (arith, before-more image (l .k), l .inv .1, c .before .before .before .built-in .ensures),
-      bucket-passes (passes image) (c .before .before .before .before .before .before .order-in .result) (l .k) (omega arith) (l .inv .2) (tested (c .before) ∙ not-false (c .before .slots-read .result) (c .if1 .left)),
+      omega (arith, before-more image (l .k), l .inv .1, c .before .before .before .before .built-in .ensures),
+      bucket-passes (passes image) (s .args .header .order .t) (l .k) (omega arith) (l .inv .2) (tested (c .before) ∙ not-false (c .before .slots-read .result) (c .if1 .left)),
     )
 
 returns-2 : tie.Need-returns-2 Inv-loop μ-loop
 returns-2 c =
-    let image = c .before .before .before .before .args .image .now in
-    buckets-pass (passes image) (c .before .before .order-in .result) (c .before .loop .k) (omega arith) (c .before .loop .inv .2)
-    ∙ ap (λ (n : ℕ). every (passes image) (bucketsOf n)) (c .before .before .order-in .ensures)
+    let s = c .before .before .before .before in
+    let image = s .args .image .now in
+    buckets-pass (passes image) (s .args .header .order .t) (c .before .loop .k) (omega arith) (c .before .loop .inv .2)
+    ∙ ap (λ (n : ℕ). every (passes image) (bucketsOf n)) (s .pre .0 .headed .order)
 
 pub buckets-read-spec : {M : Type 1} → statement M
 buckets-read-spec =
@@ -106,10 +119,10 @@ buckets-read-spec =
     (tie.spec
     Inv-loop
     μ-loop
-    order-in-requires
     loop-holds
     built-in-requires
     cast-count
+    (λ c κs. search needs)
     live-in-requires
     slots-read-requires
     returns

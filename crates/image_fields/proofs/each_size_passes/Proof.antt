@@ -10,7 +10,7 @@ use Rattle.table_rules.specs.Geometry.{bucketsOf}
 use Rattle.table_rules.specs.Checks.{sizePasses}
 use Rattle.table_rules.proofs.Buckets.{bucketsFrom, buckets-all, bucket-fails, bucket-passes, buckets-pass}
 use Rattle.image_rules.specs.Read.{builtIn, liveIn}
-use Rattle.image_read.proofs.Slots.{pair-inside}
+use Rattle.image_read.proofs.Places.{sizes-below}
 use Rattle.image_fields.proofs.each_size_passes.Statement.{statement}
 use Rattle.image_fields.proofs.each_size_passes.Tie as tie
 
@@ -18,19 +18,19 @@ abbrev passes : List ℕ → ℕ → Bool
 passes image k = sizePasses k (builtIn image k) (liveIn image k)
 
 abbrev Inv-loop : tie.InvT-loop
-Inv-loop image t k₀ k = (k ≤ t + 1) × (every (passes image) (bucketsFrom t k) ≡ every (passes image) (bucketsOf t))
+Inv-loop image form t k₀ k = (k ≤ t + 1) × (every (passes image) (bucketsFrom t k) ≡ every (passes image) (bucketsOf t))
 
 abbrev μ-loop : tie.MeasureT-loop
-μ-loop image t k₀ k = t + 1 - k
+μ-loop image form t k₀ k = t + 1 - k
 
 loop-holds : tie.Need-loop-holds Inv-loop μ-loop
 loop-holds c = (omega arith, ap (every (passes (c .before .args .image .now))) (buckets-all (c .before .args .t)))
 
 built-in-requires : tie.Need-built-in-requires Inv-loop μ-loop
-built-in-requires c κs = pair-inside (omega arith) (c .before .before .before .pre .1)
+built-in-requires c κs = sizes-below (c .before .before .before .pre .1) (c .before .loop .k) (omega arith)
 
 live-in-requires : tie.Need-live-in-requires Inv-loop μ-loop
-live-in-requires c κs = pair-inside (omega arith) (c .before .before .before .before .pre .1)
+live-in-requires c κs = sizes-below (c .before .before .before .before .pre .1) (c .before .before .loop .k) (omega arith)
 
 size-passes-requires : tie.Need-size-passes-requires Inv-loop μ-loop
 size-passes-requires c κs = omega (arith, c .before .before .before .before .before .pre .0)

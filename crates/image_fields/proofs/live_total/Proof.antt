@@ -8,22 +8,22 @@ use Rattle.lists.specs.Lists.{total, countFrom}
 use Rattle.table_rules.specs.Geometry.{bucketsOf}
 use Rattle.image_rules.specs.Read.{liveIn}
 use Rattle.lists.proofs.Totals.{total-more}
-use Rattle.image_read.proofs.Slots.{pair-inside}
+use Rattle.image_read.proofs.Places.{sizes-below}
 use Rattle.image_fields.proofs.live_total.Statement.{statement}
 use Rattle.image_fields.proofs.live_total.Tie as tie
 
 abbrev Inv-loop : tie.InvT-loop
-Inv-loop image t sum₀ k₀ sum k = (k ≤ t + 1) × (sum ≤ 4294967295 * k) × (sum ≡ total (map (liveIn image) (countFrom 0 k)))
+Inv-loop image form t sum₀ k₀ sum k = (k ≤ t + 1) × (sum ≤ 4294967295 * k) × (sum ≡ total (map (liveIn image) (countFrom 0 k)))
 
 abbrev μ-loop : tie.MeasureT-loop
-μ-loop image t sum₀ k₀ sum k = t + 1 - k
+μ-loop image form t sum₀ k₀ sum k = t + 1 - k
 
 loop-holds : tie.Need-loop-holds Inv-loop μ-loop
 unfolding total countFrom
 loop-holds c = (omega arith, omega arith, refl)
 
 live-in-requires : tie.Need-live-in-requires Inv-loop μ-loop
-live-in-requires c κs = pair-inside (omega arith) (c .before .before .before .pre .1)
+live-in-requires c κs = sizes-below (c .before .before .before .pre .1) (c .before .loop .k) (omega arith)
 
 cast-sum : tie.Need-cast-sum Inv-loop μ-loop
 cast-sum c = omega (arith, c .live-in .ok)

@@ -3,73 +3,67 @@
 use Prim.Native.Nat.{ℕ, _-_, _≤_, _<_}
 use mathlib.Core.Path.{_≡_, refl, sym, _∙_, ap}
 use mathlib.Core.Bool.{Bool, _&&_}
-use mathlib.Core.List.{List, [], map}
+use mathlib.Core.List.{List, []}
 use native.Mathlib.Omega.{arith}
 use borrow.Author.Needs.{needs}
 use borrow.Author.Tests.{not-true, not-false}
 use lib.Dec.{eqb}
 use lib.ListN.{length, getD, take, drop}
 use lib.Seq.{take-all}
-use Rattle.lists.specs.Lists.{countFrom, every, select}
+use Rattle.lists.specs.Lists.{every, select}
 use Rattle.lists.proofs.Tests.{scan-fails, scan-passes, scan-ends}
 use Rattle.metric_rules.specs.Row.{Row, markOf, isLive}
-use Rattle.image_rules.specs.Read.{rowIn}
 use Rattle.image_rules.specs.Load.{fieldsPass}
 use Rattle.image_fields.specs.SlotsRead.{slotsRead}
-use Rattle.image_read.proofs.Slots.{counted-at, length-counted, few-slots}
+use Rattle.image_read.specs.InImage.{slotsAt}
+use Rattle.image_read.proofs.Places.{few-slots, slots-length, slots-at}
 use Rattle.image_fields.proofs.Slots.{mark-most, live-next}
 use Rattle.image_fields.proofs.slots_read.Statement.{statement}
 use Rattle.image_fields.proofs.slots_read.Tie as tie
 
-abbrev slots : List ℕ → ℕ → ℕ → List Row
-slots image first count = map (rowIn image) (countFrom first count)
-
 abbrev Inv-loop : tie.InvT-loop
-Inv-loop image tags records first count live found₀ i₀ found i =
+Inv-loop image at live count found₀ i₀ found i =
     (i ≤ count) × (found ≤ i)
-    × (every fieldsPass (drop i (slots image first count)) ≡ every fieldsPass (slots image first count))
-    × (found ≡ length (select isLive (take i (slots image first count))))
+    × (every fieldsPass (drop i (slotsAt image at)) ≡ every fieldsPass (slotsAt image at))
+    × (found ≡ length (select isLive (take i (slotsAt image at))))
 
 abbrev μ-loop : tie.MeasureT-loop
-μ-loop image tags records first count live found₀ i₀ found i = count - i
+μ-loop image at live count found₀ i₀ found i = count - i
 
 loop-holds : tie.Need-loop-holds Inv-loop μ-loop
 unfolding select
 loop-holds c = (omega arith, omega arith, refl, refl)
 
-add-row-in : tie.Need-add-row-in Inv-loop μ-loop
-add-row-in c = let p = c .before .before .before .pre in omega (arith, few-slots (p .0), p .1)
-
-row-in-requires : tie.Need-row-in-requires Inv-loop μ-loop
-row-in-requires c κs = let p = c .before .before .before .pre in (p .0, omega (arith, p .1))
+slot-in-requires : tie.Need-slot-in-requires Inv-loop μ-loop
+slot-in-requires c κs = (c .before .before .before .pre, omega arith)
 
 -- the slot in hand, and its test
 module _ (c : tie.After-slot-passes Inv-loop μ-loop) where
-  here : getD (slots (c .before .before .before .before .before .args .image .now) (c .before .before .before .before .before .args .first) (c .before .before .before .before .before .args .count)) (c .before .before .before .loop .i) [] ≡ c .before .row-in .result
+  here : getD (slotsAt (c .before .before .before .before .before .args .image .now) (c .before .before .before .before .before .args .at)) (c .before .before .before .loop .i) [] ≡ c .before .slot-in .result
   here =
       let a = c .before .before .before .before .before .args in
       let l = c .before .before .before .loop in
-      counted-at (rowIn (a .image .now)) (a .first) (a .count) (l .i) [] (omega arith) ∙ sym (c .before .row-in .ensures)
+      slots-at (a .image .now) (a .at) (l .i) [] (omega arith) ∙ sym (c .before .slot-in .ensures)
 
-  tested : fieldsPass (getD (slots (c .before .before .before .before .before .args .image .now) (c .before .before .before .before .before .args .first) (c .before .before .before .before .before .args .count)) (c .before .before .before .loop .i) []) ≡ c .slot-passes .result
+  tested : fieldsPass (getD (slotsAt (c .before .before .before .before .before .args .image .now) (c .before .before .before .before .before .args .at)) (c .before .before .before .loop .i) []) ≡ c .slot-passes .result
   tested = ap fieldsPass here ∙ sym (c .slot-passes .ensures)
 
-  long : length (slots (c .before .before .before .before .before .args .image .now) (c .before .before .before .before .before .args .first) (c .before .before .before .before .before .args .count)) ≡ c .before .before .before .before .before .args .count
-  long = length-counted (rowIn (c .before .before .before .before .before .args .image .now)) (c .before .before .before .before .before .args .first) (c .before .before .before .before .before .args .count)
+  long : length (slotsAt (c .before .before .before .before .before .args .image .now) (c .before .before .before .before .before .args .at)) ≡ c .before .before .before .before .before .args .at .count
+  long = slots-length (c .before .before .before .before .before .args .image .now) (c .before .before .before .before .before .args .at)
 
 returns : tie.Need-returns Inv-loop μ-loop
 unfolding slotsRead
 returns c =
     let a = c .before .before .before .before .before .before .args in
     let l = c .before .before .before .before .loop in
-    let rows = slots (a .image .now) (a .first) (a .count) in
+    let rows = slotsAt (a .image .now) (a .at) in
     ap (λ (b : Bool). b && eqb (length (select isLive rows)) (a .live))
     (scan-fails fieldsPass [] rows (l .i) (omega (arith, long (c .before))) (l .inv .2)
     (tested (c .before) ∙ not-true (c .before .slot-passes .result) (c .if1 .taken)))
 
 -- the mark of a slot that passes
 mark : (c : tie.After-mark-of Inv-loop μ-loop)
-    → (c .mark-of .result ≡ markOf (getD (slots (c .before .before .before .before .before .before .before .args .image .now) (c .before .before .before .before .before .before .before .args .first) (c .before .before .before .before .before .before .before .args .count)) (c .before .before .before .before .before .loop .i) [])) × (c .mark-of .result ≤ 1)
+    → (c .mark-of .result ≡ markOf (getD (slotsAt (c .before .before .before .before .before .before .before .args .image .now) (c .before .before .before .before .before .before .before .args .at)) (c .before .before .before .before .before .loop .i) [])) × (c .mark-of .result ≤ 1)
 mark c =
     let e = c .mark-of .ensures ∙ ap markOf (sym (here (c .before .before))) in
     let pass = tested (c .before .before) ∙ not-false (c .before .before .slot-passes .result) (c .before .if1 .left) in
@@ -82,7 +76,7 @@ cast-found : tie.Need-cast-found Inv-loop μ-loop
 cast-found c = omega arith
 
 add-found : tie.Need-add-found Inv-loop μ-loop
-add-found c = let p = c .before .before .before .before .before .before .before .pre in omega (arith, few-slots (p .0), p .1)
+add-found c = let p = c .before .before .before .before .before .before .before .pre in omega (arith, few-slots p, p .within)
 
 add-i : tie.Need-add-i Inv-loop μ-loop
 add-i c = omega arith
@@ -94,7 +88,7 @@ loop-again : tie.Need-loop-again Inv-loop μ-loop
 loop-again c =
     let a = c .before .before .before .before .before .before .before .args in
     let l = c .before .before .before .before .before .loop in
-    let rows = slots (a .image .now) (a .first) (a .count) in
+    let rows = slotsAt (a .image .now) (a .at) in
     let low : l .i < length rows = omega (arith, long (c .before .before)) in
     let m = mark c in
     let pass = tested (c .before .before) ∙ not-false (c .before .before .slot-passes .result) (c .before .if1 .left) in (
@@ -109,8 +103,8 @@ unfolding slotsRead
 returns-2 c =
     let a = c .before .before .before .args in
     let l = c .before .loop in
-    let rows = slots (a .image .now) (a .first) (a .count) in
-    let end : length rows ≤ l .i = omega (arith, length-counted (rowIn (a .image .now)) (a .first) (a .count)) in
+    let rows = slotsAt (a .image .now) (a .at) in
+    let end : length rows ≤ l .i = omega (arith, slots-length (a .image .now) (a .at)) in
     ap (λ (n : ℕ). eqb n (a .live)) (l .inv .3 ∙ ap (λ (rs : List Row). length (select isLive rs)) (take-all (l .i) rows end))
     ∙ ap (λ (b : Bool). b && eqb (length (select isLive rows)) (a .live)) (scan-ends fieldsPass rows (l .i) end (l .inv .2))
 
@@ -121,8 +115,7 @@ slots-read-spec =
     Inv-loop
     μ-loop
     loop-holds
-    add-row-in
-    row-in-requires
+    slot-in-requires
     (λ c κs. search needs)
     returns
     (λ c κs. search needs)

@@ -5,8 +5,8 @@ use borrow.Author.Tests.{not-true, not-false}
 use mathlib.Core.Path.{_≡_, sym}
 use lib.ListN.{length}
 use Rattle.metric_rules.specs.Distance.{distance, spaceOf}
-use Rattle.image_entries.specs.InImage.{slotIn}
-use Rattle.image_entries.proofs.Reading.{slot-width}
+use Rattle.image_read.specs.InImage.{slotIn}
+use Rattle.image_read.proofs.Places.{slot-width}
 use Rattle.image_layout.proofs.Faults.{fault-none}
 use Rattle.image_layout.proofs.Halves.{Prepared, fault-first, fault-in-left, fault-in-right, left-sound, left-lent-length, back-length, right-sound, right-lent-length, done-length}
 use Prim.Native.Nat.{ℕ, _≤_, _<_}

@@ -9,7 +9,7 @@ use lib.Dec.{eqb}
 use lib.ListN.{length, take, drop, getD}
 use Rattle.metric_rules.specs.Row.{thresholdOf}
 use Rattle.image_entries.specs.Entries.{places, entryPlace, lastOf}
-use Rattle.image_entries.specs.InImage.{slotIn}
+use Rattle.image_read.specs.InImage.{slotIn}
 use borrow.Author.Needs.{needs}
 use Rattle.image_layout.proofs.first_in_place.Statement.{statement}
 use Rattle.image_layout.proofs.first_in_place.Tie as tie

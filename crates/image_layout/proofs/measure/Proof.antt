@@ -13,7 +13,7 @@ use Rattle.tree_rules.proofs.Parts.{writtenTo, written-at, written-step, writte
 use Rattle.metric_rules.specs.declared.Profile.{Profile}
 use Rattle.search_rules.specs.Range.{Entry, entry}
 use Rattle.image_entries.specs.Entries.{places, entryPlace, IsEntry, measuredIn}
-use Rattle.image_entries.specs.InImage.{slotIn}
+use Rattle.image_read.specs.InImage.{slotIn}
 use Rattle.image_layout.proofs.measure.Statement.{statement}
 use Rattle.image_layout.proofs.measure.Tie as tie
 

@@ -5,7 +5,7 @@ use Rattle.lists.proofs.Lists.{all-map, all-always}
 use Rattle.metric_rules.specs.Distance.{distance, spaceOf}
 use Rattle.search_rules.specs.Range.{Entry, Pair, entry, ordered}
 use Rattle.image_entries.specs.Entries.{measuredIn}
-use Rattle.image_entries.specs.InImage.{slotIn}
+use Rattle.image_read.specs.InImage.{slotIn}
 use borrow.Author.Needs.{needs}
 use Rattle.image_layout.proofs.sort_from.Statement.{statement}
 use Rattle.image_layout.proofs.sort_from.Tie as tie

@@ -11,7 +11,7 @@ use Rattle.metric_rules.specs.Row.{Row}
 use Rattle.metric_rules.specs.Distance.{distance, spaceOf}
 use Rattle.search_rules.specs.Range.{Entry, ordered}
 use Rattle.image_entries.specs.Entries.{entryTag, Fresh, IsEntry, slotEntries, partFault}
-use Rattle.image_entries.specs.InImage.{slotIn, slotsAt}
+use Rattle.image_read.specs.InImage.{slotIn, slotsAt}
 use Rattle.image_entries.proofs.Filling.{entries-fresh, entries-are, entries-length, bucket-fails, bucket-determined, bucket-tested}
 use borrow.Author.Needs.{needs}
 use Rattle.image_layout.proofs.tree_valid.Statement.{statement}

@@ -1,100 +1,100 @@
 -- `image_load::load` meets its contract: nothing is written until every check has passed, and then the table is fresh with each bucket put.
-use Prim.Native.Nat.{ℕ, _≤_}
-use mathlib.Core.Path.{_≡_, sym, ap, ap₂, _∙_}
+use Prim.Native.Nat.{ℕ, _+_, _≤_, _<_}
+use mathlib.Core.Path.{_≡_, sym, ap, ap₂, _∙_, subst}
 use mathlib.Core.List.{foldl}
 use native.Mathlib.Omega.{arith}
 use borrow.Author.Needs.{needs}
+use borrow.Author.Tests.{leb-true, leb-false, not-true, not-false}
 use lib.ListN.{length}
+use Rattle.lists.specs.Lists.{total}
 use Rattle.metric_rules.specs.declared.Space.{Space}
 use Rattle.table_rules.specs.Geometry.{bucketsOf}
 use Rattle.table_rules.specs.Table.{Table, putBucket}
 use Rattle.table_rules.specs.Fresh.{freshTable, tableAfterFresh}
-use Rattle.table_rules.proofs.Buckets.{order-most}
-use Rattle.image_rules.specs.Bytes.{headerBytes, sizesEnd, imageLength}
+use Rattle.image_rules.specs.Bytes.{startFields, startBytes}
 use Rattle.image_rules.specs.Read.{orderIn, spaceIn, liveIn, bucketIn}
 use Rattle.image_rules.specs.Load.{loadRefusal}
 use Rattle.image_rules.proofs.Accepting.{Accepted, accepted}
-use Rattle.image_load.proofs.Steps.{slots-few, places}
-use Rattle.image_load.proofs.Loading.{fresh-accepted, fresh-lent, load-puts, load-stops}
+use Rattle.image_read.specs.InImage.{Whole}
+use Rattle.table_buckets.specs.OfOrder.{OfOrder}
+use Rattle.image_load.proofs.Steps.{load-short, load-later}
+use Rattle.image_load.proofs.Loading.{fresh-accepted, fresh-lent, load-puts, accepted-whole, load-stops}
 use Rattle.image_load.proofs.load.Statement.{statement}
 use Rattle.image_load.proofs.load.Tie as tie
 
+-- the first bytes, as they were tested
+short : (c : tie.Then1) → length (c .before .before .before .args .image .now) < startBytes
+unfolding startBytes startFields total
+short c =
+    let b = c .before .has-bytes in
+    omega (arith, leb-false (0 + 4) (length (c .before .before .before .args .image .now)) (sym (b .ensures) ∙ not-true (b .result) (c .if1 .taken)))
+
+enough : (c : tie.Else1) → startBytes ≤ length (c .before .before .before .args .image .now)
+unfolding startBytes startFields total
+enough c =
+    let b = c .before .has-bytes in
+    omega (arith, leb-true (0 + 4) (length (c .before .before .before .args .image .now)) (sym (b .ensures) ∙ not-false (b .result) (c .if1 .left)))
+
+-- the refusal of the whole call
+known : (c : tie.After-load-refusal) → c .load-refusal .result ≡ loadRefusal (length (c .before .before .before .before .before .args .table .now)) (c .before .before .before .before .before .args .image .now)
+known c = let a = c .before .before .before .before .before .args in c .load-refusal .ensures ∙ sym (load-later (length (a .table .now)) (a .image .now) (enough (c .before .before)))
+
 -- an accepted image
-goes : (c : tie.Else1) → loadRefusal (length (c .before .before .before .args .table .now)) (c .before .before .before .args .image .now) ≡ 0
-goes c = sym (c .before .load-refusal .ensures) ∙ c .if1 .left
+module _ (c : tie.Else2) where
+  goes : loadRefusal (length (c .before .before .before .before .before .before .args .table .now)) (c .before .before .before .before .before .before .args .image .now) ≡ 0
+  goes = sym (known (c .before)) ∙ c .if2 .left
 
-ok : (c : tie.Else1) → Accepted (length (c .before .before .before .args .table .now)) (c .before .before .before .args .image .now)
-ok c = accepted (length (c .before .before .before .args .table .now)) (c .before .before .before .args .image .now) (goes c)
+  ok : Accepted (length (c .before .before .before .before .before .before .args .table .now)) (c .before .before .before .before .before .before .args .image .now)
+  ok = accepted (length (c .before .before .before .before .before .before .args .table .now)) (c .before .before .before .before .before .before .args .image .now) goes
 
-header-inside : (c : tie.Else1) → headerBytes ≤ length (c .before .before .before .args .image .now)
-unfolding imageLength sizesEnd
-header-inside c = omega (arith, ok c .long)
+  whole : Whole (c .before .before .before .before .before .before .args .image .now) (c .before .before .header-in .result)
+  whole = accepted-whole (c .before .before .before .before .before .before .args .image .now) (c .before .before .before .before .before .before .args .table .now) ok (c .before .before .header-in .result) (c .before .before .header-in .ensures)
 
 returns : tie.Need-returns
 returns c =
     let a = c .before .before .before .args in
-    let r = c .before .load-refusal in
-    (r .ensures, load-stops (a .image .now) (a .table .now) (r .result) (r .ensures) (c .if1 .taken))
+    let e : 7 ≡ loadRefusal (length (a .table .now)) (a .image .now) = sym (load-short (length (a .table .now)) (a .image .now) (short c)) in
+    (e, load-stops (a .image .now) (a .table .now) 7 e (λ z. omega arith))
 
-order-in-requires : tie.Need-order-in-requires
-order-in-requires c κs = header-inside c
+header-in-requires : tie.Need-header-in-requires
+header-in-requires c κs = enough c
 
-space-in-requires : tie.Need-space-in-requires
-space-in-requires c κs = header-inside (c .before .before)
+load-refusal-requires : tie.Need-load-refusal-requires
+load-refusal-requires c κs = c .header-in .ensures
 
-slots-in-requires : tie.Need-slots-in-requires
-unfolding imageLength
-slots-in-requires c κs =
-    let image = c .before .before .before .before .before .before .before .before .before .before .args .image .now in
-    let o = ok (c .before .before .before .before .before .before .before) in
-    (order-most (orderIn image) (o .order), omega (arith, o .long))
+returns-2 : tie.Need-returns-2
+returns-2 c =
+    let a = c .before .before .before .before .before .before .args in
+    (known (c .before), load-stops (a .image .now) (a .table .now) (c .before .load-refusal .result) (known (c .before)) (c .if2 .taken))
 
--- the table once it is fresh, and the places in the image
-module _ (c : tie.After-slots-in) where
-  fresh-known : c .before .before .before .before .fresh .last .0 ≡ freshTable (orderIn (c .before .before .before .before .before .before .before .before .before .before .before .args .image .now)) (spaceIn (c .before .before .before .before .before .before .before .before .before .before .before .args .image .now)) (c .before .before .before .before .before .before .before .before .before .before .before .args .table .now)
-  fresh-known =
-      let a = c .before .before .before .before .before .before .before .before .before .before .before .args in
-      c .before .before .before .before .fresh .ensures .1
-      ∙ ap₂ (λ (o : ℕ) (s : Space). tableAfterFresh o s (a .table .now)) (c .before .before .before .before .before .before .before .order-in .ensures) (c .before .before .before .before .before .space-in .ensures)
-      ∙ fresh-accepted (a .image .now) (a .table .now) (ok (c .before .before .before .before .before .before .before .before))
+all-slots-requires : tie.Need-all-slots-requires
+all-slots-requires c κs = whole (c .before .before .before .before)
 
-  end-known : c .before .before .sizes-end .result ≡ sizesEnd (orderIn (c .before .before .before .before .before .before .before .before .before .before .before .args .image .now))
-  end-known = c .before .before .sizes-end .ensures ∙ ap sizesEnd (c .before .before .before .before .before .before .before .order-in .ensures)
-
-  few : c .slots-in .result ≤ 53248
-  few =
-      let image = c .before .before .before .before .before .before .before .before .before .before .before .args .image .now in
-      let o = ok (c .before .before .before .before .before .before .before .before) in
-      omega (arith, c .slots-in .ensures, slots-few image (order-most (orderIn image) (o .order)) (o .sizes))
-
-mul-put-buckets : tie.Need-mul-put-buckets
-mul-put-buckets c = omega (arith, few c)
-
-add-put-buckets : tie.Need-add-put-buckets
-unfolding imageLength
-add-put-buckets c = omega (arith, few c, end-known c, ok (c .before .before .before .before .before .before .before .before) .long)
+-- the table once it is fresh
+fresh-known : (c : tie.After-fresh)
+    → c .fresh .last .0 ≡ freshTable (orderIn (c .before .before .before .before .before .before .before .before .args .image .now)) (spaceIn (c .before .before .before .before .before .before .before .before .args .image .now)) (c .before .before .before .before .before .before .before .before .args .table .now)
+fresh-known c =
+    let a = c .before .before .before .before .before .before .before .before .args in
+    let h = c .before .before .before .before .header-in .ensures in
+    c .fresh .ensures .1
+    ∙ ap₂ (λ (o : ℕ) (s : Space). tableAfterFresh o s (a .table .now)) (h .order) (h .space)
+    ∙ fresh-accepted (a .image .now) (a .table .now) (ok (c .before .before))
 
 put-buckets-requires : tie.Need-put-buckets-requires
 put-buckets-requires c κs =
     let a = c .before .before .before .before .before .before .before .before .before .before .before .args in
     let image = a .image .now in
-    let o = ok (c .before .before .before .before .before .before .before .before) in
-    let order = c .before .before .before .before .before .before .before .order-in .ensures in (
-      rw (order, fresh-known c) (fresh-lent image (a .table .now) o),
-      order,
-      places image (c .before .before .sizes-end .result) (c .slots-in .result) (o .long) (end-known c) (c .slots-in .ensures),
-      rw order (o .sizes),
-    )
+    let e = c .before .before .before .before .before in
+    (subst (λ (t : Table). OfOrder t (orderIn image)) (sym (fresh-known (c .before .before .before))) (fresh-lent image (a .table .now) (ok e)), whole e, c .all-slots .ensures .0)
 
-returns-2 : tie.Need-returns-2
-returns-2 c =
+returns-3 : tie.Need-returns-3
+returns-3 c =
     let a = c .before .before .before .before .before .before .before .before .before .before .before .before .before .args in
     let image = a .image .now in
-    let at = c .before .before in (
-      sym (goes (c .before .before .before .before .before .before .before .before .before .before)),
-      load-puts image (a .table .now) (ok (c .before .before .before .before .before .before .before .before .before .before)) (goes (c .before .before .before .before .before .before .before .before .before .before)) _
-          (c .before .put-buckets .ensures
-          ∙ ap₂ (λ (u : Table) (n : ℕ). foldl (λ v k. putBucket k (bucketIn image k) (liveIn image k) v) u (bucketsOf n)) (fresh-known at) (c .before .before .before .before .before .before .before .before .before .order-in .ensures)),
+    let e = c .before .before .before .before .before .before .before in (
+      sym (goes e),
+      load-puts image (a .table .now) (ok e) (goes e) _
+          (c .before .put-buckets .ensures ∙ ap (λ (u : Table). foldl (λ v k. putBucket k (bucketIn image k) (liveIn image k) v) u (bucketsOf (orderIn image))) (fresh-known (c .before .before .before .before .before))),
     )
 
 pub load-spec : {M : Type 1} → statement M
@@ -103,12 +103,11 @@ load-spec =
     (tie.spec
     (λ c κs. search needs)
     returns
-    order-in-requires
-    space-in-requires
-    (λ c κs. search needs) (λ c κs. search needs)
-    slots-in-requires
-    mul-put-buckets
-    add-put-buckets
+    header-in-requires
+    load-refusal-requires
+    returns-2
+    (λ c κs. search needs)
+    all-slots-requires
     put-buckets-requires
     (λ c. search needs)
-    returns-2)
+    returns-3)

@@ -1,89 +1,76 @@
 -- `image_load::load_refusal` meets its contract: the first step that refuses counts.
-use Prim.Native.Nat.{ℕ, _≤_}
-use mathlib.Core.Path.{_≡_, sym, ap, _∙_}
-use native.Mathlib.Omega.{arith}
+use Prim.Native.Nat.{ℕ}
+use mathlib.Core.Path.{_≡_, sym, ap, ap₂, _∙_}
+use mathlib.Core.Bool.{Bool}
 use borrow.Author.Needs.{needs}
 use borrow.Author.Tests.{not-true, not-false}
-use Rattle.image_rules.specs.Bytes.{sizesEnd, imageLength}
-use Rattle.image_rules.specs.Read.{orderIn}
-use Rattle.image_rules.specs.Load.{slotsPass, loadRefusal}
-use Rattle.image_load.specs.Steps.{headerRefusal, sizesRefusal}
-use Rattle.image_load.proofs.Steps.{slots-few, andThen, stop-first, slotsBy, load-steps, header-passed, sizes-passed, places}
+use Rattle.metric_rules.specs.declared.Space.{Space}
+use Rattle.metric_rules.specs.Distance.{validMetric}
+use Rattle.table_rules.specs.Refusals.{orElse}
+use Rattle.table_rules.specs.Geometry.{validOrder}
+use Rattle.image_rules.specs.Bytes.{validForm}
+use Rattle.image_rules.specs.Read.{orderIn, spaceIn}
+use Rattle.image_rules.specs.Load.{slotsPass}
+use Rattle.image_read.specs.InImage.{Whole}
+use Rattle.image_load.specs.Steps.{headerBy, headerRefusal, sizesRefusal, slotsBy, laterRefusal}
+use Rattle.image_load.proofs.Steps.{stop-first, header-passed, steps-whole}
 use Rattle.image_load.proofs.load_refusal.Statement.{statement}
 use Rattle.image_load.proofs.load_refusal.Tie as tie
 
+-- the header as it was tested
+header-tested : (c : tie.After-header-refusal) → headerRefusal (c .before .before .args .image .now) ≡ c .header-refusal .result
+unfolding headerRefusal
+header-tested c =
+    let p = c .before .before .pre in
+    let image = c .before .before .args .image .now in
+    sym (c .header-refusal .ensures
+    ∙ ap₂ (λ (o : ℕ) (s : Space). headerBy (validOrder o) (validMetric s) (validForm (c .before .before .args .header .form .number))) (p .order) (p .space)
+    ∙ ap (λ (f : ℕ). headerBy (validOrder (orderIn image)) (validMetric (spaceIn image)) (validForm f)) (p .form))
+
 -- the steps that passed
 header-zero : (c : tie.Else1) → headerRefusal (c .before .before .before .args .image .now) ≡ 0
-header-zero c = sym (c .before .header-refusal .ensures) ∙ c .if1 .left
+header-zero c = header-tested (c .before) ∙ c .if1 .left
 
 sizes-zero : (c : tie.Else2) → sizesRefusal (c .before .before .before .before .before .args .rows) (c .before .before .before .before .before .args .image .now) ≡ 0
 sizes-zero c = sym (c .before .sizes-refusal .ensures) ∙ c .if2 .left
 
+whole : (c : tie.Else2) → Whole (c .before .before .before .before .before .args .image .now) (c .before .before .before .before .before .args .header)
+whole c = let s = c .before .before .before .before .before in steps-whole (s .args .rows) (s .args .image .now) (s .args .header) (s .pre) (header-zero (c .before .before)) (sizes-zero c)
+
 returns : tie.Need-returns
+unfolding laterRefusal
 returns c =
     let a = c .before .before .before .args in
-    let h = c .before .header-refusal in
-    let rest : ℕ = andThen (sizesRefusal (a .rows) (a .image .now)) (slotsBy (slotsPass (a .image .now))) in
-    sym (load-steps (a .rows) (a .image .now) ∙ ap (λ (n : ℕ). andThen n rest) (sym (h .ensures)) ∙ stop-first (h .result) rest (c .if1 .taken))
+    let rest : ℕ = orElse (sizesRefusal (a .rows) (a .image .now)) (slotsBy (slotsPass (a .image .now))) in
+    sym (ap (λ (n : ℕ). orElse n rest) (header-tested (c .before)) ∙ stop-first (c .before .header-refusal .result) rest (c .if1 .taken))
 
 sizes-refusal-requires : tie.Need-sizes-refusal-requires
-sizes-refusal-requires c κs = let p = header-passed (c .before .before .before .args .image .now) (header-zero c) in (p .1, p .0)
+sizes-refusal-requires c κs = let s = c .before .before .before in (s .pre, header-passed (s .args .image .now) (header-zero c))
 
 returns-2 : tie.Need-returns-2
-unfolding andThen
+unfolding laterRefusal
 returns-2 c =
     let a = c .before .before .before .before .before .args in
     let z = c .before .sizes-refusal in
-    sym (load-steps (a .rows) (a .image .now)
-    ∙ ap (λ (n : ℕ). andThen n (andThen (sizesRefusal (a .rows) (a .image .now)) (slotsBy (slotsPass (a .image .now))))) (header-zero (c .before .before))
-    ∙ ap (λ (n : ℕ). andThen n (slotsBy (slotsPass (a .image .now)))) (sym (z .ensures))
-    ∙ stop-first (z .result) (slotsBy (slotsPass (a .image .now))) (c .if2 .taken))
+    let last : ℕ = slotsBy (slotsPass (a .image .now)) in
+    sym (ap (λ (n : ℕ). orElse n (orElse (sizesRefusal (a .rows) (a .image .now)) last)) (header-zero (c .before .before))
+    ∙ ap (λ (n : ℕ). orElse n last) (sym (z .ensures))
+    ∙ stop-first (z .result) last (c .if2 .taken))
 
-order-in-requires : tie.Need-order-in-requires
-order-in-requires c κs = header-passed (c .before .before .before .before .before .args .image .now) (header-zero (c .before .before)) .0
-
-slots-in-requires : tie.Need-slots-in-requires
-unfolding imageLength
-slots-in-requires c κs =
-    let s = c .before .before .before .before .before .before .before in (
-      header-passed (s .args .image .now) (header-zero (c .before .before .before .before)) .1,
-      omega (arith, sizes-passed (s .args .rows) (s .args .image .now) (sizes-zero (c .before .before)) .1),
-    )
-
--- the places are inside the image, so that they fit
-place : (c : tie.After-slots-in) → (c .before .sizes-end .result ≡ sizesEnd (orderIn (c .before .before .before .before .before .before .before .before .args .image .now))) × (c .slots-in .result ≤ 53248)
-place c =
-    let s = c .before .before .before .before .before .before .before .before in
-    let image = s .args .image .now in (
-      c .before .sizes-end .ensures ∙ ap sizesEnd (c .before .before .order-in .ensures),
-      omega (arith, c .slots-in .ensures, slots-few image (header-passed image (header-zero (c .before .before .before .before .before)) .1) (sizes-passed (s .args .rows) image (sizes-zero (c .before .before .before)) .0)),
-    )
-
-mul-records : tie.Need-mul-records
-mul-records c = omega (arith, place c .1)
-
-add-records : tie.Need-add-records
-unfolding imageLength
-add-records c =
-    let s = c .before .before .before .before .before .before .before .before in
-    omega (arith, place c, sizes-passed (s .args .rows) (s .args .image .now) (sizes-zero (c .before .before .before)) .1)
+all-slots-requires : tie.Need-all-slots-requires
+all-slots-requires c κs = whole c
 
 slots-pass-requires : tie.Need-slots-pass-requires
-slots-pass-requires c κs =
-    let s = c .before .before .before .before .before .before .before .before in
-    let image = s .args .image .now in
-    let h = header-passed image (header-zero (c .before .before .before .before .before)) in
-    let z = sizes-passed (s .args .rows) image (sizes-zero (c .before .before .before)) in
-    (places image (c .before .sizes-end .result) (c .slots-in .result) (z .1) (place c .0) (c .slots-in .ensures), h .1, h .0, z .0)
+slots-pass-requires c κs = let all = c .all-slots .ensures in (whole (c .before), all .0, all .1, all .2)
 
 -- with header and sizes passed, the slots decide
-slots-decide : (c : tie.After-slots-pass) → loadRefusal (c .before .before .before .before .before .before .before .before .before .args .rows) (c .before .before .before .before .before .before .before .before .before .args .image .now) ≡ slotsBy (c .slots-pass .result)
-unfolding andThen
+slots-decide : (c : tie.After-slots-pass) → laterRefusal (c .before .before .before .before .before .before .before .args .rows) (c .before .before .before .before .before .before .before .args .image .now) ≡ slotsBy (c .slots-pass .result)
+unfolding laterRefusal
 slots-decide c =
-    let a = c .before .before .before .before .before .before .before .before .before .args in
-    load-steps (a .rows) (a .image .now)
-    ∙ ap (λ (n : ℕ). andThen n (andThen (sizesRefusal (a .rows) (a .image .now)) (slotsBy (slotsPass (a .image .now))))) (header-zero (c .before .before .before .before .before .before))
-    ∙ ap (λ (n : ℕ). andThen n (slotsBy (slotsPass (a .image .now)))) (sizes-zero (c .before .before .before .before))
+    let a = c .before .before .before .before .before .before .before .args in
+    let last : ℕ = slotsBy (slotsPass (a .image .now)) in
+    ap (λ (n : ℕ). orElse n (orElse (sizesRefusal (a .rows) (a .image .now)) last)) (header-zero (c .before .before .before .before))
+    ∙ ap (λ (n : ℕ). orElse n last) (sizes-zero (c .before .before))
     ∙ ap slotsBy (sym (c .slots-pass .ensures))
 
 returns-3 : tie.Need-returns-3
@@ -102,11 +89,7 @@ load-refusal-spec =
     returns
     sizes-refusal-requires
     returns-2
-    order-in-requires
-    (λ c κs. search needs)
-    slots-in-requires
-    mul-records
-    add-records
+    all-slots-requires
     slots-pass-requires
     returns-3
     returns-4)

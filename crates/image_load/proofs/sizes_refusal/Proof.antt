@@ -1,111 +1,125 @@
 -- `image_load::sizes_refusal` meets its contract: each test in its order.
-use Prim.Native.Nat.{ℕ, _+_, _*_, _≤_}
-use mathlib.Core.Path.{_≡_, refl, sym, ap, _∙_}
-use mathlib.Core.Bool.{true}
+use Prim.Native.Nat.{ℕ, _+_, _≤_}
+use mathlib.Core.Path.{_≡_, refl, sym, ap, ap₂, _∙_}
+use mathlib.Core.Bool.{Bool, true}
 use native.Mathlib.Omega.{arith}
 use borrow.Author.Needs.{needs}
-use borrow.Author.Tests.{leb-true, leb-false, le-leb, lt-leb, eq-eqb, ne-eqb, not-true, not-false}
+use borrow.Author.Tests.{leb-true, le-leb, lt-leb, eq-eqb, ne-eqb, not-true, not-false}
+use lib.Dec.{leb, eqb}
 use lib.ListN.{length}
-use Rattle.lists.specs.Lists.{total}
 use Rattle.table_rules.specs.Geometry.{tableRows}
 use Rattle.table_rules.specs.Checks.{sizesPass}
-use Rattle.image_rules.specs.Bytes.{tagFields, recordFields, tagBytes, recordBytes, sizesEnd, imageLength}
-use Rattle.image_rules.specs.Read.{orderIn, builtIn, liveIn, slotsIn}
+use Rattle.image_rules.specs.Bytes.{sizesEnd, imageLength}
+use Rattle.image_rules.specs.Read.{formIn, orderIn, builtIn, liveIn, slotsIn}
+use Rattle.image_form.specs.declared.Form.{Form}
+use Rattle.image_read.specs.InImage.{HasSizes}
+use Rattle.image_read.proofs.Places.{slots-few}
 use Rattle.image_load.specs.Steps.{sizesBy, sizesRefusal}
-use Rattle.image_load.proofs.Steps.{slots-few}
 use Rattle.image_load.proofs.sizes_refusal.Statement.{statement}
 use Rattle.image_load.proofs.sizes_refusal.Tie as tie
 
--- the tests as they were made
-end-known : (c : tie.After-sizes-end) → c .sizes-end .result ≡ sizesEnd (orderIn (c .before .before .before .args .image .now))
-end-known c = c .sizes-end .ensures ∙ ap sizesEnd (c .before .order-in .ensures)
+-- the pairs, as they were tested
+module _ (c : tie.After-has-bytes) where
+  end-known : c .before .sizes-end .result ≡ sizesEnd (formIn (c .before .before .before .before .before .args .image .now)) (orderIn (c .before .before .before .before .before .args .image .now))
+  end-known = let p = c .before .before .before .before .before .pre .0 in c .before .sizes-end .ensures ∙ ap₂ sizesEnd (p .form) (p .order)
 
-pairs-determined : (c : tie.Else1) → sizesEnd (orderIn (c .before .before .before .before .before .args .image .now)) ≤ length (c .before .before .before .before .before .args .image .now)
-pairs-determined c =
-    omega (arith, end-known (c .before .before), leb-true (0 + c .before .before .sizes-end .result) (length (c .before .before .before .before .before .args .image .now)) (sym (c .before .has-bytes .ensures) ∙ not-false (c .before .has-bytes .result) (c .if1 .left)))
+  pairs-tested : leb (sizesEnd (formIn (c .before .before .before .before .before .args .image .now)) (orderIn (c .before .before .before .before .before .args .image .now))) (length (c .before .before .before .before .before .args .image .now)) ≡ c .has-bytes .result
+  pairs-tested =
+      let image = c .before .before .before .before .before .args .image .now in
+      let z : 0 + c .before .sizes-end .result ≡ sizesEnd (formIn image) (orderIn image) = omega (arith, end-known) in
+      sym (c .has-bytes .ensures ∙ ap (λ (n : ℕ). leb n (length image)) z)
 
+pairs-known : (c : tie.Else1) → leb (sizesEnd (formIn (c .before .before .before .before .before .before .args .image .now)) (orderIn (c .before .before .before .before .before .before .args .image .now))) (length (c .before .before .before .before .before .before .args .image .now)) ≡ true
+pairs-known c = pairs-tested (c .before) ∙ not-false (c .before .has-bytes .result) (c .if1 .left)
+
+-- the image has them
+has-sizes : (c : tie.Else1) (n : ℕ) → n ≡ orderIn (c .before .before .before .before .before .before .args .image .now) → HasSizes (c .before .before .before .before .before .before .args .image .now) (c .before .before .before .before .before .before .args .header .form) n
+has-sizes c n e = let s = c .before .before .before .before .before .before in record { formed = s .pre .0 .form; long = rw e (leb-true _ _ (pairs-known c)) }
+
+-- the sizes
 sizes-tested : (c : tie.After-sizes-pass)
-    → sizesPass (orderIn (c .before .before .before .before .before .before .args .image .now)) (builtIn (c .before .before .before .before .before .before .args .image .now)) (liveIn (c .before .before .before .before .before .before .args .image .now)) ≡ c .sizes-pass .result
+    → sizesPass (orderIn (c .before .before .before .before .before .before .before .args .image .now)) (builtIn (c .before .before .before .before .before .before .before .args .image .now)) (liveIn (c .before .before .before .before .before .before .before .args .image .now)) ≡ c .sizes-pass .result
 sizes-tested c =
-    let image = c .before .before .before .before .before .before .args .image .now in
-    sym (c .sizes-pass .ensures ∙ ap (λ (t : ℕ). sizesPass t (builtIn image) (liveIn image)) (c .before .before .before .before .order-in .ensures))
+    let s = c .before .before .before .before .before .before .before in
+    let image = s .args .image .now in
+    sym (c .sizes-pass .ensures ∙ ap (λ (t : ℕ). sizesPass t (builtIn image) (liveIn image)) (s .pre .0 .order))
 
 sizes-known : (c : tie.Else2)
-    → sizesPass (orderIn (c .before .before .before .before .before .before .before .args .image .now)) (builtIn (c .before .before .before .before .before .before .before .args .image .now)) (liveIn (c .before .before .before .before .before .before .before .args .image .now)) ≡ true
+    → sizesPass (orderIn (c .before .before .before .before .before .before .before .before .args .image .now)) (builtIn (c .before .before .before .before .before .before .before .before .args .image .now)) (liveIn (c .before .before .before .before .before .before .before .before .args .image .now)) ≡ true
 sizes-known c = sizes-tested (c .before) ∙ not-false (c .before .sizes-pass .result) (c .if2 .left)
 
-length-known : (c : tie.After-slots-in)
-    → c .before .before .before .before .before .sizes-end .result + 48 * c .slots-in .result ≡ imageLength (orderIn (c .before .before .before .before .before .before .before .before .args .image .now)) (slotsIn (c .before .before .before .before .before .before .before .before .args .image .now))
-unfolding imageLength tagBytes recordBytes tagFields recordFields total
-length-known c = omega (arith, end-known (c .before .before .before .before .before), c .slots-in .ensures)
+-- the whole length
+length-known : (c : tie.After-image-length)
+    → c .image-length .result ≡ imageLength (formIn (c .before .before .before .before .before .before .before .before .before .before .args .image .now)) (orderIn (c .before .before .before .before .before .before .before .before .before .before .args .image .now)) (slotsIn (c .before .before .before .before .before .before .before .before .before .before .args .image .now))
+length-known c =
+    let p = c .before .before .before .before .before .before .before .before .before .before .pre .0 in
+    let slots = c .before .slots-in in
+    c .image-length .ensures ∙ ap₂ (λ (f o : ℕ). imageLength f o (slots .result)) (p .form) (p .order) ∙ ap (imageLength _ _) (slots .ensures)
 
-order-in-requires : tie.Need-order-in-requires
-order-in-requires c κs = c .before .pre .1
+-- the rows
+rows-known : (c : tie.After-table-rows) → c .table-rows .result ≡ tableRows (orderIn (c .before .before .before .before .before .before .before .before .before .before .before .before .args .image .now))
+rows-known c = c .table-rows .ensures ∙ ap tableRows (c .before .before .before .before .before .before .before .before .before .before .before .before .pre .0 .order)
 
 returns : tie.Need-returns
 unfolding sizesRefusal sizesBy
-returns c =
-    let image = c .before .before .before .before .before .args .image .now in
-    rw (lt-leb (sizesEnd (orderIn image)) (length image) (omega (arith, end-known (c .before .before), leb-false (0 + c .before .before .sizes-end .result) (length image) (sym (c .before .has-bytes .ensures) ∙ not-true (c .before .has-bytes .result) (c .if1 .taken))))) refl
+returns c = rw (pairs-tested (c .before) ∙ not-true (c .before .has-bytes .result) (c .if1 .taken)) refl
 
 sizes-pass-requires : tie.Need-sizes-pass-requires
-sizes-pass-requires c κs =
-    let s = c .before .before .before .before .before in
-    (omega (arith, s .pre .0, c .before .before .before .order-in .ensures), omega (arith, end-known (c .before .before), c .before .before .before .order-in .ensures, c .before .before .sizes-end .ensures, pairs-determined c))
+sizes-pass-requires c κs = let s = c .before .before .before .before .before .before in (omega (arith, s .pre .1, s .pre .0 .order), has-sizes c _ (s .pre .0 .order))
 
 returns-2 : tie.Need-returns-2
 unfolding sizesRefusal sizesBy
-returns-2 c =
-    let image = c .before .before .before .before .before .before .before .args .image .now in
-    rw (le-leb (sizesEnd (orderIn image)) (length image) (pairs-determined (c .before .before)), sizes-tested (c .before) ∙ not-true (c .before .sizes-pass .result) (c .if2 .taken)) refl
+returns-2 c = rw (pairs-known (c .before .before), sizes-tested (c .before) ∙ not-true (c .before .sizes-pass .result) (c .if2 .taken)) refl
 
 slots-in-requires : tie.Need-slots-in-requires
-slots-in-requires c κs = (c .before .before .before .before .before .before .before .pre .0, pairs-determined (c .before .before))
+slots-in-requires c κs = let s = c .before .before .before .before .before .before .before .before in (s .pre .0, s .pre .1, has-sizes (c .before .before) _ refl)
 
-mul-if3 : tie.Need-mul-if3
-mul-if3 c = omega (arith, c .slots-in .ensures, slots-few (c .before .before .before .before .before .before .before .before .args .image .now) (c .before .before .before .before .before .before .before .before .pre .0) (sizes-known (c .before)))
-
-add-if3 : tie.Need-add-if3
-add-if3 c =
-    omega (arith, c .slots-in .ensures, slots-few (c .before .before .before .before .before .before .before .before .args .image .now) (c .before .before .before .before .before .before .before .before .pre .0) (sizes-known (c .before)), end-known (c .before .before .before .before .before), pairs-determined (c .before .before .before))
+image-length-requires : tie.Need-image-length-requires
+image-length-requires c κs =
+    let s = c .before .before .before .before .before .before .before .before .before in omega (arith, c .slots-in .ensures, slots-few (s .args .image .now) (s .pre .1) (sizes-known (c .before)))
 
 returns-3 : tie.Need-returns-3
 unfolding sizesRefusal sizesBy
 returns-3 c =
-    let image = c .before .before .before .before .before .before .before .before .before .args .image .now in
+    let image = c .before .before .before .before .before .before .before .before .before .before .before .args .image .now in
     rw (
-      le-leb (sizesEnd (orderIn image)) (length image) (pairs-determined (c .before .before .before .before)),
-      sizes-known (c .before .before),
-      ne-eqb (length image) (imageLength (orderIn image) (slotsIn image)) (λ e. omega (arith, e, length-known (c .before), c .if3 .taken)),
+      pairs-known (c .before .before .before .before .before),
+      sizes-known (c .before .before .before),
+      ne-eqb (length image) (imageLength (formIn image) (orderIn image) (slotsIn image)) (λ e. omega (arith, e, length-known (c .before), c .if3 .taken)),
     )
     refl
 
 table-rows-requires : tie.Need-table-rows-requires
-table-rows-requires c κs = omega (arith, c .before .before .before .before .before .before .before .before .before .pre .0, c .before .before .before .before .before .before .before .order-in .ensures)
+table-rows-requires c κs = let s = c .before .before .before .before .before .before .before .before .before .before .before in omega (arith, s .pre .1, s .pre .0 .order)
+
+-- the length is right
+long-known : (c : tie.Else3)
+    → eqb (length (c .before .before .before .before .before .before .before .before .before .before .before .args .image .now)) (imageLength (formIn (c .before .before .before .before .before .before .before .before .before .before .before .args .image .now)) (orderIn (c .before .before .before .before .before .before .before .before .before .before .before .args .image .now)) (slotsIn (c .before .before .before .before .before .before .before .before .before .before .before .args .image .now))) ≡ true
+long-known c =
+    let image = c .before .before .before .before .before .before .before .before .before .before .before .args .image .now in
+    eq-eqb (length image) (imageLength (formIn image) (orderIn image) (slotsIn image)) (omega (arith, length-known (c .before), c .if3 .left))
 
 returns-4 : tie.Need-returns-4
 unfolding sizesRefusal sizesBy
 returns-4 c =
-    let image = c .before .before .before .before .before .before .before .before .before .before .before .args .image .now in
-    let rows : c .before .table-rows .result ≡ tableRows (orderIn image) = c .before .table-rows .ensures ∙ ap tableRows (c .before .before .before .before .before .before .before .before .before .order-in .ensures) in
+    let s = c .before .before .before .before .before .before .before .before .before .before .before .before .before in
     rw (
-      le-leb (sizesEnd (orderIn image)) (length image) (pairs-determined (c .before .before .before .before .before .before)),
-      sizes-known (c .before .before .before .before),
-      eq-eqb (length image) (imageLength (orderIn image) (slotsIn image)) (omega (arith, length-known (c .before .before .before), c .before .before .if3 .left)),
-      lt-leb (tableRows (orderIn image)) (c .before .before .before .before .before .before .before .before .before .before .before .args .rows) (omega (arith, rows, c .if4 .taken)),
+      pairs-known (c .before .before .before .before .before .before .before),
+      sizes-known (c .before .before .before .before .before),
+      long-known (c .before .before),
+      lt-leb (tableRows (orderIn (s .args .image .now))) (s .args .rows) (omega (arith, rows-known (c .before), c .if4 .taken)),
     )
     refl
 
 returns-5 : tie.Need-returns-5
 unfolding sizesRefusal sizesBy
 returns-5 c =
-    let image = c .before .before .before .before .before .before .before .before .before .before .before .args .image .now in
-    let rows : c .before .table-rows .result ≡ tableRows (orderIn image) = c .before .table-rows .ensures ∙ ap tableRows (c .before .before .before .before .before .before .before .before .before .order-in .ensures) in
+    let s = c .before .before .before .before .before .before .before .before .before .before .before .before .before in
     rw (
-      le-leb (sizesEnd (orderIn image)) (length image) (pairs-determined (c .before .before .before .before .before .before)),
-      sizes-known (c .before .before .before .before),
-      eq-eqb (length image) (imageLength (orderIn image) (slotsIn image)) (omega (arith, length-known (c .before .before .before), c .before .before .if3 .left)),
-      le-leb (tableRows (orderIn image)) (c .before .before .before .before .before .before .before .before .before .before .before .args .rows) (omega (arith, rows, c .if4 .left)),
+      pairs-known (c .before .before .before .before .before .before .before),
+      sizes-known (c .before .before .before .before .before),
+      long-known (c .before .before),
+      le-leb (tableRows (orderIn (s .args .image .now))) (s .args .rows) (omega (arith, rows-known (c .before), c .if4 .left)),
     )
     refl
 
@@ -113,14 +127,12 @@ pub sizes-refusal-spec : {M : Type 1} → statement M
 sizes-refusal-spec =
     tie.close
     (tie.spec
-    order-in-requires
     (λ c κs. search needs) (λ c κs. search needs)
     returns
     sizes-pass-requires
     returns-2
     slots-in-requires
-    mul-if3
-    add-if3
+    image-length-requires
     returns-3
     table-rows-requires
     returns-4

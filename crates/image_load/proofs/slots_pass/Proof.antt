@@ -29,19 +29,22 @@ returns c =
 
 trees-valid-requires : tie.Need-trees-valid-requires
 trees-valid-requires c κs =
-    let p = c .before .before .before .before .before .before .before .pre in
-    (p .0, p .1, p .3, read-tested (c .before .before .before .before .before) ∙ not-false (c .before .before .before .before .before .buckets-read .result) (c .before .before .before .before .if1 .left))
+    let p = c .before .before .before .before .before .pre in
+    let r = c .before .before .before in
+    (p .0, p .1, p .2, p .3, read-tested r ∙ not-false (r .buckets-read .result) (c .before .before .if1 .left))
 
 returns-2 : tie.Need-returns-2
 returns-2 c =
-    let image = c .before .before .before .before .before .before .before .before .args .image .now in
+    let s = c .before .before .before .before .before .before in
+    let image = s .args .image .now in
+    let r = c .before .before .before .before in
     let made = c .before .before .header-row in
     let space : spaceOf (made .result) ≡ spaceIn image =
-    ap spaceOf (made .ensures) ∙ header-space _ _ ∙ c .before .before .before .space-in .ensures in
+    ap spaceOf (made .ensures) ∙ header-space _ _ ∙ s .pre .0 .headed .space in
     c .trees-valid .ensures
     ∙ ap (λ (s : Space). treesValid s image) space
     ∙ sym (slots-pass-parts image
-    ∙ ap (λ (x : Bool). x && treesValid (spaceIn image) image) (read-tested (c .before .before .before .before .before .before) ∙ not-false (c .before .before .before .before .before .before .buckets-read .result) (c .before .before .before .before .before .if1 .left)))
+    ∙ ap (λ (x : Bool). x && treesValid (spaceIn image) image) (read-tested r ∙ not-false (r .buckets-read .result) (c .before .before .before .if1 .left)))
 
 pub slots-pass-spec : {M : Type 1} → statement M
 slots-pass-spec =
@@ -49,6 +52,6 @@ slots-pass-spec =
     (tie.spec
     (λ c κs. search needs)
     returns
-    (λ c κs. search needs) (λ c κs. search needs) (λ c κs. search needs)
+    (λ c κs. search needs)
     trees-valid-requires
     returns-2)

@@ -9,7 +9,7 @@ use lib.Seq.{sets, take-all}
 use Rattle.lists.specs.Lists.{total}
 use Rattle.metric_rules.specs.Row.{rowWidth}
 use Rattle.metric_rules.proofs.Values.{is-row}
-use Rattle.image_rules.specs.Bytes.{bytesOf, recordFields, tagFields, recordBytes, tagWords}
+use Rattle.image_rules.specs.Bytes.{writtenForm, bytesOf, recordFields, tagFields, recordBytes, tagWords}
 use Rattle.image_put.proofs.Stores.{word-bytes}
 use Rattle.image_put.proofs.put_record.Statement.{statement}
 use Rattle.image_put.proofs.put_record.Tie as tie
@@ -23,7 +23,7 @@ returns c =
     let long : length words ≡ 10 = omega (arith, length-drop 2 (a .row), is-row (a .row) _ (start .good .1 .1 .0) .width) in
     c .before .before .put-words .ensures
     ∙ ap (sets (a .image .now) (a .at))
-    (ap (λ (ws : List ℕ). flatten (map (bytesOf 4) ws)) (take-all 10 words (omega arith)) ∙ sym (word-bytes recordFields words long ((refl, (refl, (refl, (refl, (refl, (refl, (refl, (refl, (refl, (refl, tt)))))))))))))
+    (ap (λ (ws : List ℕ). flatten (map (bytesOf 4) ws)) (take-all 10 words (omega arith)) ∙ sym (word-bytes (recordFields writtenForm) words long ((refl, (refl, (refl, (refl, (refl, (refl, (refl, (refl, (refl, (refl, tt)))))))))))))
 
 pub put-record-spec : {M : Type 1} → statement M
 unfolding rowWidth recordBytes recordFields total

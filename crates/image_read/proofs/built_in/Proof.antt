@@ -1,20 +1,28 @@
 -- `image_read::built_in` meets its contract: the pair of bucket k stands after the header and k pairs.
-use mathlib.Core.Path.{ap}
+use Prim.Native.Nat.{ℕ, _+_, _*_}
+use mathlib.Core.Path.{_≡_, ap, _∙_}
 use native.Mathlib.Omega.{arith}
 use borrow.Author.Needs.{needs}
-use Rattle.lists.specs.Lists.{total}
-use Rattle.image_rules.specs.Bytes.{headerFields, headerBytes, sizeBytes, pairBytes, sizesEnd}
-use Rattle.image_rules.specs.Read.{builtIn}
+use Rattle.image_rules.specs.Bytes.{headerBytes, sizeBytes, pairBytes, sizesEnd}
+use Rattle.image_rules.specs.Read.{numberAt, formIn, builtIn}
 use Rattle.image_read.proofs.built_in.Statement.{statement}
 use Rattle.image_read.proofs.built_in.Tie as tie
 
+-- the place by the image's own form
+place : (c : tie.After-sizes-at) → c .sizes-at .result ≡ headerBytes (formIn (c .before .before .args .image .now)) + pairBytes * c .before .before .args .k
+place c =
+    let s = c .before .before in
+    c .sizes-at .ensures ∙ ap (λ (n : ℕ). headerBytes n + pairBytes * s .args .k) (s .pre .formed)
+
 two-from-requires : tie.Need-two-from-requires
-unfolding sizesEnd headerBytes headerFields total pairBytes sizeBytes
-two-from-requires c κs = (omega arith, omega arith, omega (arith, c .before .pre))
+unfolding sizesEnd pairBytes sizeBytes
+two-from-requires c κs = let p = c .before .before .pre in (omega arith, omega arith, omega (arith, place c, p .long))
 
 returns : tie.Need-returns
-unfolding builtIn headerBytes headerFields total pairBytes sizeBytes
-returns c = ap (λ two. two .first) (c .two-from .ensures)
+unfolding builtIn sizeBytes
+returns c =
+    let image = c .before .before .before .args .image .now in
+    ap (λ two. two .first) (c .two-from .ensures) ∙ ap (λ (at : ℕ). numberAt image 2 at) (place (c .before))
 
 pub built-in-spec : {M : Type 1} → statement M
-built-in-spec = tie.close (tie.spec (λ c. search needs) (λ c. search needs) two-from-requires returns)
+built-in-spec = tie.close (tie.spec (λ c κs. search needs) two-from-requires returns)

@@ -25,7 +25,7 @@ returns c =
     ∷ c .before .number3211 .ensures i
     ∷ c .number3212 .ensures i
     ∷ [])
-    ∙ sym (ap₂ _++_ (tag-fields (a .image .now) (a .t)) (record-fields (a .image .now) (a .r)))
+    ∙ sym (ap₂ _++_ (tag-fields (a .image .now) (a .t)) (record-fields (a .image .now) (a .form .number) (a .r)))
 
 pub row-at-spec : {M : Type 1} → statement M
 unfolding tagBytes recordBytes tagFields recordFields total

@@ -4,41 +4,39 @@ use Prim.Native.Nat.{suc, _+_, _-_, _*_, _≤_}
 use native.Mathlib.Numerals.{add-one}
 use native.Mathlib.Omega.{arith}
 use Rattle.lists.specs.Lists.{total, countFrom}
-use Rattle.image_rules.specs.Bytes.{headerFields, headerBytes, sizeBytes, pairBytes, sizesEnd}
 use Rattle.image_rules.specs.Read.{orderIn, builtIn, slotsBefore, slotsIn}
 use Rattle.lists.proofs.Totals.{total-more}
+use Rattle.image_read.proofs.Places.{sizes-below}
 use Rattle.image_read.proofs.slots_in.Statement.{statement}
 use Rattle.image_read.proofs.slots_in.Tie as tie
 
 abbrev Inv-loop : tie.InvT-loop
-Inv-loop image buckets slots₀ k₀ slots k = (k ≤ buckets) × (slots ≤ 4294967295 * k) × (slots ≡ slotsBefore image k)
+Inv-loop image form buckets slots₀ k₀ slots k = (k ≤ buckets) × (slots ≤ 4294967295 * k) × (slots ≡ slotsBefore image k)
 
 abbrev μ-loop : tie.MeasureT-loop
-μ-loop image buckets slots₀ k₀ slots k = buckets - k
-
-order-in-requires : tie.Need-order-in-requires Inv-loop μ-loop
-unfolding sizesEnd headerBytes headerFields total pairBytes sizeBytes
-order-in-requires c κs = omega (arith, c .before .pre)
+μ-loop image form buckets slots₀ k₀ slots k = buckets - k
 
 add-buckets : tie.Need-add-buckets Inv-loop μ-loop
-add-buckets c = omega (arith, c .order-in .ensures)
+add-buckets c = omega (arith, c .before .before .before .pre .0 .order, c .before .before .before .pre .1)
 
 loop-holds : tie.Need-loop-holds Inv-loop μ-loop
 unfolding slotsBefore total countFrom
 loop-holds c = (omega arith, omega arith, refl)
 
 built-in-requires : tie.Need-built-in-requires Inv-loop μ-loop
-unfolding sizesEnd pairBytes sizeBytes
-built-in-requires c κs = omega (arith, c .before .before .before .before .pre, c .before .before .order-in .ensures)
+built-in-requires c κs =
+    let p = c .before .before .before .before .before .pre in sizes-below (p .2) (c .before .loop .k) (omega (arith, p .0 .order))
 
 cast-slots : tie.Need-cast-slots Inv-loop μ-loop
 cast-slots c = omega arith
 
 add-slots : tie.Need-add-slots Inv-loop μ-loop
-add-slots c = omega (arith, c .before .before .before .before .before .pre, c .before .before .before .order-in .ensures)
+add-slots c =
+    let p = c .before .before .before .before .before .before .pre in omega (arith, p .0 .order, p .1)
 
 add-k : tie.Need-add-k Inv-loop μ-loop
-add-k c = omega arith
+add-k c =
+    let p = c .before .before .before .before .before .before .pre in omega (arith, p .0 .order, p .1)
 
 loop-less : tie.Need-loop-less Inv-loop μ-loop
 loop-less c = omega arith
@@ -47,7 +45,7 @@ loop-again : tie.Need-loop-again Inv-loop μ-loop
 unfolding slotsBefore
 loop-again c =
     let l = c .before .before .loop in
-    let image = c .before .before .before .before .before .args .image .now in (
+    let image = c .before .before .before .before .before .before .args .image .now in (
       omega arith,
       omega arith,
       rw (add-one (l .k)) (ap₂ _+_ (l .inv .2) (c .built-in .ensures) ∙ sym (total-more (builtIn image) (l .k))),
@@ -56,8 +54,9 @@ loop-again c =
 returns : tie.Need-returns Inv-loop μ-loop
 unfolding slotsIn
 returns c =
-    let image = c .before .before .before .before .args .image .now in
-    let done : c .before .loop .k ≡ suc (orderIn image) = omega (arith, c .before .before .order-in .ensures) in
+    let s = c .before .before .before .before .before in
+    let image = s .args .image .now in
+    let done : c .before .loop .k ≡ suc (orderIn image) = omega (arith, s .pre .0 .order) in
     c .before .loop .inv .2 ∙ ap (slotsBefore image) done
 
 pub slots-in-spec : {M : Type 1} → statement M
@@ -66,7 +65,6 @@ slots-in-spec =
     (tie.spec
     Inv-loop
     μ-loop
-    order-in-requires
     add-buckets
     loop-holds
     built-in-requires

@@ -2,123 +2,147 @@
 use borrow.Author.Needs.{needs}
 use borrow.Author.Tests.{not-true, not-false}
 use native.Mathlib.Omega.{arith}
-use native.Mathlib.Numerals.{add-one}
-use mathlib.Core.Path.{_≡_, refl, sym, _∙_, ap, ap₂}
+use mathlib.Core.Path.{_≡_, refl, sym, _∙_, ap, subst}
 use mathlib.Core.Bool.{Bool}
-use Prim.Native.Nat.{ℕ, _+_, _-_, _≤_}
-use lib.ListN.{length, drop}
+use mathlib.Core.List.{List}
+use Prim.Native.Nat.{ℕ, _+_, _-_, _≤_, _<_}
+use lib.ListN.{length, getD, drop}
 use lib.Seq.{length-take-le, length-front}
 use Rattle.lists.specs.Lists.{countFrom, total, every}
 use Rattle.lists.proofs.Tests.{scan-fails, scan-passes, scan-ends}
+use Rattle.metric_rules.specs.Row.{Row}
 use Rattle.metric_rules.specs.Distance.{spaceOf}
 use Rattle.table_rules.specs.Geometry.{bucketsOf}
-use Rattle.image_rules.specs.Read.{orderIn, slotsBefore, bucketIn}
+use Rattle.image_rules.specs.Read.{orderIn, builtIn, slotsBefore, slotsIn, bucketIn}
 use Rattle.image_entries.specs.Entries.{places}
 use Rattle.image_test.specs.Trees.{treeValid}
-use Rattle.image_test.proofs.Buckets.{header-fits, sizes-fit, before-next, bucket-within, buckets-length, buckets-more, bucket-asks, bucket-tests}
-use Rattle.image_read.proofs.Slots.{few-slots}
+use Rattle.image_test.proofs.Buckets.{buckets-length, buckets-more, bucket-asks, bucket-tests}
+use Rattle.image_test.proofs.Checked.{built-few}
+use Rattle.image_read.specs.declared.Slots.{Slots}
+use Rattle.image_read.specs.InImage.{InImage}
+use Rattle.image_read.proofs.Places.{whole-sizes, some-in, few-slots, bucket-inside, before-more}
 use Rattle.image_test.proofs.each_tree_valid.Statement.{statement}
 use Rattle.image_test.proofs.each_tree_valid.Tie as tie
 
+abbrev stands : List ℕ → Row → ℕ → Bool
+stands image row k = treeValid (spaceOf row) (bucketIn image k)
+
 abbrev Inv-loop : tie.InvT-loop
-Inv-loop image tags records header entries₀ buckets first₀ k₀ entries first k = (k ≤ buckets) × (buckets ≡ orderIn image + 1) × (length entries ≡ length entries₀) × (first ≡ slotsBefore image k) × (every (λ j. treeValid (spaceOf header) (bucketIn image j)) (drop k (bucketsOf (orderIn image))) ≡ every (λ j. treeValid (spaceOf header) (bucketIn image j)) (bucketsOf (orderIn image)))
+Inv-loop image all row entries₀ form buckets first₀ k₀ entries first k =
+    (k ≤ buckets) × (length entries ≡ length entries₀) × (first ≡ slotsBefore image k)
+    × (every (stands image row) (drop k (bucketsOf (orderIn image))) ≡ every (stands image row) (bucketsOf (orderIn image)))
 
 abbrev μ-loop : tie.MeasureT-loop
-μ-loop image tags records header entries₀ buckets first₀ k₀ entries first k = buckets - k
+μ-loop image all row entries₀ form buckets first₀ k₀ entries first k = buckets - k
 
-order-in-requires : tie.Need-order-in-requires Inv-loop μ-loop
-order-in-requires c κs = header-fits (c .before .pre .0)
+-- a bucket of the loop is one of the order, and its slots are few and among all
+module _ (s : tie.Start Inv-loop μ-loop) (k : ℕ) (h : k < s .args .header .order .t + 1) where
+  within : k ≤ orderIn (s .args .image .now)
+  within = omega (arith, s .pre .0 .headed .order)
+
+  few : builtIn (s .args .image .now) k ≤ places
+  few = built-few (s .args .image .now) (s .pre .0 .order) (s .pre .0 .sizes) k within
+
+  inside : slotsBefore (s .args .image .now) k + builtIn (s .args .image .now) k ≤ slotsIn (s .args .image .now)
+  inside = bucket-inside (s .args .image .now) k within
+
+-- the slots in hand are the bucket's
+module _ (c : tie.After-some-of Inv-loop μ-loop) where
+  here-first : c .some-of .result .first ≡ slotsBefore (c .before .before .before .before .before .before .before .args .image .now) (c .before .before .before .loop .k)
+  here-first = ap (λ (at : Slots). at .first) (c .some-of .ensures) ∙ c .before .before .before .loop .inv .2
+
+  here-count : c .some-of .result .count ≡ builtIn (c .before .before .before .before .before .before .before .args .image .now) (c .before .before .before .loop .k)
+  here-count = ap (λ (at : Slots). at .count) (c .some-of .ensures) ∙ c .before .built-in .ensures
+
+  room : c .before .built-in .result ≤ length (c .before .before .before .loop .entries)
+  room =
+      let s = c .before .before .before .before .before .before .before in
+      let l = c .before .before .before .loop in
+      omega (arith, l .inv .1, s .pre .2, c .before .built-in .ensures, few s (l .k) (omega arith))
 
 add-buckets : tie.Need-add-buckets Inv-loop μ-loop
-add-buckets c = omega (arith, c .order-in .ensures, c .before .before .pre .1)
+add-buckets c = let w = c .before .before .before .pre .0 in omega (arith, w .headed .order, w .order)
 
 loop-holds : tie.Need-loop-holds Inv-loop μ-loop
 unfolding slotsBefore countFrom total
-loop-holds c = (omega arith, ap (λ (n : ℕ). n + 1) (c .order-in .ensures), refl, refl, refl)
+loop-holds c = (omega arith, refl, refl, refl)
 
 built-in-requires : tie.Need-built-in-requires Inv-loop μ-loop
-built-in-requires c κs =
-    let s = c .before .before .before .before in
-    let l = c .before .loop in
-    sizes-fit (s .pre .0) (l .k) (omega (arith, l .inv .1))
+built-in-requires c κs = let s = c .before .before .before .before .before in whole-sizes (s .pre .0) (c .before .loop .k) (within s (c .before .loop .k) (omega arith))
 
 slice-relend-prefix-tree-valid : tie.Need-slice-relend-prefix-tree-valid Inv-loop μ-loop
-slice-relend-prefix-tree-valid c =
-    let s = c .before .before .before .before .before in
-    let l = c .before .before .loop in
-    omega (arith, l .inv .2, s .pre .2, c .built-in .ensures, s .pre .3 (l .k) (omega (arith, l .inv .1)))
+slice-relend-prefix-tree-valid c = room c
 
 slice-aggregate-tree-valid : tie.Need-slice-aggregate-tree-valid Inv-loop μ-loop
-slice-aggregate-tree-valid c =
-    let s = c .before .before .before .before .before .before in
-    let l = c .before .before .before .loop in
-    let b = c .before .built-in in
-    sym (length-take-le _ _ (omega (arith, l .inv .2, s .pre .2, b .ensures, s .pre .3 (l .k) (omega (arith, l .inv .1)))))
+slice-aggregate-tree-valid c = sym (length-take-le _ _ (room (c .before)))
 
 tree-valid-requires : tie.Need-tree-valid-requires Inv-loop μ-loop
 tree-valid-requires c κs =
-    let s = c .before .before .before .before .before .before in
-    let l = c .before .before .before .loop in
-    let b = c .before .built-in in
-    let few : b .result ≤ places = omega (arith, b .ensures, s .pre .3 (l .k) (omega (arith, l .inv .1))) in
-    bucket-asks (s .args .image .now) (s .args .tags) (s .args .records) (l .first) (b .result) (l .k) (s .pre .0) (omega (arith, l .inv .1)) (l .inv .3) (b .ensures) few
-    (l .entries) (omega (arith, l .inv .2, s .pre .2)) (s .pre .4)
+    let s = c .before .before .before .before .before .before .before .before in
+    let l = c .before .before .before .before .loop in
+    let image = s .args .image .now in
+    let some = c .before .some-of in
+    let built = c .before .before .built-in in
+    let in-image : InImage image (some .result) =
+    subst (InImage image) (sym (some .ensures)) (some-in (s .pre .1) (l .first) (built .result) (omega (arith, inside s (l .k) (omega arith), l .inv .2, built .ensures))) in
+    bucket-asks image (some .result) (l .k) (within s (l .k) (omega arith)) (here-first (c .before)) (here-count (c .before)) in-image
+    (omega (arith, here-count (c .before), few s (l .k) (omega arith))) (l .entries) (built .result) (built .ensures ∙ sym (here-count (c .before))) (room (c .before)) (s .pre .3)
+
+-- the bucket's test as it was made
+tested : (c : tie.After-tree-valid Inv-loop μ-loop) → stands (c .before .before .before .before .before .before .before .before .before .args .image .now) (c .before .before .before .before .before .before .before .before .before .args .row .now) (getD (bucketsOf (orderIn (c .before .before .before .before .before .before .before .before .before .args .image .now))) (c .before .before .before .before .before .loop .k) 0) ≡ c .tree-valid .result
+tested c =
+    let s = c .before .before .before .before .before .before .before .before .before in
+    let l = c .before .before .before .before .before .loop in
+    let d = c .before .before in
+    bucket-tests (s .args .image .now) (d .some-of .result) (l .k) (within s (l .k) (omega arith)) (here-first d) (here-count d) (spaceOf (s .args .row .now)) (c .tree-valid .result) (c .tree-valid .ensures)
 
 same-length : tie.Need-same-length Inv-loop μ-loop
 same-length c =
-    let s = c .before .before .before .before .before .before .before .before .before in
-    let l = c .before .before .before .before .before .before .loop in
+    let l = c .before .before .before .before .before .before .before .loop in
     let d = c .before .before .tree-valid in
-    length-front (l .entries) (d .last .1 .1 .1 .0) (c .before .before .before .before .built-in .result) (d .kept .1 .1 .1 .0) ∙ l .inv .2
+    length-front (l .entries) (d .last .1 .1 .1 .0) (c .before .before .before .before .before .built-in .result) (d .kept .1 .1 .1 .0) ∙ l .inv .1
 
 returns : tie.Need-returns Inv-loop μ-loop
 returns c =
-    let s = c .before .before .before .before .before .before .before .before .before in
-    let l = c .before .before .before .before .before .before .loop in
-    let b = c .before .before .before .before .built-in in
-    let d = c .before .before .tree-valid in
-    let test : ℕ → Bool = λ (j : ℕ). treeValid (spaceOf (s .args .header .now)) (bucketIn (s .args .image .now) j) in
-    let n : l .k ≤ orderIn (s .args .image .now) = omega (arith, l .inv .1) in
-    scan-fails test 0 (bucketsOf (orderIn (s .args .image .now))) (l .k) (buckets-more (orderIn (s .args .image .now)) (l .k) n) (l .inv .4)
-    (bucket-tests (s .args .image .now) (s .args .tags) (s .args .records) (l .first) (b .result) (l .k) (spaceOf (s .args .header .now)) n (l .inv .3) (b .ensures) (d .result) (d .ensures)
-    ∙ not-true (d .result) (c .if1 .taken))
+    let s = c .before .before .before .before .before .before .before .before .before .before .before in
+    let l = c .before .before .before .before .before .before .before .loop in
+    let d = c .before .before in
+    scan-fails (stands (s .args .image .now) (s .args .row .now)) 0 (bucketsOf (orderIn (s .args .image .now))) (l .k) (buckets-more (orderIn (s .args .image .now)) (l .k) (within s (l .k) (omega arith))) (l .inv .3)
+    (tested d ∙ not-true (d .tree-valid .result) (c .if1 .taken))
 
 add-first : tie.Need-add-first Inv-loop μ-loop
 add-first c =
-    let s = c .before .before .before .before .before .before .before .before .before in
-    let l = c .before .before .before .before .before .before .loop in
-    let b = c .before .before .before .before .built-in in
-    omega (arith, l .inv .3, b .ensures, bucket-within (s .args .image .now) (l .k) (omega (arith, l .inv .1)), few-slots (s .pre .0))
+    let s = c .before .before .before .before .before .before .before .before .before .before .before in
+    let l = c .before .before .before .before .before .before .before .loop in
+    omega (arith, l .inv .2, c .before .before .before .before .before .built-in .ensures, inside s (l .k) (omega arith), few-slots (s .pre .1))
 
 add-k : tie.Need-add-k Inv-loop μ-loop
-add-k c = omega (arith, c .before .before .before .before .before .before .loop .inv .1, c .before .before .before .before .before .before .before .before .before .pre .1)
+add-k c = let w = c .before .before .before .before .before .before .before .before .before .before .before .pre .0 in omega (arith, w .headed .order, w .order)
 
 loop-again : tie.Need-loop-again Inv-loop μ-loop
 loop-again c =
-    let s = c .before .before .before .before .before .before .before .before .before in
-    let l = c .before .before .before .before .before .before .loop in
-    let b = c .before .before .before .before .built-in in
-    let d = c .before .before .tree-valid in
-    let test : ℕ → Bool = λ (j : ℕ). treeValid (spaceOf (s .args .header .now)) (bucketIn (s .args .image .now) j) in
-    let n : l .k ≤ orderIn (s .args .image .now) = omega (arith, l .inv .1) in (
+    let s = c .before .before .before .before .before .before .before .before .before .before .before in
+    let l = c .before .before .before .before .before .before .before .loop in
+    let b = c .before .before .before .before .before .built-in in
+    let d = c .before .before in
+    let t = d .tree-valid in
+    let image = s .args .image .now in (
       omega arith,
-      l .inv .1,
-      length-front (l .entries) (d .last .1 .1 .1 .0) (b .result) (d .kept .1 .1 .1 .0) ∙ l .inv .2,
-      ap₂ _+_ (l .inv .3) (b .ensures) ∙ sym (before-next (s .args .image .now) (l .k)) ∙ ap (slotsBefore (s .args .image .now)) (sym (add-one (l .k))),
-      scan-passes test 0 (bucketsOf (orderIn (s .args .image .now))) (l .k) (buckets-more (orderIn (s .args .image .now)) (l .k) n) (l .inv .4)
-          (bucket-tests (s .args .image .now) (s .args .tags) (s .args .records) (l .first) (b .result) (l .k) (spaceOf (s .args .header .now)) n (l .inv .3) (b .ensures) (d .result) (d .ensures)
-          ∙ not-false (d .result) (c .if1 .left)),
+      length-front (l .entries) (t .last .1 .1 .1 .0) (b .result) (t .kept .1 .1 .1 .0) ∙ l .inv .1,
+      omega (arith, before-more image (l .k), l .inv .2, b .ensures),
+      scan-passes (stands image (s .args .row .now)) 0 (bucketsOf (orderIn image)) (l .k) (buckets-more (orderIn image) (l .k) (within s (l .k) (omega arith))) (l .inv .3)
+          (tested d ∙ not-false (t .result) (c .if1 .left)),
     )
 
 same-length-2 : tie.Need-same-length-2 Inv-loop μ-loop
-same-length-2 c = c .before .loop .inv .2
+same-length-2 c = c .before .loop .inv .1
 
 returns-2 : tie.Need-returns-2 Inv-loop μ-loop
 returns-2 c =
-    let s = c .before .before .before .before in
+    let s = c .before .before .before .before .before in
+    let image = s .args .image .now in
     let l = c .before .loop in
-    let test : ℕ → Bool = λ (j : ℕ). treeValid (spaceOf (s .args .header .now)) (bucketIn (s .args .image .now) j) in
-    scan-ends test (bucketsOf (orderIn (s .args .image .now))) (l .k) (omega (arith, buckets-length (orderIn (s .args .image .now)), l .inv .1)) (l .inv .4)
+    scan-ends (stands image (s .args .row .now)) (bucketsOf (orderIn image)) (l .k) (omega (arith, buckets-length (orderIn image), s .pre .0 .headed .order)) (l .inv .3)
 
 pub each-tree-valid-spec : {M : Type 1} → statement M
 each-tree-valid-spec =
@@ -126,11 +150,11 @@ each-tree-valid-spec =
     (tie.spec
     Inv-loop
     μ-loop
-    order-in-requires
     add-buckets
     loop-holds
     built-in-requires
     (λ c. search needs)
+    (λ c κs. search needs)
     slice-relend-prefix-tree-valid
     slice-aggregate-tree-valid
     tree-valid-requires

@@ -10,7 +10,7 @@ use lib.ListN.{length, length-set}
 use Rattle.metric_rules.specs.Row.{Row, tagOf, isLive}
 use Rattle.search_rules.specs.Range.{Entry}
 use Rattle.image_entries.specs.Entries.{places, tagEntry}
-use Rattle.image_entries.specs.InImage.{slotIn}
+use Rattle.image_read.specs.InImage.{slotIn}
 use Rattle.image_test.specs.Trees.{liveEntry}
 use Rattle.image_test.proofs.Living.{Entered, entered-none, entered-live, entered-dead, live-room, lived-all}
 use Rattle.image_test.proofs.enter_live.Statement.{statement}

@@ -7,7 +7,7 @@ use Rattle.lists.specs.Lists.{select, distinct, All}
 use Rattle.metric_rules.specs.Row.{isLive}
 use Rattle.search_rules.specs.Range.{Entry}
 use Rattle.image_entries.specs.Entries.{entryTag, Fresh}
-use Rattle.image_entries.specs.InImage.{slotsAt}
+use Rattle.image_read.specs.InImage.{slotsAt}
 use Rattle.image_test.proofs.Living.{live-fresh, live-tags}
 use borrow.Author.Needs.{needs}
 use Rattle.image_test.proofs.live_apart.Statement.{statement}

@@ -1,4 +1,4 @@
--- `image_write::put_header` meets its contract: the order's byte, the metric's, and a number of two zero bytes.
+-- `image_write::put_header` meets its contract: the order's byte, the metric's, and the two of the form.
 use mathlib.Core.Path.{_∙_}
 use native.Mathlib.Omega.{arith}
 use borrow.Author.Needs.{needs}
@@ -6,28 +6,28 @@ use lib.ListN.{length-set}
 use Rattle.lists.specs.Lists.{total}
 use Rattle.metric_rules.specs.Row.{word}
 use Rattle.metric_rules.specs.Distance.{spaceOf, metricAt}
-use Rattle.image_rules.specs.Bytes.{bytesOf, headerFields, bytesOfFields, headerBytes}
+use Rattle.image_rules.specs.Bytes.{writtenForm, bytesOf, startFields, headerFields, bytesOfFields, headerBytes}
 use Rattle.image_rules.specs.Write.{headerBytesOf}
 use Rattle.image_write.proofs.put_header.Statement.{statement}
 use Rattle.image_write.proofs.put_header.Tie as tie
 
 first : tie.Need-slice-write-image
-unfolding headerBytes headerFields total
+unfolding headerBytes headerFields startFields total
 first c = omega (arith, c .before .pre)
 
 second : tie.Need-slice-write-image-2
-unfolding headerBytes headerFields total
+unfolding headerBytes headerFields startFields total
 second c = simp length-set (omega (arith, c .before .pre))
 
 put16-requires : tie.Need-put16-requires
-unfolding headerBytes headerFields total
+unfolding headerBytes headerFields startFields total
 put16-requires c κs = simp length-set (omega (arith, c .before .before .pre))
 
 same-length : tie.Need-same-length
 same-length c = c .before .before .put16 .kept .0 ∙ simp length-set
 
 returns : tie.Need-returns
-unfolding headerBytesOf headerFields bytesOfFields bytesOf word spaceOf metricAt
+unfolding headerBytesOf headerFields startFields writtenForm bytesOfFields bytesOf word spaceOf metricAt
 returns c = c .before .before .put16 .ensures
 
 pub put-header-spec : {M : Type 1} → statement M

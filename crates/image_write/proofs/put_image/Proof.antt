@@ -1,6 +1,6 @@
 -- `image_write::put_image` meets its contract: each part begins where the one before it ends.
 use Prim.Native.Nat.{ℕ, _+_, _*_, _≤_}
-use mathlib.Core.Path.{_≡_, refl, ap, ap₂, _∙_}
+use mathlib.Core.Path.{_≡_, refl, sym, ap, ap₂, _∙_}
 use mathlib.Core.List.{List}
 use native.Mathlib.Omega.{arith}
 use borrow.Author.Needs.{needs}
@@ -9,11 +9,11 @@ use lib.Seq.{sets}
 use Rattle.lists.specs.Lists.{total}
 use Rattle.table_rules.specs.Geometry.{headerRow}
 use Rattle.table_rules.specs.Table.{rowAt, orderOf, tableSpace, builtOf, liveOf}
-use Rattle.image_rules.specs.Bytes.{headerFields, headerBytes, pairBytes, sizeBytes, sizesEnd}
+use Rattle.image_rules.specs.Bytes.{writtenForm, tagFields, headerBytes, tagBytes, sizesEnd}
 use Rattle.image_rules.specs.Write.{sizesOf, tagsOf, recordsOf, allSlots}
 use Rattle.image_put.proofs.Stores.{length-tags}
 use Rattle.image_write.proofs.Runs.{sizes-in}
-use Rattle.image_write.proofs.Counts.{headerPart, sizesPart, length-parts, parts-put}
+use Rattle.image_write.proofs.Counts.{slots-most, headerPart, sizesPart, length-parts, parts-put}
 use Rattle.image_write.proofs.put_image.Statement.{statement}
 use Rattle.image_write.proofs.put_image.Tie as tie
 
@@ -23,7 +23,7 @@ some-row c =
     omega (arith, sizes-in {k = 0} (p .0) (p .1) (omega arith))
 
 put-header-requires : tie.Need-put-header-requires
-unfolding sizesEnd headerBytes headerFields total pairBytes sizeBytes
+unfolding sizesEnd
 put-header-requires c κs =
     let start = c .before .before .before in
     omega (arith, start .pre .2, length-parts (start .args .table .now))
@@ -32,46 +32,46 @@ put-sizes-requires : tie.Need-put-sizes-requires
 put-sizes-requires c κs =
     let start = c .before .before .before .before .before .before .before in
     let t = start .args .table .now in
-    let same : sizesEnd (start .args .order .t) ≡ sizesEnd (orderOf t) = ap sizesEnd (start .pre .0) in
+    let same : sizesEnd writtenForm (start .args .order .t) ≡ sizesEnd writtenForm (orderOf t) = ap (sizesEnd writtenForm) (start .pre .0) in
     (start .pre .0, start .pre .1, omega (arith, start .pre .2, length-parts t, c .before .before .before .put-header .kept .0))
 
--- where the records begin
-records-at : (c : tie.After-slots-in-all)
-    → c .before .sizes-end .result + 8 * c .slots-in-all .result ≡ sizesEnd (orderOf (c .before .before .before .before .before .before .before .before .before .before .before .before .args .table .now)) + length (tagsOf (allSlots (c .before .before .before .before .before .before .before .before .before .before .before .before .args .table .now)))
-records-at c =
-    let start = c .before .before .before .before .before .before .before .before .before .before .before .before in
-    let t = start .args .table .now in
-    let same : sizesEnd (start .args .order .t) ≡ sizesEnd (orderOf t) = ap sizesEnd (start .pre .0) in
-    omega (arith, c .before .sizes-end .ensures, c .slots-in-all .ensures, length-tags (allSlots t))
+-- the slots are few
+slots-in-all-few : (c : tie.After-slots-in-all) → c .slots-in-all .result ≤ 53248
+slots-in-all-few c = omega (arith, c .slots-in-all .ensures, slots-most (c .before .before .before .before .before .before .before .before .before .before .before .before .pre .1))
 
-room : (c : tie.After-slots-in-all) → c .before .sizes-end .result + 8 * c .slots-in-all .result ≤ length (c .before .before .before .before .before .before .before .before .before .before .before .before .args .image .now)
-room c = let start = c .before .before .before .before .before .before .before .before .before .before .before .before in omega (arith, records-at c, start .pre .2, length-parts (start .args .table .now))
+-- where the tags begin, and where the records do
+module _ (c : tie.After-tags-end) where
+  tags-at : c .before .sizes-end .result ≡ sizesEnd writtenForm (orderOf (c .before .before .before .before .before .before .before .before .before .before .before .before .before .before .before .args .table .now))
+  tags-at = c .before .sizes-end .ensures ∙ ap₂ sizesEnd (c .before .before .before .before .written .ensures) (c .before .before .before .before .before .before .before .before .before .before .before .before .before .before .before .pre .0)
+
+  records-at : c .tags-end .result ≡ sizesEnd writtenForm (orderOf (c .before .before .before .before .before .before .before .before .before .before .before .before .before .before .before .args .table .now)) + length (tagsOf (allSlots (c .before .before .before .before .before .before .before .before .before .before .before .before .before .before .before .args .table .now)))
+  unfolding tagBytes tagFields total
+  records-at =
+      c .tags-end .ensures
+      ∙ ap₂ _+_ (ap₂ sizesEnd (c .before .before .before .before .written .ensures) (c .before .before .before .before .before .before .before .before .before .before .before .before .before .before .before .pre .0))
+      (ap (λ (n : ℕ). 8 * n) (c .before .before .before .slots-in-all .ensures) ∙ sym (length-tags (allSlots (c .before .before .before .before .before .before .before .before .before .before .before .before .before .before .before .args .table .now))))
 
 put-all-slots-requires : tie.Need-put-all-slots-requires
 put-all-slots-requires c κs =
-    let start = c .before .before .before .before .before .before .before .before .before .before .before .before .before in
-    let t = start .args .table .now in
-    let same : sizesEnd (start .args .order .t) ≡ sizesEnd (orderOf t) = ap sizesEnd (start .pre .0) in (
-      start .pre .0,
-      start .pre .1,
-      omega (arith, records-at (c .before), c .before .before .sizes-end .ensures),
-      omega (arith, records-at (c .before), start .pre .2, length-parts t, c .before .before .before .before .before .put-sizes .kept .0, c .before .before .before .before .before .before .before .before .before .put-header .kept .0),
+    let s = c .before .before .before .before .before .before .before .before .before .before .before .before .before .before .before in (
+      s .pre .0,
+      s .pre .1,
+      omega (arith, tags-at c, records-at c),
+      omega (arith, records-at c, s .pre .2, length-parts (s .args .table .now), c .before .before .before .before .before .before .before .put-sizes .kept .0, c .before .before .before .before .before .before .before .before .before .before .before .put-header .kept .0),
     )
 
 returns : tie.Need-returns
 unfolding headerPart sizesPart orderOf tableSpace rowAt headerRow
 returns c =
-    let start = c .before .before .before .before .before .before .before .before .before .before .before .before .before .before .before .before in
-    let a = start .args in
+    let s = c .before .before .before .before .before .before .before .before .before .before .before .before .before .before .before .before .before .before in
+    let a = s .args in
     let t = a .table .now in
-    let end = c .before .before .before .before .before .sizes-end in
-    let records = end .result + 8 * c .before .before .before .before .slots-in-all .result in
-    let place : end .result ≡ sizesEnd (orderOf t) = end .ensures ∙ ap sizesEnd (start .pre .0) in
+    let d = c .before .before .before in
     c .before .before .put-all-slots .ensures
-    ∙ ap (λ (l : List ℕ). sets (sets l (end .result) (tagsOf (allSlots t))) records (recordsOf (allSlots t)))
-    (c .before .before .before .before .before .before .before .before .put-sizes .ensures
-    ∙ ap₂ (λ (l : List ℕ) (order : ℕ). sets l headerBytes (sizesOf order (builtOf t) (liveOf t))) (c .before .before .before .before .before .before .before .before .before .before .before .before .put-header .ensures) (start .pre .0))
-    ∙ parts-put t (a .image .now) headerBytes (end .result) records refl place (records-at (c .before .before .before .before))
+    ∙ ap (λ (l : List ℕ). sets (sets l (d .before .sizes-end .result) (tagsOf (allSlots t))) (d .tags-end .result) (recordsOf writtenForm (allSlots t)))
+    (c .before .before .before .before .before .before .before .before .before .before .put-sizes .ensures
+    ∙ ap₂ (λ (l : List ℕ) (order : ℕ). sets l (headerBytes writtenForm) (sizesOf order (builtOf t) (liveOf t))) (c .before .before .before .before .before .before .before .before .before .before .before .before .before .before .put-header .ensures) (s .pre .0))
+    ∙ parts-put t (a .image .now) (headerBytes writtenForm) (d .before .sizes-end .result) (d .tags-end .result) refl (tags-at d) (records-at d)
 
 pub put-image-spec : {M : Type 1} → statement M
 put-image-spec =
@@ -82,8 +82,8 @@ put-image-spec =
     put-sizes-requires
     (λ c κs. search needs)
     (λ c κs. let p = c .before .before .before .before .before .before .before .before .before .before .before .pre in (p .0, p .1))
-    (λ c. omega (arith, room c))
-    (λ c. omega (arith, room c))
+    (λ c κs. search needs)
+    (λ c κs. omega (arith, slots-in-all-few (c .before .before)))
     put-all-slots-requires
     (λ c. search needs)
     returns)
