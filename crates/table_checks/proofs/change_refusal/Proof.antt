@@ -6,7 +6,7 @@ use mathlib.Core.Path.{_≡_, sym, _∙_, ap}
 use mathlib.Core.Bool.{true, false}
 use lib.Dec.{leb}
 use Rattle.table_rules.specs.Geometry.{workRows}
-use Rattle.table_rules.specs.Table.{orderOf, builtOf, liveOf}
+use Rattle.table_rules.specs.Table.{Table, orderOf, builtOf, liveOf}
 use Rattle.table_rules.specs.Checks.{sizesPass, frameRefusal, changeRefusal}
 use Rattle.table_rules.proofs.Chains.{stops-first}
 use Rattle.table_rules.proofs.Passing.{frame-rows, framed}
@@ -50,14 +50,16 @@ sizes-pass-requires c κs =
     let at = c .before .before .before in
     sizes-asked (at .before .before .args .table .now) (stands at) (c .before .before .order-in .result .t) (c .before .before .order-in .ensures)
 
-sizes-tested :
-    (c : tie.After-sizes-pass) → let t = c .before .before .before .before .before .before .args .table .now in sizesPass (orderOf t) (builtOf t) (liveOf t) ≡ c .sizes-pass .result
+abbrev table-of : tie.After-sizes-pass → Table
+table-of c = c .before .before .before .before .before .before .args .table .now
+
+sizes-tested : (c : tie.After-sizes-pass) → let t = table-of c in sizesPass (orderOf t) (builtOf t) (liveOf t) ≡ c .sizes-pass .result
 sizes-tested c =
-    let t = c .before .before .before .before .before .before .args .table .now in
+    let t = table-of c in
     ap (λ (o : ℕ). sizesPass o (builtOf t) (liveOf t)) (sym (c .before .before .before .order-in .ensures)) ∙ sym (c .sizes-pass .ensures)
 
 sizes-passed :
-    (c : tie.Else3) → let t = c .before .before .before .before .before .before .before .args .table .now in sizesPass (orderOf t) (builtOf t) (liveOf t) ≡ true
+    (c : tie.Else3) → let t = table-of (c .before) in sizesPass (orderOf t) (builtOf t) (liveOf t) ≡ true
 sizes-passed c = sizes-tested (c .before) ∙ not-false (c .before .sizes-pass .result) (c .if3 .left)
 
 returns-3 : tie.Need-returns-3

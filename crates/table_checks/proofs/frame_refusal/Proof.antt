@@ -1,13 +1,13 @@
 -- `table_checks::frame_refusal` meets its contract: its tests are those of `frameRefusal`, the metric's before the order's.
 use native.Mathlib.Omega.{arith}
-use Prim.Native.Nat.{_≤_}
+use Prim.Native.Nat.{_<_, _≤_}
 use borrow.Author.Tests.{not-true, not-false, lt-leb, le-leb}
 use mathlib.Core.Path.{_≡_, sym, _∙_, ap}
 use mathlib.Core.Bool.{true, false}
 use lib.ListN.{length}
 use Rattle.metric_rules.specs.Distance.{validMetric}
 use Rattle.table_rules.specs.Geometry.{validOrder, headerRow, tableRows}
-use Rattle.table_rules.specs.Table.{rowAt, orderOf, tableSpace}
+use Rattle.table_rules.specs.Table.{Table, rowAt, orderOf, tableSpace}
 use Rattle.table_rules.proofs.Buckets.{order-valid}
 use Rattle.table_rules.proofs.Passing.{no-frame}
 use Rattle.table_order.specs.Answers.{answerOf}
@@ -27,10 +27,15 @@ metric-passed :
     (c : tie.Else2) → validMetric (tableSpace (c .before .before .before .before .args .table .now)) ≡ true
 metric-passed c = metric-tested (c .before) ∙ not-false (c .before .has-metric .result) (c .if2 .left)
 
+-- the table, once its order is known, and that it has rows
+abbrev table-of : tie.After-order → Table
+table-of c = c .before .before .before .before .before .before .before .before .args .table .now
+
+has-rows : (c : tie.After-order) → 0 < length (table-of c)
+has-rows c = omega (arith, c .before .before .before .before .before .before .before .if1 .left)
+
 order-known :
-    (c : tie.After-order)
-    → (c .order .given .0 .0 .t ≡ orderOf (c .before .before .before .before .before .before .before .before .args .table .now))
-    × (orderOf (c .before .before .before .before .before .before .before .before .args .table .now) ≤ 12)
+    (c : tie.After-order) → (c .order .given .0 .0 .t ≡ orderOf (table-of c)) × (orderOf (table-of c) ≤ 12)
 order-known c =
     let n = c .before .before .before .order-of in
     let is = is-order (c .order .given .0 .0) (n .result) (ap answerOf (sym (c .order .given .1)) ∙ c .before .before .new .ensures) in
@@ -58,20 +63,20 @@ returns-3 c =
 returns-4 : tie.Need-returns-4
 returns-4 c =
     let at = c .before .before .before in
-    let t = at .before .before .before .before .before .before .before .before .args .table .now in
+    let t = table-of at in
     let known : (at .order .given .0 .0 .t ≡ orderOf t) × (orderOf t ≤ 12) = order-known at in
     let rows : tableRows (orderOf t) ≡ c .before .table-rows .result = sym (c .before .table-rows .ensures ∙ ap tableRows (known .0)) in
-    sym (too-short t (omega (arith, at .before .before .before .before .before .before .before .if1 .left)) (order-valid (orderOf t) (known .1))
+    sym (too-short t (has-rows at) (order-valid (orderOf t) (known .1))
     (metric-passed (at .before .before .before .before))
     (lt-leb (tableRows (orderOf t)) (length t) (omega arith)))
 
 returns-5 : tie.Need-returns-5
 returns-5 c =
     let at = c .before .before .before in
-    let t = at .before .before .before .before .before .before .before .before .args .table .now in
+    let t = table-of at in
     let known : (at .order .given .0 .0 .t ≡ orderOf t) × (orderOf t ≤ 12) = order-known at in
     let rows : tableRows (orderOf t) ≡ c .before .table-rows .result = sym (c .before .table-rows .ensures ∙ ap tableRows (known .0)) in
-    sym (frame-stands t (omega (arith, at .before .before .before .before .before .before .before .if1 .left)) (order-valid (orderOf t) (known .1))
+    sym (frame-stands t (has-rows at) (order-valid (orderOf t) (known .1))
     (metric-passed (at .before .before .before .before))
     (le-leb (tableRows (orderOf t)) (length t) (omega arith)))
 

@@ -29,6 +29,13 @@ unfolding workRows
 few c =
     (le-trans (c .pre .2) (rooms-grow (c .pre .1)), le-trans (c .pre .2) (room-most (c .args .k) (le-trans (c .pre .1) (c .pre .0 .most))))
 
+-- from where the bucket is filled back to where its room is known, and to the start
+abbrev room-at : tie.After-fill → tie.After-room
+room-at c = c .before .before .before .before .before
+
+abbrev start-of : tie.After-fill → tie.Start
+start-of c = c .before .before .before .before .before .before .before
+
 add-end : tie.Need-add-end
 add-end c = omega (arith, inside (c .before .before))
 
@@ -52,22 +59,23 @@ fill-requires c κs =
     (omega (arith, part), omega (arith, few s), omega (arith, few s))
 
 cast-put-sizes : tie.Need-cast-put-sizes
-cast-put-sizes c = omega (arith, few (c .before .before .before .before .before .before .before .before .before .before))
+cast-put-sizes c = omega (arith, few (start-of (c .before .before .before)))
 
 cast-put-sizes-2 : tie.Need-cast-put-sizes-2
-cast-put-sizes-2 c = omega (arith, few (c .before .before .before .before .before .before .before .before .before .before))
+cast-put-sizes-2 c = omega (arith, few (start-of (c .before .before .before)))
 
 put-sizes-requires : tie.Need-put-sizes-requires
 put-sizes-requires c κs =
-    let s = c .before .before .before .before .before .before .before .before .before .before in
+    let s = start-of (c .before .before .before) in
     let f = c .before .before .before .fill in
-    let first : ℕ = c .before .before .before .before .before .before .before .before .before .first-slot .result in
-    let size : ℕ = c .before .before .before .before .before .before .before .before .room .result in
+    let at = room-at (c .before .before .before) in
+    let first : ℕ = at .before .first-slot .result in
+    let size : ℕ = at .room .result in
     omega (arith, same-len-mid first (first + size - first) (s .args .table .now) (f .last .0) (f .kept .0), sizes-inside (s .pre .0) (s .args .k) (s .pre .1))
 
 clear-requires : tie.Need-clear-requires
 clear-requires c κs =
-    let s = c .before .before .before .before .before .before .before .before .before .before .before .before .before in
+    let s = start-of (c .before .before .before .before .before .before) in
     let f = c .before .before .before .before .before .before .fill in
     let n : ℕ = s .args .n in
     let zeros : length (replicate n zeroRow) ≡ n = length-replicate n zeroRow in (
@@ -79,16 +87,18 @@ clear-requires c κs =
 
 cast-result : tie.Need-cast-result
 cast-result c =
-    let s = c .before .before .before .before .before .before .before .before .before .before .before .before .before .before .before in
-    omega (arith, c .before .before .before .before .before .before .before .before .fill .ensures .1 .1, cost-bound 12 (s .args .n) (few s .1), few s)
+    let filled = c .before .before .before .before .before .before .before .before in
+    let s = start-of filled in
+    omega (arith, filled .fill .ensures .1 .1, cost-bound 12 (s .args .n) (few s .1), few s)
 
 returns : tie.Need-returns
 unfolding tableSpace rowAt headerRow
 returns c =
-    let s = c .before .before .before .before .before .before .before .before .before .before .before .before .before .before .before in
-    let f = c .before .before .before .before .before .before .before .before .fill in
-    let first = c .before .before .before .before .before .before .before .before .before .before .before .before .before .before .first-slot in
-    let size = c .before .before .before .before .before .before .before .before .before .before .before .before .before .room in
+    let filled = c .before .before .before .before .before .before .before .before in
+    let s = start-of filled in
+    let f = filled .fill in
+    let first = room-at filled .before .first-slot in
+    let size = room-at filled .room in
     let n : ℕ = s .args .n in
     let work : List Row = s .args .work .now in
     let long : length (take n work) ≡ n = length-take-le n work (omega (arith, few s, s .pre .3)) in (

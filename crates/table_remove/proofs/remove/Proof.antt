@@ -1,4 +1,4 @@
--- `table_remove::remove` meets its contract: each refusal is the definition's, and the item found is marked and its bucket settled.
+-- `table_remove::remove` meets its contract: each refusal is the definition's, and the item found is marked and its bucket shrunk.
 use borrow.Author.Needs.{needs}
 use native.Mathlib.Omega.{arith}
 use borrow.Author.Tests.{not-true, not-false}
@@ -35,39 +35,46 @@ change c = changeable (c .before .before .before .args .work .now) (c .before .b
 valid : (c : tie.Else2) → validTag (c .before .before .before .before .before .args .tag) ≡ true
 valid c = sym (c .before .valid-tag .ensures) ∙ not-false (c .before .valid-tag .result) (c .if2 .left)
 
+-- from the place found back to where the table passed, and to the start
+abbrev passed-at : tie.After-bucket → tie.Else1
+passed-at c = c .before .before .before .before .before .before
+
+abbrev start-of : tie.After-bucket → tie.Start
+start-of c = c .before .before .before .before .before .before .before .before .before
+
 -- the place found, and that a live item stands there
 place : (c : tie.After-bucket) → Place
-place c = record { bucket = c .bucket .given .0 .0; slot = c .bucket .given .0 .1 .0; row = getD (slotsOf (c .before .before .before .before .before .before .before .before .before .args .table .now) (c .bucket .given .0 .0)) (c .bucket .given .0 .1 .0) [] }
+place c = record { bucket = c .bucket .given .0 .0; slot = c .bucket .given .0 .1 .0; row = getD (slotsOf (start-of c .args .table .now) (c .bucket .given .0 .0)) (c .bucket .given .0 .1 .0) [] }
 
-located : (c : tie.After-bucket) → find (c .before .before .before .before .before .before .before .before .before .args .table .now) (c .before .before .before .before .before .before .before .before .before .args .tag) ≡ some (place c)
+located : (c : tie.After-bucket) → find (start-of c .args .table .now) (start-of c .args .tag) ≡ some (place c)
 unfolding placeOf place
-located c = sym (ap (placeOf (c .before .before .before .before .before .before .before .before .before .args .table .now)) (sym (c .bucket .given .1)) ∙ c .before .before .find .ensures)
+located c = sym (ap (placeOf (start-of c .args .table .now)) (sym (c .bucket .given .1)) ∙ c .before .before .find .ensures)
 
-stands : (c : tie.After-bucket) → Found (c .before .before .before .before .before .before .before .before .before .args .table .now) (c .before .before .before .before .before .before .before .before .before .args .tag) (place c)
-stands c = found (c .before .before .before .before .before .before .before .before .before .args .table .now) (c .before .before .before .before .before .before .before .before .before .args .tag) (place c) (located c)
+stands : (c : tie.After-bucket) → Found (start-of c .args .table .now) (start-of c .args .tag) (place c)
+stands c = found (start-of c .args .table .now) (start-of c .args .tag) (place c) (located c)
 
 -- the row that the marking reads is the place's
 same-row :
-    (c : tie.After-bucket) (order : ℕ) → order ≡ orderOf (c .before .before .before .before .before .before .before .before .before .args .table .now)
-    → rowAt (c .before .before .before .before .before .before .before .before .before .args .table .now) (firstSlot order (c .bucket .given .0 .0) + c .bucket .given .0 .1 .0) ≡ place c .row
+    (c : tie.After-bucket) (order : ℕ) → order ≡ orderOf (start-of c .args .table .now)
+    → rowAt (start-of c .args .table .now) (firstSlot order (c .bucket .given .0 .0) + c .bucket .given .0 .1 .0) ≡ place c .row
 unfolding place
 same-row c order e =
-    let t : List Row = c .before .before .before .before .before .before .before .before .before .args .table .now in
+    let t : List Row = start-of c .args .table .now in
     let k : ℕ = c .bucket .given .0 .0 in
     let i : ℕ = c .bucket .given .0 .1 .0 in
-    ap (λ (o : ℕ). rowAt t (firstSlot o k + i)) e ∙ sym (slot-row t k i (within-built (change (c .before .before .before .before .before .before)) (stands c)))
+    ap (λ (o : ℕ). rowAt t (firstSlot o k + i)) e ∙ sym (slot-row t k i (within-built (change (passed-at c)) (stands c)))
 
 marked-place :
-    (c : tie.After-bucket) (order : ℕ) → order ≡ orderOf (c .before .before .before .before .before .before .before .before .before .args .table .now) → {u : List Row}
-    → u ≡ marked (c .before .before .before .before .before .before .before .before .before .args .table .now) (record { bucket = c .bucket .given .0 .0; slot = c .bucket .given .0 .1 .0; row = rowAt (c .before .before .before .before .before .before .before .before .before .args .table .now) (firstSlot order (c .bucket .given .0 .0) + c .bucket .given .0 .1 .0) })
-    → u ≡ marked (c .before .before .before .before .before .before .before .before .before .args .table .now) (place c)
+    (c : tie.After-bucket) (order : ℕ) → order ≡ orderOf (start-of c .args .table .now) → {u : List Row}
+    → u ≡ marked (start-of c .args .table .now) (record { bucket = c .bucket .given .0 .0; slot = c .bucket .given .0 .1 .0; row = rowAt (start-of c .args .table .now) (firstSlot order (c .bucket .given .0 .0) + c .bucket .given .0 .1 .0) })
+    → u ≡ marked (start-of c .args .table .now) (place c)
 unfolding place
 marked-place c order e m =
-    m ∙ ap (λ (r : Row). marked (c .before .before .before .before .before .before .before .before .before .args .table .now) (record { bucket = c .bucket .given .0 .0; slot = c .bucket .given .0 .1 .0; row = r })) (same-row c order e)
+    m ∙ ap (λ (r : Row). marked (start-of c .args .table .now) (record { bucket = c .bucket .given .0 .0; slot = c .bucket .given .0 .1 .0; row = r })) (same-row c order e)
 
 whole-place :
-    (c : tie.After-bucket) (order : ℕ) → order ≡ orderOf (c .before .before .before .before .before .before .before .before .before .args .table .now)
-    → length (rowAt (c .before .before .before .before .before .before .before .before .before .args .table .now) (firstSlot order (c .bucket .given .0 .0) + c .bucket .given .0 .1 .0)) ≡ rowWidth → length (place c .row) ≡ rowWidth
+    (c : tie.After-bucket) (order : ℕ) → order ≡ orderOf (start-of c .args .table .now)
+    → length (rowAt (start-of c .args .table .now) (firstSlot order (c .bucket .given .0 .0) + c .bucket .given .0 .1 .0)) ≡ rowWidth → length (place c .row) ≡ rowWidth
 whole-place c order e w = ap length (sym (same-row c order e)) ∙ w
 
 returns : tie.Need-returns
@@ -88,13 +95,13 @@ find-requires : tie.Need-find-requires
 find-requires c κs = change (c .before .before .before) .passed
 
 order-in-requires : tie.Need-order-in-requires
-order-in-requires c κs = framed-rows (change (c .before .before .before .before .before .before .before .before) .passed .framed)
+order-in-requires c κs = framed-rows (change (passed-at (c .before .before)) .passed .framed)
 
 mark-dead-requires : tie.Need-mark-dead-requires
 unfolding place
 mark-dead-requires c κs =
     let at = c .before .before .before .before in
-    let ch = change (c .before .before .before .before .before .before .before .before .before .before) in
+    let ch = change (passed-at at) in
     let o = c .before .order-in in
     (built-fits-of ch (o .result .t) (o .ensures) .lent, omega (arith, stands at .inOrder, o .ensures), within-room ch (stands at), some-live ch (stands at))
 
@@ -104,12 +111,13 @@ shrink-requires c κs =
     let at = c .before .before .before .before .before .before .before .before in
     let o = c .before .before .before .before .before .order-in in
     let m = c .before .before .before .mark-dead in
-    let a = c .before .before .before .before .before .before .before .before .before .before .before .before .before .before .before .before .before .args in
+    let a = start-of at .args in
+    let ch = change (passed-at at) in
     let u : m .last .0 ≡ marked (a .table .now) (place at) = marked-place at (o .result .t) (o .ensures) (m .ensures .0) in
     let w = whole-place at (o .result .t) (o .ensures) (m .ensures .1) in (
-      subst⁻¹ (λ (t : List Row). BuiltFits t (o .result .t)) u (built-fits-still (change (c .before .before .before .before .before .before .before .before .before .before .before .before .before .before)) (stands at) w (o .result .t) (o .ensures)),
-      subst⁻¹ (λ (t : List Row). Lost t (at .bucket .given .0 .0)) u (lost-one (change (c .before .before .before .before .before .before .before .before .before .before .before .before .before .before)) (stands at) w),
-      omega (arith, change (c .before .before .before .before .before .before .before .before .before .before .before .before .before .before) .roomy, ap workRows (o .ensures)),
+      subst⁻¹ (λ (t : List Row). BuiltFits t (o .result .t)) u (built-fits-still ch (stands at) w (o .result .t) (o .ensures)),
+      subst⁻¹ (λ (t : List Row). Lost t (at .bucket .given .0 .0)) u (lost-one ch (stands at) w),
+      omega (arith, ch .roomy, ap workRows (o .ensures)),
     )
 
 returns-3 : tie.Need-returns-3
@@ -127,10 +135,10 @@ returns-4 c =
     let o = c .before .before .before .before .before .before .before .before .order-in in
     let m = c .before .before .before .before .before .before .mark-dead in
     let e = c .before .before .shrink .ensures in
-    let a = c .before .before .before .before .before .before .before .before .before .before .before .before .before .before .before .before .before .before .before .before .args in
+    let a = start-of at .args in
     let k : ℕ = at .bucket .given .0 .0 in
     let u : m .last .0 ≡ marked (a .table .now) (place at) = marked-place at (o .result .t) (o .ensures) (m .ensures .0) in
-    let r = accepted-call (a .table .now) (a .work .now) (a .tag) (past-first (c .before .before .before .before .before .before .before .before .before .before .before .before .before .before .before .before .before)) (valid (c .before .before .before .before .before .before .before .before .before .before .before .before .before .before .before)) (place at) (located at) in (
+    let r = accepted-call (a .table .now) (a .work .now) (a .tag) (past-first (passed-at at)) (valid (at .before .before .before .before)) (place at) (located at) in (
       ap (λ (d : ℕ). record { refusal = 0; distances = d }) (e .1 .1 ∙ ap (λ (t : List Row). shrunk t k .distances) u) ∙ r .0,
       (
         e .0 ∙ ap (λ (t : List Row). shrunk t k .table) u ∙ r .1,

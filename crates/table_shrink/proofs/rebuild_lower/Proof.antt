@@ -1,4 +1,4 @@
--- `table_shrink::sparse` meets its contract: each return is a case of the definition, by the tests that led there.
+-- `table_shrink::rebuild_lower` meets its contract: each return is a case of the definition, by the tests that led there.
 use borrow.Author.Needs.{needs}
 use native.Mathlib.Omega.{arith}
 use Prim.Native.Nat.{ℕ, _-_, _≤_}
@@ -18,6 +18,13 @@ sparse-at-start c = is-sparse (c .pre .1) (c .pre .2) (c .pre .3)
 in-order : (c : tie.Start) → c .args .k ≤ c .args .order .t
 in-order c = omega (arith, c .pre .1 .inOrder, c .pre .0 .lent .known)
 
+-- the start, from where the bucket below is in use and its live items are known, and from where it is empty and the next one was looked at
+abbrev start-of : tie.After-live-of → tie.Start
+start-of c = c .before .before .before .before .before .before
+
+abbrev start-of-2 : tie.After-in-use2 → tie.Start
+start-of-2 c = c .before .before .before .before .before
+
 sub-in-use : tie.Need-sub-in-use
 sub-in-use c = omega (arith, deep (sparse-at-start (c .before)))
 
@@ -34,31 +41,32 @@ live-of-requires : tie.Need-live-of-requires
 live-of-requires c κs = let s = c .before .before .before .before .before in sizes-inside (s .pre .0 .lent) (s .args .k - 1) (omega (arith, in-order s))
 
 sub-unite : tie.Need-sub-unite
-sub-unite c = omega (arith, deep (sparse-at-start (c .before .before .before .before .before .before .before .before)))
+sub-unite c = omega (arith, deep (sparse-at-start (start-of (c .before .before))))
 
 unite-requires : tie.Need-unite-requires
 unite-requires c κs =
-    let s = c .before .before .before .before .before .before .before .before .before in
+    let s = start-of (c .before .before .before) in
     (s .pre .0, in-order s, omega (arith, in-order s), in-order s, next-fits (sparse-at-start s), s .pre .4)
 
 returns : tie.Need-returns
 returns c =
-    let s = c .before .before .before .before .before .before .before .before .before .before .before .before in
+    let counted = c .before .before .before .before .before .before in
+    let s = start-of counted in
     let t : List Row = s .args .table .now in
     let k : ℕ = s .args .k in
     let u = c .before .before .unite .ensures in
-    let e = rebuilt-lower-next t k (sym (c .before .before .before .before .before .before .before .before .before .before .in-use .ensures) ∙ c .before .before .before .before .before .before .before .before .before .if1 .taken) (omega (arith, c .before .before .before .before .before .before .before .before .room .ensures, c .before .before .before .before .before .before .live-of .ensures, c .before .before .before .before .before .if2 .taken)) in
+    let e = rebuilt-lower-next t k (sym (counted .before .before .before .before .in-use .ensures) ∙ counted .before .before .before .if1 .taken) (omega (arith, counted .before .before .room .ensures, counted .live-of .ensures, c .before .before .before .before .before .if2 .taken)) in
     (u .0 ∙ ap (λ (r : Rebuilt). r .table) (sym e), (u .1 .0, u .1 .1 ∙ ap (λ (r : Rebuilt). r .distances) (sym e)))
 
 sub-unite-2 : tie.Need-sub-unite-2
-sub-unite-2 c = omega (arith, deep (sparse-at-start (c .before .before .before .before .before .before .before .before)))
+sub-unite-2 c = omega (arith, deep (sparse-at-start (start-of (c .before .before))))
 
 sub-unite-3 : tie.Need-sub-unite-3
-sub-unite-3 c = omega (arith, deep (sparse-at-start (c .before .before .before .before .before .before .before .before)))
+sub-unite-3 c = omega (arith, deep (sparse-at-start (start-of (c .before .before))))
 
 unite-requires-2 : tie.Need-unite-requires-2
 unite-requires-2 c κs =
-    let s = c .before .before .before .before .before .before .before .before .before in (
+    let s = start-of (c .before .before .before) in (
       s .pre .0,
       in-order s,
       omega (arith, in-order s),
@@ -69,11 +77,12 @@ unite-requires-2 c κs =
 
 returns-2 : tie.Need-returns-2
 returns-2 c =
-    let s = c .before .before .before .before .before .before .before .before .before .before .before .before in
+    let counted = c .before .before .before .before .before .before in
+    let s = start-of counted in
     let t : List Row = s .args .table .now in
     let k : ℕ = s .args .k in
     let u = c .before .before .unite2 .ensures in
-    let e = rebuilt-lower-next-lower t k (sym (c .before .before .before .before .before .before .before .before .before .before .in-use .ensures) ∙ c .before .before .before .before .before .before .before .before .before .if1 .taken) (omega (arith, c .before .before .before .before .before .before .before .before .room .ensures, c .before .before .before .before .before .before .live-of .ensures, c .before .before .before .before .before .if2 .left)) in
+    let e = rebuilt-lower-next-lower t k (sym (counted .before .before .before .before .in-use .ensures) ∙ counted .before .before .before .if1 .taken) (omega (arith, counted .before .before .room .ensures, counted .live-of .ensures, c .before .before .before .before .before .if2 .left)) in
     (u .0 ∙ ap (λ (r : Rebuilt). r .table) (sym e), (u .1 .0, u .1 .1 ∙ ap (λ (r : Rebuilt). r .distances) (sym e)))
 
 sub-in-use-2 : tie.Need-sub-in-use-2
@@ -83,36 +92,38 @@ in-use-requires-2 : tie.Need-in-use-requires-2
 in-use-requires-2 c κs = let s = c .before .before .before .before in sizes-inside (s .pre .0 .lent) (s .args .k - 2) (omega (arith, in-order s))
 
 sub-unite-4 : tie.Need-sub-unite-4
-sub-unite-4 c = omega (arith, deep (sparse-at-start (c .before .before .before .before .before .before .before)))
+sub-unite-4 c = omega (arith, deep (sparse-at-start (start-of-2 (c .before .before))))
 
 sub-unite-5 : tie.Need-sub-unite-5
-sub-unite-5 c = omega (arith, deep (sparse-at-start (c .before .before .before .before .before .before .before)))
+sub-unite-5 c = omega (arith, deep (sparse-at-start (start-of-2 (c .before .before))))
 
 unite-requires-3 : tie.Need-unite-requires-3
 unite-requires-3 c κs =
-    let s = c .before .before .before .before .before .before .before .before in
+    let s = start-of-2 (c .before .before .before) in
     (s .pre .0, in-order s, omega (arith, in-order s), omega (arith, in-order s), second-fits (sparse-at-start s), s .pre .4)
 
 returns-3 : tie.Need-returns-3
 returns-3 c =
-    let s = c .before .before .before .before .before .before .before .before .before .before .before in
+    let looked = c .before .before .before .before .before .before in
+    let s = start-of-2 looked in
     let u = c .before .before .unite3 .ensures in
-    let e = rebuilt-lower-second (s .args .table .now) (s .args .k) (sym (c .before .before .before .before .before .before .before .before .before .in-use .ensures) ∙ c .before .before .before .before .before .before .before .before .if1 .left) (sym (c .before .before .before .before .before .before .in-use2 .ensures) ∙ c .before .before .before .before .before .if3 .taken) in
+    let e = rebuilt-lower-second (s .args .table .now) (s .args .k) (sym (looked .before .before .before .in-use .ensures) ∙ looked .before .before .if1 .left) (sym (looked .in-use2 .ensures) ∙ c .before .before .before .before .before .if3 .taken) in
     (u .0 ∙ ap (λ (r : Rebuilt). r .table) (sym e), (u .1 .0, u .1 .1 ∙ ap (λ (r : Rebuilt). r .distances) (sym e)))
 
 sub-move-down : tie.Need-sub-move-down
-sub-move-down c = deep (sparse-at-start (c .before .before .before .before .before .before .before))
+sub-move-down c = deep (sparse-at-start (start-of-2 (c .before .before)))
 
 move-down-requires : tie.Need-move-down-requires
 move-down-requires c κs =
-    let s = c .before .before .before .before .before .before .before .before in
+    let s = start-of-2 (c .before .before .before) in
     (s .pre .0, in-order s, omega (arith, in-order s), alone-fits (sparse-at-start s), s .pre .4)
 
 returns-4 : tie.Need-returns-4
 returns-4 c =
-    let s = c .before .before .before .before .before .before .before .before .before .before .before in
+    let looked = c .before .before .before .before .before .before in
+    let s = start-of-2 looked in
     let u = c .before .before .move-down .ensures in
-    let e = rebuilt-lower-alone (s .args .table .now) (s .args .k) (sym (c .before .before .before .before .before .before .before .before .before .in-use .ensures) ∙ c .before .before .before .before .before .before .before .before .if1 .left) (sym (c .before .before .before .before .before .before .in-use2 .ensures) ∙ c .before .before .before .before .before .if3 .left) in
+    let e = rebuilt-lower-alone (s .args .table .now) (s .args .k) (sym (looked .before .before .before .in-use .ensures) ∙ looked .before .before .if1 .left) (sym (looked .in-use2 .ensures) ∙ c .before .before .before .before .before .if3 .left) in
     (u .0 ∙ ap (λ (r : Rebuilt). r .table) (sym e), (u .1 .0, u .1 .1 ∙ ap (λ (r : Rebuilt). r .distances) (sym e)))
 
 pub rebuild-lower-spec : {M : Type 1} → statement M

@@ -32,6 +32,22 @@ both c =
     ap length (items-two (c .args .table .now) (c .args .k) (c .args .other))
     ∙ length-append (liveSlots (c .args .table .now) (c .args .k)) (liveSlots (c .args .table .now) (c .args .other))
 
+-- from where both buckets are empty back to where both are gathered, and from there to the start
+abbrev gathered-at : tie.After-empty-bucket2 → tie.After-gather-bucket2
+gathered-at c = c .before .before .before .before .before .before
+
+abbrev start-of : tie.After-gather-bucket2 → tie.Start
+start-of c = c .before .before .before .before .before .before .before
+
+made : (c : tie.After-gather-bucket2) → let a = start-of c .args in
+    let g = c .gather-bucket2 in Gathered (a .table .now) (a .k ∷ a .other ∷ []) (a .work .now) (g .result) (g .last .1 .1 .1 .0)
+made c =
+    let a = start-of c .args in
+    let f = c .before .before .before .before .gather-bucket in
+    let g = c .gather-bucket2 in
+    two-gathered (a .table .now) (a .k) (a .other) (a .work .now) (f .result) (g .result) (f .last .1 .1 .1 .0) (g .last .1 .1 .1 .0)
+    (f .ensures .1) (g .ensures .1) (f .ensures .0) (g .ensures .0)
+
 gather-bucket-requires : tie.Need-gather-bucket-requires
 gather-bucket-requires c κs =
     let s = c .before .before in (
@@ -53,36 +69,30 @@ gather-bucket-requires-2 c κs =
 
 empty-bucket-requires-2 : tie.Need-empty-bucket-requires-2
 empty-bucket-requires-2 c κs =
-    let s = c .before .before .before .before .before .before .before .before .before .before .before .before in
+    let s = start-of (c .before .before .before .before .before) in
     (subst⁻¹ (λ (u : List Row). OfOrder u (s .args .order .t)) (c .before .before .empty-bucket .ensures) (lent-put (s .pre .0 .lent) (s .args .k) (s .pre .1) [] 0 (omega arith)), s .pre .2)
 
 build-bucket-requires : tie.Need-build-bucket-requires
 unfolding emptied
 build-bucket-requires c κs =
-    let s = c .before .before .before .before .before .before .before .before .before .before .before .before .before .before .before .before in
-    let f = c .before .before .before .before .before .before .before .before .before .before .before .before .before .gather-bucket in
-    let g = c .before .before .before .before .before .before .before .before .before .gather-bucket2 in
-    let made : Gathered (s .args .table .now) (s .args .k ∷ s .args .other ∷ []) (s .args .work .now) (g .result) (g .last .1 .1 .1 .0) =
-    two-gathered (s .args .table .now) (s .args .k) (s .args .other) (s .args .work .now) (f .result) (g .result) (f .last .1 .1 .1 .0) (g .last .1 .1 .1 .0)
-    (f .ensures .1) (g .ensures .1) (f .ensures .0) (g .ensures .0) in (
-      subst⁻¹ (λ (u : List Row). OfOrder u (s .args .order .t)) (c .before .before .before .empty-bucket2 .ensures ∙ ap (putBucket (s .args .other) [] 0) (c .before .before .before .before .before .before .empty-bucket .ensures)) (lent-emptied (fit s)),
+    let empty = c .before .before .before in
+    let at = gathered-at empty in
+    let s = start-of at in (
+      subst⁻¹ (λ (u : List Row). OfOrder u (s .args .order .t)) (empty .empty-bucket2 .ensures ∙ ap (putBucket (s .args .other) [] 0) (empty .before .before .before .empty-bucket .ensures)) (lent-emptied (fit s)),
       s .pre .3,
-      omega (arith, made .number, s .pre .4),
-      omega (arith, g .kept .1 .1 .1 .0, f .kept .1 .1 .1 .0, s .pre .5),
+      omega (arith, made at .number, s .pre .4),
+      omega (arith, at .gather-bucket2 .kept .1 .1 .1 .0, at .before .before .before .before .gather-bucket .kept .1 .1 .1 .0, s .pre .5),
     )
 
 returns : tie.Need-returns
 unfolding emptied
 returns c =
-    let s = c .before .before .before .before .before .before .before .before .before .before .before .before .before .before .before .before .before .before .before in
-    let f = c .before .before .before .before .before .before .before .before .before .before .before .before .before .before .before .before .gather-bucket in
-    let g = c .before .before .before .before .before .before .before .before .before .before .before .before .gather-bucket2 in
-    let b = c .before .before .build-bucket .ensures in
-    let made : Gathered (s .args .table .now) (s .args .k ∷ s .args .other ∷ []) (s .args .work .now) (g .result) (g .last .1 .1 .1 .0) =
-    two-gathered (s .args .table .now) (s .args .k) (s .args .other) (s .args .work .now) (f .result) (g .result) (f .last .1 .1 .1 .0) (g .last .1 .1 .1 .0)
-    (f .ensures .1) (g .ensures .1) (f .ensures .0) (g .ensures .0) in (
-      table-united (fit s) made (c .before .before .before .before .before .before .empty-bucket2 .ensures ∙ ap (putBucket (s .args .other) [] 0) (c .before .before .before .before .before .before .before .before .before .empty-bucket .ensures)) (b .0),
-      (b .1 .0 ∙ work-cleared (fit s) made, cost-united (fit s) made (b .1 .1)),
+    let empty = c .before .before .before .before .before .before in
+    let at = gathered-at empty in
+    let s = start-of at in
+    let b = c .before .before .build-bucket .ensures in (
+      table-united (fit s) (made at) (empty .empty-bucket2 .ensures ∙ ap (putBucket (s .args .other) [] 0) (empty .before .before .before .empty-bucket .ensures)) (b .0),
+      (b .1 .0 ∙ work-cleared (fit s) (made at), cost-united (fit s) (made at) (b .1 .1)),
     )
 
 pub unite-spec : {M : Type 1} → statement M

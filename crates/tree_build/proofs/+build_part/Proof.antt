@@ -88,12 +88,28 @@ LeftBuilt t = build-part-lts.After-build-part (build-part-callees t) (build-part
 abbrev RightBuilt : ℕ → Type 0
 RightBuilt t = build-part-lts.After-build-part2 (build-part-callees t) (build-part-at t) build-part.Post
 
-part-at : (t : ℕ) (c : Placed t) → let s = c .before .before .before .before .before .before .before .before .before .before in
-    let a = c .before .before .before .before .before .before .arrange in Arranged (distance (spaceOf (s .args .header .now))) (s .args .src .now) (a .last .1 .0) (a .last .0) (c .place .result) zeros
+abbrev BothBuilt : ℕ → Type 0
+BothBuilt t = build-part-lts.After-src3 (build-part-callees t) (build-part-at t) build-part.Post
+
+-- from each of these back to the one before it, to the arranging and to the start
+abbrev arranged-at : (t : ℕ) → Placed t → build-part-lts.After-arrange (build-part-callees t) (build-part-at t) build-part.Post
+arranged-at t c = c .before .before .before .before .before .before
+
+abbrev start-of : (t : ℕ) → Placed t → build-part-lts.Start (build-part-callees t) (build-part-at t) build-part.Post
+start-of t c = c .before .before .before .before .before .before .before .before .before .before
+
+abbrev placed-at : (t : ℕ) → LeftBuilt t → Placed t
+placed-at t c = c .before .before .before
+
+abbrev left-built : (t : ℕ) → RightBuilt t → LeftBuilt t
+left-built t c = c .before .before .before .before .before
+
+part-at : (t : ℕ) (c : Placed t) → let s = start-of t c in
+    let a = arranged-at t c .arrange in Arranged (distance (spaceOf (s .args .header .now))) (s .args .src .now) (a .last .1 .0) (a .last .0) (c .place .result) zeros
 unfolding zeroRow
 part-at t c =
-    let s = c .before .before .before .before .before .before .before .before .before .before in
-    let a = c .before .before .before .before .before .before .arrange in
+    let s = start-of t c in
+    let a = arranged-at t c .arrange in
     record {
       full = not-zero (length (s .args .src .now)) (c .before .before .before .before .before .before .before .before .before .if1 .left);
       few = s .pre .1 .1;
@@ -105,15 +121,16 @@ part-at t c =
       zeroed = refl;
     }
 
-left-at : (t : ℕ) (c : LeftBuilt t) → let s = c .before .before .before .before .before .before .before .before .before .before .before .before .before in
-    let b = c .build-part in Built (distance (spaceOf (s .args .header .now))) (leftTarget (part-at t (c .before .before .before))) (leftSource (part-at t (c .before .before .before))) (b .last .0) (b .last .1 .0) (b .result)
+left-at : (t : ℕ) (c : LeftBuilt t) → let s = start-of t (placed-at t c) in
+    let b = c .build-part in Built (distance (spaceOf (s .args .header .now))) (leftTarget (part-at t (placed-at t c))) (leftSource (part-at t (placed-at t c))) (b .last .0) (b .last .1 .0) (b .result)
 left-at t c =
     let b = c .build-part in
     record { slots-kept = b .kept .0; rows-kept = b .kept .1 .0; laid = b .ensures .0; cleared = b .ensures .1 .0; counted = b .ensures .1 .1 }
 
-right-at : (t : ℕ) (c : RightBuilt t) → let s = c .before .before .before .before .before .before .before .before .before .before .before .before .before .before .before .before .before .before in
-    let w = c .before .before .before .before .before in
-    let d = c .build-part2 in Built (distance (spaceOf (s .args .header .now))) (rightTarget (part-at t (w .before .before .before)) (left-at t w)) (rightSource (part-at t (w .before .before .before)) (left-at t w)) (d .last .0) (d .last .1 .0) (d .result)
+right-at : (t : ℕ) (c : RightBuilt t) → let w = left-built t c in
+    let p = placed-at t w in
+    let s = start-of t p in
+    let d = c .build-part2 in Built (distance (spaceOf (s .args .header .now))) (rightTarget (part-at t p) (left-at t w)) (rightSource (part-at t p) (left-at t w)) (d .last .0) (d .last .1 .0) (d .result)
 right-at t c =
     let d = c .build-part2 in
     record { slots-kept = d .kept .0; rows-kept = d .kept .1 .0; laid = d .ensures .0; cleared = d .ensures .1 .0; counted = d .ensures .1 .1 }
@@ -141,7 +158,7 @@ build-part-slice-set-from-src : (t : ℕ) → build-part-lts.Need-slice-set-from
 build-part-slice-set-from-src t c = filled _ _ (part-at t c .room) (part-at t c .full)
 
 build-part-slice-set-from-src-2 : (t : ℕ) → build-part-lts.Need-slice-set-from-src-2 (build-part-callees t) (build-part-at t) build-part.Post
-build-part-slice-set-from-src-2 t c = filled _ _ (c .before .before .before .before .before .before .arrange .kept .1 .0) (part-at t c .full)
+build-part-slice-set-from-src-2 t c = filled _ _ (arranged-at t c .arrange .kept .1 .0) (part-at t c .full)
 
 build-part-sub-build-part : (t : ℕ) → build-part-lts.Need-sub-build-part (build-part-callees t) (build-part-at t) build-part.Post
 build-part-sub-build-part t c = behind-first _
@@ -162,59 +179,80 @@ build-part-part-build-part-end-2 : (t : ℕ) → build-part-lts.Need-part-build-
 build-part-part-build-part-end-2 t c = end-within _ _ (source-set (part-at t (c .before))) (part-at t (c .before) .full)
 
 build-part-build-part-requires : (t : ℕ) → build-part-lts.Need-build-part-requires (build-part-callees t) (build-part-at t) build-part.Post
-build-part-build-part-requires t c κs = left-asks (part-at t (c .before .before)) t (c .before .before .before .before .before .before .before .before .before .before .before .before .pre .0)
+build-part-build-part-requires t c κs = left-asks (part-at t (c .before .before)) t (start-of t (c .before .before) .pre .0)
 
 build-part-mul-build-part : (t : ℕ) → build-part-lts.Need-mul-build-part (build-part-callees t) (build-part-at t) build-part.Post
-build-part-mul-build-part t c = end-far _ (c .before .before .before .before .before .before .before .before .before .before .before .before .before .before .before .pre .1 .1)
+build-part-mul-build-part t c = end-far _ (start-of t (placed-at t (c .before .before)) .pre .1 .1)
 
 build-part-sub-build-part-3 : (t : ℕ) → build-part-lts.Need-sub-build-part-3 (build-part-callees t) (build-part-at t) build-part.Post
-build-part-sub-build-part-3 t c = end-within _ _ (target-length (part-at t (c .before .before .before .before .before)) (left-at t (c .before .before))) (part-at t (c .before .before .before .before .before) .full)
+build-part-sub-build-part-3 t c =
+    let p = part-at t (placed-at t (c .before .before)) in
+    end-within _ _ (target-length p (left-at t (c .before .before))) (p .full)
 
 build-part-part-build-part-start-3 : (t : ℕ) → build-part-lts.Need-part-build-part-start-3 (build-part-callees t) (build-part-at t) build-part.Post
-build-part-part-build-part-start-3 t c = end-within _ _ (target-length (part-at t (c .before .before .before .before .before)) (left-at t (c .before .before))) (part-at t (c .before .before .before .before .before) .full)
+build-part-part-build-part-start-3 t c =
+    let p = part-at t (placed-at t (c .before .before)) in
+    end-within _ _ (target-length p (left-at t (c .before .before))) (p .full)
 
 build-part-part-build-part-end-3 : (t : ℕ) → build-part-lts.Need-part-build-part-end-3 (build-part-callees t) (build-part-at t) build-part.Post
 build-part-part-build-part-end-3 t c = le-refl _
 
 build-part-mul-build-part-2 : (t : ℕ) → build-part-lts.Need-mul-build-part-2 (build-part-callees t) (build-part-at t) build-part.Post
-build-part-mul-build-part-2 t c = end-far _ (c .before .before .before .before .before .before .before .before .before .before .before .before .before .before .before .before .pre .1 .1)
+build-part-mul-build-part-2 t c = end-far _ (start-of t (placed-at t (c .before .before .before)) .pre .1 .1)
 
 build-part-sub-build-part-4 : (t : ℕ) → build-part-lts.Need-sub-build-part-4 (build-part-callees t) (build-part-at t) build-part.Post
-build-part-sub-build-part-4 t c = end-within _ _ (source-length (part-at t (c .before .before .before .before .before .before)) (left-at t (c .before .before .before))) (part-at t (c .before .before .before .before .before .before) .full)
+build-part-sub-build-part-4 t c =
+    let p = part-at t (placed-at t (c .before .before .before)) in
+    end-within _ _ (source-length p (left-at t (c .before .before .before))) (p .full)
 
 build-part-part-build-part-start-4 : (t : ℕ) → build-part-lts.Need-part-build-part-start-4 (build-part-callees t) (build-part-at t) build-part.Post
-build-part-part-build-part-start-4 t c = end-within _ _ (source-length (part-at t (c .before .before .before .before .before .before)) (left-at t (c .before .before .before))) (part-at t (c .before .before .before .before .before .before) .full)
+build-part-part-build-part-start-4 t c =
+    let p = part-at t (placed-at t (c .before .before .before)) in
+    end-within _ _ (source-length p (left-at t (c .before .before .before))) (p .full)
 
 build-part-part-build-part-end-4 : (t : ℕ) → build-part-lts.Need-part-build-part-end-4 (build-part-callees t) (build-part-at t) build-part.Post
 build-part-part-build-part-end-4 t c = le-refl _
 
 build-part-build-part-requires-2 : (t : ℕ) → build-part-lts.Need-build-part-requires-2 (build-part-callees t) (build-part-at t) build-part.Post
-build-part-build-part-requires-2 t c κs = right-asks (part-at t (c .before .before .before .before .before .before .before)) (left-at t (c .before .before .before .before)) t (c .before .before .before .before .before .before .before .before .before .before .before .before .before .before .before .before .before .pre .0)
+build-part-build-part-requires-2 t c κs =
+    let p = placed-at t (c .before .before .before .before) in
+    right-asks (part-at t p) (left-at t (c .before .before .before .before)) t (start-of t p .pre .0)
 
-counted-at : (t : ℕ) (c : build-part-lts.After-src3 (build-part-callees t) (build-part-at t) build-part.Post)
-    → c .before .before .before .before .before .before .before .before .before .before .before .before .before .before .before .before .arrange .result + c .before .before .before .before .before .before .before .build-part .result + c .before .before .build-part2 .result ≡ cost (length (c .before .before .before .before .before .before .before .before .before .before .before .before .before .before .before .before .before .before .before .before .args .src .now))
-counted-at t c = part-count (part-at t (c .before .before .before .before .before .before .before .before .before .before)) (left-at t (c .before .before .before .before .before .before .before)) (right-at t (c .before .before)) (c .before .before .before .before .before .before .before .before .before .before .before .before .before .before .before .before .arrange .result) (c .before .before .before .before .before .before .before .before .before .before .before .before .before .before .before .before .arrange .ensures .1)
+counted-at : (t : ℕ) (c : BothBuilt t) → let r = c .before .before in
+    let l = left-built t r in
+    let p = placed-at t l in arranged-at t p .arrange .result + l .build-part .result + r .build-part2 .result ≡ cost (length (start-of t p .args .src .now))
+counted-at t c =
+    let r = c .before .before in
+    let l = left-built t r in
+    let p = placed-at t l in
+    let a = arranged-at t p .arrange in
+    part-count (part-at t p) (left-at t l) (right-at t r) (a .result) (a .ensures .1)
+
+few-at : (t : ℕ) (c : BothBuilt t) → length (start-of t (placed-at t (left-built t (c .before .before))) .args .src .now) ≤ 2 ^ 32
+few-at t c = start-of t (placed-at t (left-built t (c .before .before))) .pre .1 .1
 
 build-part-add-result : (t : ℕ) → build-part-lts.Need-add-result (build-part-callees t) (build-part-at t) build-part.Post
-build-part-add-result t c = counts-fit _ _ _ _ (counted-at t c) (c .before .before .before .before .before .before .before .before .before .before .before .before .before .before .before .before .before .before .before .before .pre .1 .1) .0
+build-part-add-result t c = counts-fit _ _ _ _ (counted-at t c) (few-at t c) .0
 
 build-part-add-result-2 : (t : ℕ) → build-part-lts.Need-add-result-2 (build-part-callees t) (build-part-at t) build-part.Post
-build-part-add-result-2 t c = counts-fit _ _ _ _ (counted-at t c) (c .before .before .before .before .before .before .before .before .before .before .before .before .before .before .before .before .before .before .before .before .pre .1 .1) .1
+build-part-add-result-2 t c = counts-fit _ _ _ _ (counted-at t c) (few-at t c) .1
 
 build-part-same-length : (t : ℕ) → build-part-lts.Need-same-length (build-part-callees t) (build-part-at t) build-part.Post
-build-part-same-length t c = slots-length (part-at t (c .before .before .before .before .before .before .before .before .before .before)) (left-at t (c .before .before .before .before .before .before .before)) (right-at t (c .before .before)) ∙ sym (c .before .before .before .before .before .before .before .before .before .before .before .before .before .before .before .before .before .before .before .before .pre .1 .0)
+build-part-same-length t c =
+    let l = left-built t (c .before .before) in
+    let p = placed-at t l in
+    slots-length (part-at t p) (left-at t l) (right-at t (c .before .before)) ∙ sym (start-of t p .pre .1 .0)
 
 build-part-same-length-2 : (t : ℕ) → build-part-lts.Need-same-length-2 (build-part-callees t) (build-part-at t) build-part.Post
-build-part-same-length-2 t c = rows-length (part-at t (c .before .before .before .before .before .before .before .before .before .before)) (left-at t (c .before .before .before .before .before .before .before)) (right-at t (c .before .before))
+build-part-same-length-2 t c =
+    let l = left-built t (c .before .before) in
+    rows-length (part-at t (placed-at t l)) (left-at t l) (right-at t (c .before .before))
 
 build-part-returns-2 : (t : ℕ) → build-part-lts.Need-returns-2 (build-part-callees t) (build-part-at t) build-part.Post
-build-part-returns-2 t c = (
-  part-laid (part-at t (c .before .before .before .before .before .before .before .before .before .before)) (left-at t (c .before .before .before .before .before .before .before)) (right-at t (c .before .before)),
-  (
-    part-cleared (part-at t (c .before .before .before .before .before .before .before .before .before .before)) (left-at t (c .before .before .before .before .before .before .before)) (right-at t (c .before .before)),
-    counted-at t c,
-  ),
-)
+build-part-returns-2 t c =
+    let l = left-built t (c .before .before) in
+    let p = part-at t (placed-at t l) in
+    (part-laid p (left-at t l) (right-at t (c .before .before)), (part-cleared p (left-at t l) (right-at t (c .before .before)), counted-at t c))
 
 pub +build-part-spec : {M : Type 1} → statement M
 +build-part-spec = close μ-build-part λ t. build-part-lts.spec (build-part-callees t)

@@ -24,6 +24,13 @@ Inv-loop table₀ work₀ result₀ out₀ area₀ piece₀ at₀ left₀ table 
 abbrev μ-loop : tie.MeasureT-loop
 μ-loop table₀ work₀ result₀ out₀ area₀ piece₀ at₀ left₀ table work result out area piece at left = left
 
+-- from where the bytes read are counted back to the read, and to the loop
+abbrev read-at : tie.After-count Inv-loop μ-loop → tie.After-read Inv-loop μ-loop
+read-at c = c .before .before .before .before
+
+abbrev loop-at : tie.After-count Inv-loop μ-loop → tie.At-loop Inv-loop μ-loop
+loop-at c = c .before .before .before .before .before .before .before .before .before
+
 loop-holds : tie.Need-loop-holds Inv-loop μ-loop
 loop-holds c =
     let a = c .before .before .before .before .args in
@@ -36,17 +43,20 @@ slice-aggregate-take-piece c = sym (length-take-le _ _ (omega arith))
 
 take-piece-requires : tie.Need-take-piece-requires Inv-loop μ-loop
 take-piece-requires c κs =
-    let l = c .before .before .before .before .before .before .before .before .before .before .before .before .before .before .before .before .loop in
-    let r = c .before .before .before .before .before .before .before .before .before .before .before .read in
-    let n = c .before .before .before .before .before .before .before .count in
+    let counted = c .before .before .before .before .before .before .before in
+    let n = counted .count in
+    let r = read-at counted .read in
+    let l = loop-at counted .loop in
     (search needs, search needs, search needs, omega (arith, l .inv .6, r .kept .1 .0, l .inv .5, length-take (n .result) (r .last .1 .0)))
 
 loop-again : tie.Need-loop-again Inv-loop μ-loop
 loop-again c =
-    let l = c .before .before .before .before .before .before .before .before .before .before .before .before .before .before .before .before .before .before .before .before .before .before .before .before .loop in
-    let r = c .before .before .before .before .before .before .before .before .before .before .before .before .before .before .before .before .before .before .before .read in
-    let n = c .before .before .before .before .before .before .before .before .before .before .before .before .before .before .before .count in
-    let t = c .before .before .before .before .before .before .before .take-piece in
+    let taken = c .before .before .before .before .before .before .before in
+    let t = taken .take-piece in
+    let counted = taken .before .before .before .before .before .before .before .before in
+    let n = counted .count in
+    let r = read-at counted .read in
+    let l = loop-at counted .loop in
     let piece = take (n .result) (r .last .1 .0) in
     let same : length (r .last .1 .0) ≡ length (l .piece) = r .kept .1 .0 in
     let more : t .result .number ≤ l .at .number + length piece = t .ensures .0 in (
@@ -56,7 +66,7 @@ loop-again c =
       search needs,
       search needs,
       omega (arith, same, l .inv .5),
-      omega (arith, l .inv .6, more, same, l .inv .5, length-take (n .result) (r .last .1 .0), c .before .before .before .before .before .before .before .before .before .before .before .before .before .before .before .before .before .before .before .before .before .before .before .before .before .before .before .before .before .pre .3),
+      omega (arith, l .inv .6, more, same, l .inv .5, length-take (n .result) (r .last .1 .0), loop-at counted .before .before .before .before .before .pre .3),
       piece-taken (lent (t .last .0) (t .last .1 .0) (t .last .1 .1 .0)) (t .last .1 .1 .1 .1 .0) piece (t .result) (l .inv .7) (t .ensures .1),
     )
 

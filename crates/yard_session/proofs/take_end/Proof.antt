@@ -19,11 +19,12 @@ returns c =
 
 returns-2 : tie.Need-returns-2
 returns-2 c =
-    let a = c .before .before .before .before .before .before .before .before .before .before .before .before .before .before .args in
-    let l = c .before .before .before .before .before .before .before .before .before .before .before .is-line in
+    let some = c .before .before .before .before .before .before .before .before .before .before in
+    let l = some .before .is-line in
+    let a = some .before .before .before .before .args in
     let e = c .before .before .before .before .before .end-line in (
       (omega (arith, e .ensures .0 .1), e .ensures .0 .2),
-      λ m st. ends-with _ (e .ensures .1 m st) (l .ensures (a .area .now) (m .pending) (m .yard .lines) (st .line-is) (st .number-is) ∙ ap (λ b. elim b [ true ↦ m .pending ∷ [] | false ↦ [] ]) (not-false (l .result) (c .before .before .before .before .before .before .before .before .before .before .if1 .left))) refl refl,
+      λ m st. ends-with _ (e .ensures .1 m st) (l .ensures (a .area .now) (m .pending) (m .yard .lines) (st .line-is) (st .number-is) ∙ ap (λ b. elim b [ true ↦ m .pending ∷ [] | false ↦ [] ]) (not-false (l .result) (some .if1 .left))) refl refl,
     )
 
 pub take-end-spec : {M : Type 1} → statement M

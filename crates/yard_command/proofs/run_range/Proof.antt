@@ -1,14 +1,14 @@
--- `yard_commands::run-range` meets its contract: the search, and its reply with the entries of the result area as bytes.
+-- `yard_command::run_range` meets its contract: the search, and its reply with the entries of the result area as bytes.
 use mathlib.Core.Path.{ap, ap₂, subst}
 use native.Mathlib.Omega.{arith}
 use Rattle.table_rules.specs.declared.Searched.{Searched}
 use Rattle.yard_rules.specs.Line.{letterW}
 use Rattle.yard_rules.specs.Reply.{searchText}
-use Rattle.yard_commands.proofs.Finding.{range-found}
+use Rattle.yard_command.proofs.Finding.{range-found}
 use Rattle.yard_reply.specs.Put.{Puts}
 use borrow.Author.Needs.{needs}
-use Rattle.yard_commands.proofs.run_range.Statement.{statement}
-use Rattle.yard_commands.proofs.run_range.Tie as tie
+use Rattle.yard_command.proofs.run_range.Statement.{statement}
+use Rattle.yard_command.proofs.run_range.Tie as tie
 
 put-searched-requires : tie.Need-put-searched-requires
 put-searched-requires c κs =

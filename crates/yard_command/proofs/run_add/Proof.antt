@@ -1,10 +1,10 @@
--- `yard_commands::run-add` meets its contract: the call, and its reply as bytes.
+-- `yard_command::run_add` meets its contract: the call, and its reply as bytes.
 use mathlib.Core.Path.{ap, subst}
 use Rattle.yard_rules.specs.Reply.{addText}
 use Rattle.yard_reply.specs.Put.{Puts}
 use borrow.Author.Needs.{needs}
-use Rattle.yard_commands.proofs.run_add.Statement.{statement}
-use Rattle.yard_commands.proofs.run_add.Tie as tie
+use Rattle.yard_command.proofs.run_add.Statement.{statement}
+use Rattle.yard_command.proofs.run_add.Tie as tie
 
 returns : tie.Need-returns
 returns c =

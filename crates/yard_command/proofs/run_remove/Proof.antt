@@ -1,10 +1,10 @@
--- `yard_commands::run-remove` meets its contract: the call, and its reply as bytes.
+-- `yard_command::run_remove` meets its contract: the call, and its reply as bytes.
 use mathlib.Core.Path.{ap, subst}
 use Rattle.yard_rules.specs.Reply.{removeText}
 use Rattle.yard_reply.specs.Put.{Puts}
 use borrow.Author.Needs.{needs}
-use Rattle.yard_commands.proofs.run_remove.Statement.{statement}
-use Rattle.yard_commands.proofs.run_remove.Tie as tie
+use Rattle.yard_command.proofs.run_remove.Statement.{statement}
+use Rattle.yard_command.proofs.run_remove.Tie as tie
 
 returns : tie.Need-returns
 returns c =
