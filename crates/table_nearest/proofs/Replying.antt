@@ -16,9 +16,8 @@ use Rattle.search_rules.specs.Range.{Entry, ordered}
 use Rattle.search_rules.specs.Nearest.{Tally}
 use Rattle.search_asked.specs.Asked.{askedOf, kAsked}
 use Rattle.tree_nearest.specs.declared.Nearby.{Nearby}
-use Rattle.tree_nearest.specs.Nearby.{boundOf, keptUnder, Leaves}
+use Rattle.tree_nearest.specs.Nearby.{keptUnder, Leaves}
 use Rattle.tree_nearest.proofs.Bounds.{under-bound}
-use Rattle.tree_nearest.proofs.Steps.{Fit}
 use Rattle.table_rules.specs.declared.Searched.{Searched}
 use Rattle.table_rules.specs.Refusals.{badMeasure, noCount, noRoom}
 use Rattle.table_rules.specs.Geometry.{room, headerRow, bucketsOf}
@@ -28,7 +27,7 @@ use Rattle.table_rules.specs.Passed.{Passed}
 use Rattle.table_rules.specs.Search.{bucketsDown, nearestTally, nearestAnswer, nearestRefusal, nearestReply, resultAfterNearest, zeroEntry}
 use Rattle.table_rules.proofs.Replies.{not-short, refused-search, held-search, short-search, nearest-stopped, nearest-measure, nearest-none, nearest-fits}
 use Rattle.table_rules.proofs.Keeping.{nearest-size}
-use Rattle.table_nearest.specs.Tallies.{noneKept, mostSlots, liveBelow, tallyBelow}
+use Rattle.table_nearest.specs.Tallies.{noneKept, liveBelow, tallyBelow}
 use Rattle.table_nearest.proofs.Searching.{tally-all, Grown, grown-below}
 
 module _ (t : Table) (area : List Entry) (query : Profile) (k : ℕ) where

@@ -2,7 +2,7 @@
 -- Each bucket has at most 4,096 slots, so the numbers fit; what they may report is what the area has room for.
 use Prim.Native.Nat.{ℕ, zero, suc, _+_, _*_, _≤_, _<_, _^_, min}
 use native.Mathlib.Omega.{arith}
-use mathlib.Core.Path.{_≡_, refl, sym, ap, ap₂, subst, _∙_}
+use mathlib.Core.Path.{_≡_, sym, ap, ap₂, subst, _∙_}
 use mathlib.Core.List.{List, [], map, foldl}
 use lib.ListN.{length, take}
 use Rattle.lists.specs.Lists.{total}
@@ -16,7 +16,7 @@ use Rattle.search_rules.specs.Nearest.{Tally, nearestTree}
 use Rattle.search_asked.specs.Asked.{askedOf, distanceAsked, queryAsked, kAsked}
 use Rattle.tree_nearest.specs.declared.Nearby.{Nearby}
 use Rattle.tree_nearest.specs.Nearby.{boundOf, keptUnder, tallyOf, Leaves, liveIn, Ready, nearestAsked}
-use Rattle.tree_nearest.proofs.Bounds.{Near, bound-below, under-free}
+use Rattle.tree_nearest.proofs.Bounds.{Near, bound-below, under-unbounded}
 use Rattle.tree_nearest.proofs.Steps.{Fit, Sound, short, sound-tree, leaves-as, leaves-same, ready-less, ready-fit, ready-few, ready-after, tally-after, leaves-then}
 use Rattle.table_rules.specs.Geometry.{room, bucketsOf, headerRow, firstSlot}
 use Rattle.table_rules.specs.Table.{Table, rowAt, orderOf, tableSpace, builtOf, slotsOf, liveSlots}
@@ -56,7 +56,7 @@ module _ (t : Table) where
 none-ready : (k live n : ℕ) (area : List Entry) → 0 < k → min k live ≤ length area → n < 2 ^ 32 → Ready k live n area (record { count = 0; bound = 2 ^ 32 })
 unfolding ordered sortBy
 none-ready k live n area some fits h =
-    let none : take (keptUnder k (2 ^ 32)) area ≡ [] = ap (λ (i : ℕ). take i area) (under-free k (2 ^ 32) (omega arith)) in
+    let none : take (keptUnder k (2 ^ 32)) area ≡ [] = ap (λ (i : ℕ). take i area) (under-unbounded k (2 ^ 32) (omega arith)) in
     record {
       held =
           record {
@@ -118,7 +118,7 @@ module _ (asked : List Row) (t : Table) where
       → Awaits n (tallyBelow asked t m noneKept) area area (record { count = 0; bound = 2 ^ 32 })
   unfolding room
   awaits-all p some n m e h area fits =
-      let same : tallyOf (kAsked asked) area (record { count = 0; bound = 2 ^ 32 }) ≡ noneKept = ap (λ (i : ℕ). record { kept = take i area; count = 0 }) (under-free (kAsked asked) (2 ^ 32) (omega arith)) in
+      let same : tallyOf (kAsked asked) area (record { count = 0; bound = 2 ^ 32 }) ≡ noneKept = ap (λ (i : ℕ). record { kept = take i area; count = 0 }) (under-unbounded (kAsked asked) (2 ^ 32) (omega arith)) in
       record {
         least = h;
         ready = none-ready (kAsked asked) (liveBelow t n) (mostSlots * n) area some (omega (arith, ap (liveBelow t) e)) (omega (arith, p .framed .order));

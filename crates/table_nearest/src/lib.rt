@@ -28,9 +28,9 @@ use table_rules::Searched;
 use table_views::HEADER_ROW;
 use table_views::order_in;
 use table_views::slots_of;
-use tree_nearest::FREE;
 use tree_nearest::Nearby;
-use tree_nearest::kept_of;
+use tree_nearest::UNBOUNDED;
+use tree_nearest::kept_under;
 use tree_nearest_tally::visited;
 
 // How many of these slots may be reported.
@@ -49,7 +49,7 @@ fn count_live(slots: &[Row]) -> usize
 }
 
 // How many slots of all buckets may be reported.
-fn count_table(table: &[Row], order: Order) -> usize
+fn count_all_live(table: &[Row], order: Order) -> usize
     requires { ⌜ (order .t ≡ orderOf (now table)) × Passed (now table) ⌝ }
     ensures { λ r. ⌜ r ≡ liveBelow (now (table .entry)) (suc (order .t)) ⌝ }
 {
@@ -70,7 +70,7 @@ fn reply_fits(table: &[Row], order: Order, k: u32, entries: usize) -> bool
     if k as usize <= entries {
         return true;
     }
-    count_table(table, order) <= entries
+    count_all_live(table, order) <= entries
 }
 
 // One bucket's slots, from what the buckets above it have kept, by way of the tally that is lent. An empty bucket is searched as no slots.
@@ -91,7 +91,7 @@ fn nearest_buckets(table: &[Row], order: Order, area: &mut [Entry], asked: &Aske
 {
     let mut near = Nearby {
         count: 0,
-        bound: FREE,
+        bound: UNBOUNDED,
     };
     let mut bucket = order.t + 1;
     while 0 < bucket {
@@ -122,5 +122,5 @@ pub fn nearest(table: &[Row], result: &mut [Entry], query: Profile, k: u32) -> S
     }
     let asked = asked_of(table[HEADER_ROW], query, k);
     let near = nearest_buckets(table, order, result, &asked);
-    accepted(result, kept_of(near.bound, k), near.count)
+    accepted(result, kept_under(near.bound, k), near.count)
 }

@@ -4,13 +4,13 @@ use Prim.Native.Nat.{ℕ, _+_, _-_, _≤_, _<_, _^_}
 use mathlib.Core.Path.{_≡_, refl, sym, ap, ap₂, _∙_}
 use mathlib.Core.Bool.{Bool, true, false, _||_, or-true}
 use mathlib.Core.List.{List, [], _∷_, _++_, foldl}
-use lib.ListN.{length, take, getD, length-take, take-append-drop, drop}
+use lib.ListN.{length, getD, length-take, take-append-drop, drop}
 use lib.Dec.{leb, ltb}
 use borrow.Author.Tests.{lt-ltb, le-ltb, le-leb, lt-leb}
 use native.Mathlib.Decide.{decLe}
 use native.Mathlib.Omega.{arith}
 use Rattle.lists.specs.Lists.{All}
-use Rattle.search_rules.specs.Range.{Entry, entryDistance, ordered, entersLeft}
+use Rattle.search_rules.specs.Range.{Entry, entryDistance, entersLeft}
 use Rattle.search_rules.specs.Nearest.{worst, opens}
 use Rattle.tree_nearest.specs.Nearby.{boundOf, keptUnder, keptOf, Held, inFront}
 
@@ -51,9 +51,9 @@ module _ (k : ℕ) where
   unfolding keptUnder
   under-worst bound h = ap (λ (b : Bool). elim b [ true ↦ k | false ↦ bound - 2 ^ 32 ]) (lt-ltb bound (2 ^ 32) h)
 
-  pub under-free : (bound : ℕ) → 2 ^ 32 ≤ bound → keptUnder k bound ≡ bound - 2 ^ 32
+  pub under-unbounded : (bound : ℕ) → 2 ^ 32 ≤ bound → keptUnder k bound ≡ bound - 2 ^ 32
   unfolding keptUnder
-  under-free bound h = ap (λ (b : Bool). elim b [ true ↦ k | false ↦ bound - 2 ^ 32 ]) (le-ltb bound (2 ^ 32) h)
+  under-unbounded bound h = ap (λ (b : Bool). elim b [ true ↦ k | false ↦ bound - 2 ^ 32 ]) (le-ltb bound (2 ^ 32) h)
 
   -- the entries' own bound tells their number
   pub under-bound : (es : List Entry) → length es ≤ k → Near es → keptUnder k (boundOf k es) ≡ length es
@@ -61,7 +61,7 @@ module _ (k : ℕ) where
     where
       go : Dec (k ≤ length es) → keptUnder k (boundOf k es) ≡ length es
       go (yes full) = under-worst (boundOf k es) (omega (arith, bound-full es full, worst-near es n)) ∙ omega arith
-      go (no below) = under-free (boundOf k es) (omega (arith, bound-below es (omega arith))) ∙ omega (arith, bound-below es (omega arith))
+      go (no below) = under-unbounded (boundOf k es) (omega (arith, bound-below es (omega arith))) ∙ omega (arith, bound-below es (omega arith))
 
   -- a test on a and b is one on the excess of a over b, which is within the bound or beyond it
   module _ (a b : ℕ) where
@@ -93,7 +93,7 @@ module _ {k : ℕ} {area : List Entry} {bound : ℕ} (h : Held k area bound) whe
     where
       go : Dec (2 ^ 32 ≤ bound) → Dec (k ≤ length (keptOf k area bound)) → length (keptOf k area bound) ≡ keptUnder k bound
       go (yes free) (yes full) = absurd (omega (arith, h .bound-is, bound-full k (keptOf k area bound) full, worst-near (keptOf k area bound) (h .near)))
-      go (yes free) (no below) = omega (arith, h .bound-is, bound-below k (keptOf k area bound) (omega arith), under-free k bound free)
+      go (yes free) (no below) = omega (arith, h .bound-is, bound-below k (keptOf k area bound) (omega arith), under-unbounded k bound free)
       go (no worst′) (yes full) = omega (arith, length-take (keptUnder k bound) area, under-worst k bound (omega arith))
       go (no worst′) (no below) = absurd (omega (arith, h .bound-is, bound-below k (keptOf k area bound) (omega arith)))
 
@@ -121,7 +121,7 @@ module _ {k : ℕ} {area : List Entry} {bound : ℕ} (h : Held k area bound) whe
   held-bound = go (decLe (2 ^ 32) bound)
     where
       go : Dec (2 ^ 32 ≤ bound) → bound < 2 ^ 32 + k
-      go (yes free) = omega (arith, held-below free, under-free k bound free)
+      go (yes free) = omega (arith, held-below free, under-unbounded k bound free)
       go (no worst′) = omega arith
 
   pub held-inside : keptUnder k bound ≤ length area

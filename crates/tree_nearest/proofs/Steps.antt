@@ -1,6 +1,6 @@
 -- Steps of a nearest search on an area, one after the other: each starts from what the one before left, and both leave what the two definitions give.
 -- Entries kept only grow in number, stay in order and fit 32 bits, so the area's front and the bound always stand for a tally.
-use Prim.Native.Nat.{ℕ, zero, suc, _+_, _-_, _/_, _≤_, _<_, _^_, min}
+use Prim.Native.Nat.{ℕ, zero, suc, _+_, _-_, _/_, _≤_, _<_, _^_}
 use mathlib.Core.Path.{_≡_, refl, sym, ap, ap₂, subst, _∙_}
 use mathlib.Core.Bool.{Bool, true, false}
 use mathlib.Core.List.{List, [], _∷_, _++_, Permᴰ·symm}
@@ -9,7 +9,7 @@ use lib.Seq.{take-append-seam, drop-append-add, drop-drop}
 use lib.Dec.{leb}
 use borrow.Author.Tests.{le-leb, lt-leb}
 use native.Mathlib.Omega.{arith}
-use Rattle.lists.specs.Lists.{All, select}
+use Rattle.lists.specs.Lists.{select}
 use Rattle.lists.proofs.Lists.{all-take, all-perm, pairs-take}
 use Rattle.metric_rules.specs.declared.Profile.{Profile}
 use Rattle.metric_rules.specs.Row.{Row, thresholdOf}
@@ -25,7 +25,7 @@ use Rattle.search_rules.proofs.Selecting.{select-append, select-all}
 use Rattle.search_asked.specs.Asked.{distanceAsked}
 use Rattle.tree_nearest.specs.declared.Nearby.{Nearby}
 use Rattle.tree_nearest.specs.Nearby.{boundOf, keptOf, inFront, tallyOf, Leaves, liveIn, Ready, takenAt, nearInHalves}
-use Rattle.tree_nearest.proofs.Bounds.{Near, under-bound, opens-always, opens-within, shut-beyond, held-size, held-few, held-front}
+use Rattle.tree_nearest.proofs.Bounds.{Near, under-bound, opens-always, opens-within, shut-beyond, held-few, held-front}
 
 -- every distance fits 32 bits
 pub short : (asked : List Row) (p q : Profile) → distanceAsked asked p q < 2 ^ 32

@@ -14,11 +14,11 @@ use Rattle.metric_rules.specs.Row.{Row, tagOf}
 use Rattle.tree_rules.specs.Sorting.{keyLe, insertBy, sortBy}
 use Rattle.tree_rules.proofs.Sorting.{NotAfter, key-le-differ, insert-perm, insert-append}
 use Rattle.search_rules.specs.Range.{Entry, entry, entryDistance, entryKey, ordered}
-use Rattle.search_rules.specs.Nearest.{Tally, keep, worst}
+use Rattle.search_rules.specs.Nearest.{keep, worst}
 use Rattle.entries.proofs.Inserting.{sorted-of-ordered, front-ordered, insert-split, before-last}
 use Rattle.tree_nearest.specs.declared.Nearby.{Nearby}
 use Rattle.tree_nearest.specs.Nearby.{boundOf, keptUnder, keptOf, Held, inFront, tallyOf, nearbyOf, takenAt}
-use Rattle.tree_nearest.proofs.Bounds.{worst-last, bound-below, bound-full, under-worst, under-free, held-size, held-few, held-worst, held-below, held-inside, held-front}
+use Rattle.tree_nearest.proofs.Bounds.{worst-last, bound-below, bound-full, under-worst, under-unbounded, held-size, held-worst, held-below, held-inside, held-front}
 
 module _ {k : ℕ} {area : List Entry} {bound : ℕ} (h : Held k area bound) (new : Entry) where
   kept : List Entry
@@ -53,7 +53,7 @@ module _ {k : ℕ} {area : List Entry} {bound : ℕ} (h : Held k area bound) (ne
           in-front = h .in-order;
           fewer = held-below h free;
           then = keep-in-order ∙ take-all k (insertBy entryKey new kept) (omega (arith, inserted-size, held-below h free));
-          next = λ _. omega (arith, under-free k bound free);
+          next = λ _. omega (arith, under-unbounded k bound free);
         }
 
   module _ (full : bound < 2 ^ 32) where

@@ -1,4 +1,5 @@
--- What a nearest search hands on from step to step: two numbers, while the entries kept stand in order at the front of the area.
+-- What a nearest search hands on from step to step (01, "Searching": "The running count and the kept bound pass through every step"): two numbers, while
+-- the entries kept stand in order at the front of the area.
 use Prim.Native.Nat.{ℕ, suc, _+_, _-_, _≤_, _<_, _^_, min}
 use mathlib.Core.Path.{_≡_}
 use mathlib.Core.Bool.{Bool, true, false}

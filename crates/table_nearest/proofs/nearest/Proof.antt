@@ -134,12 +134,12 @@ module _ (c : tie.After-nearest-buckets) where
       (c .before .before .before .asked-of .result) (c .before .before .before .asked-of .ensures) _ (c .nearest-buckets .result) (c .nearest-buckets .ensures) found f same
 
 accepted-requires : tie.Need-accepted-requires
-accepted-requires c κs = numbers (c .before .before .before) (c .kept-of .result) (c .kept-of .ensures)
+accepted-requires c κs = numbers (c .before .before .before) (c .kept-under .result) (c .kept-under .ensures)
 
 returns-5 : tie.Need-returns-5
 returns-5 c =
     let kept = c .before .before in
-    let a = answer (kept .before .before .before) (kept .kept-of .result) (kept .kept-of .ensures) in
+    let a = answer (kept .before .before .before) (kept .kept-under .result) (kept .kept-under .ensures) in
     (c .before .accepted .ensures .0 ∙ a .0, c .before .accepted .ensures .1 ∙ a .1)
 
 pub nearest-spec : {M : Type 1} → statement M

@@ -24,7 +24,7 @@ decided k n entries h = go (leb n entries) refl
 returns-2 : tie.Need-returns-2
 returns-2 c =
     let a = c .before .before .args in
-    ap (λ (n : ℕ). leb n (a .entries)) (c .count-table .ensures)
+    ap (λ (n : ℕ). leb n (a .entries)) (c .count-all-live .ensures)
     ∙ decided (a .k) (liveBelow (a .table .now) (suc (a .order .t))) (a .entries) (c .before .if1 .left)
 
 pub reply-fits-spec : {M : Type 1} → statement M

@@ -1,6 +1,6 @@
 -- A slot's own item and then its halves leave what the tree's definition says, and the half on the query's side and then the other what the halves' does.
 -- The measures are twice the slots' number, and one more for the halves. Assumes nothing.
-use Prim.Native.Nat.{ℕ, _+_, _-_, _*_, _/_, _≤_, _<_, _^_}
+use Prim.Native.Nat.{ℕ, _+_, _-_, _*_, _/_, _≤_, _<_}
 use mathlib.Core.Path.{_≡_, refl, sym, ap, subst, _∙_}
 use mathlib.Core.Bool.{Bool, true, false, _&&_}
 use mathlib.Core.Logic.{⊎-elim, _⊎_, inl, inr}
@@ -11,9 +11,9 @@ use lib.Dec.{leb, ltb}
 use Rattle.lists.proofs.Tests.{and-first, and-second}
 use borrow.Fn.Kinds.{In}
 use borrow.Fn.PlainCycle.{Measures, is, falls, and}
-use mathlib.Core.List.{List, [], _∷_}
+use mathlib.Core.List.{[], _∷_}
 use lib.ListN.{length, take, drop, getD, length-take, length-drop}
-use Rattle.metric_rules.specs.Row.{Row, isLive}
+use Rattle.metric_rules.specs.Row.{isLive}
 use Rattle.search_rules.specs.Range.{toQuery}
 use Rattle.search_asked.specs.Asked.{distanceAsked, queryAsked, kAsked}
 use Rattle.tree_nearest.specs.Nearby.{tallyOf, Leaves, liveIn, Ready, takenAt, nearestAsked}
@@ -27,7 +27,6 @@ use Rattle.tree_nearest.proofs.+nearest_halves+nearest_tree.Lts-nearest
 use Rattle.metric.proofs.distance_between.Reads as distance-between-reads
 use Rattle.tree_nearest.proofs.excess.Reads as excess-reads
 use Rattle.tree_nearest.proofs.take_in.Reads as take-in-reads
-use Rattle.tree_nearest.proofs.within.Reads as within-reads
 use Rattle.rows.proofs.threshold_of.Reads as threshold-of-reads
 use Rattle.tree_nearest.proofs.+nearest_halves+nearest_tree.{statement}
 use Rattle.tree_nearest.proofs.+nearest_halves+nearest_tree.Tie.{close}
@@ -67,7 +66,7 @@ nearest-tree-below t =
     nearest-tree.Pre
 
 abbrev nearest-halves-callees : ℕ → nearest-halves-lts.Claims
-nearest-halves-callees t = (nearest-tree-below t, nearest-tree.Post, excess-reads.Asked, excess-reads.Learnt, within-reads.Asked, within-reads.Learnt)
+nearest-halves-callees t = (nearest-tree-below t, nearest-tree.Post, excess-reads.Asked, excess-reads.Learnt)
 
 abbrev nearest-tree-callees : ℕ → nearest-tree-lts.Claims
 nearest-tree-callees t = (distance-between-reads.Asked, distance-between-reads.Learnt, threshold-of-reads.Asked, threshold-of-reads.Learnt, take-in-reads.Asked, take-in-reads.Learnt, nearest-halves-below t, nearest-halves.Post)
@@ -102,24 +101,25 @@ nearest-halves-nearest-tree-requires t c κs =
     (omega (arith, s .pre .0, size), (omega (arith, size, c .before .before .before .if1 .left), ready-less (omega arith) (omega arith) (near-ready t s)))
 
 -- the test on the far half, as facts: it has slots and its gap is within the bound, or not
-passes : (l n gap bound : ℕ) (w : Bool) → w ≡ leb gap bound → ltb l n && w ≡ true → (l < n) × (gap ≤ bound)
-passes l n gap bound w e h = (ltb-true l n (and-first (ltb l n) w h), leb-true gap bound (sym e ∙ and-second (ltb l n) w h))
+passes : (l n gap bound : ℕ) → ltb l n && leb gap bound ≡ true → (l < n) × (gap ≤ bound)
+passes l n gap bound h = (ltb-true l n (and-first (ltb l n) (leb gap bound) h), leb-true gap bound (and-second (ltb l n) (leb gap bound) h))
 
-fails : (l n gap bound : ℕ) (w : Bool) → w ≡ leb gap bound → ltb l n && w ≡ false → (n ≤ l) ⊎ (bound < gap)
-fails l n gap bound w e h = go (ltb l n) refl h
+fails : (l n gap bound : ℕ) → ltb l n && leb gap bound ≡ false → (n ≤ l) ⊎ (bound < gap)
+fails l n gap bound h = go (ltb l n) refl h
   where
-    go : (b : Bool) → ltb l n ≡ b → b && w ≡ false → (n ≤ l) ⊎ (bound < gap)
-    go true f g = inr (leb-false gap bound (sym e ∙ g))
+    go : (b : Bool) → ltb l n ≡ b → b && leb gap bound ≡ false → (n ≤ l) ⊎ (bound < gap)
+    go true f g = inr (leb-false gap bound g)
     go false f g = inl (ltb-false l n f)
 
 nearest-halves-nearest-tree-requires-2 : (t : ℕ) → nearest-halves-lts.Need-nearest-tree-requires-2 (nearest-halves-callees t) (nearest-halves-at t) nearest-halves.Post
 nearest-halves-nearest-tree-requires-2 t c κs =
     let test = c .before .before in
-    let call = test .before .before .before .before in
+    let gap = test .before .before in
+    let call = gap .before .before in
     let s = call .before .before .before .before .before in
     let a = s .args in
     let size : length (rightHalf (a .rest .now)) ≡ length (a .rest .now) / 2 = simp (length-take, length-drop) (omega arith) in
-    let open′ = passes (length (a .rest .now) - length (a .rest .now) / 2) (length (a .rest .now)) (test .before .before .excess .result) (call .nearest-tree .result .bound) (test .before .within .result) (test .before .within .ensures) (test .if3 .taken) in (
+    let open′ = passes (length (a .rest .now) - length (a .rest .now) / 2) (length (a .rest .now)) (gap .excess .result) (call .nearest-tree .result .bound) (test .if3 .taken) in (
       omega (arith, s .pre .0, size),
       (
         omega (arith, size, open′ .0),
@@ -180,7 +180,7 @@ nearest-halves-returns-2 t c =
     let k = kAsked (a .asked .now) in
     let dist = distanceAsked (a .asked .now) in
     let query = queryAsked (a .asked .now) in
-    let open′ = passes (length (a .rest .now) - length (a .rest .now) / 2) (length (a .rest .now)) (test .before .before .excess .result) (call .nearest-tree .result .bound) (test .before .within .result) (test .before .within .ensures) (test .if3 .taken) in
+    let open′ = passes (length (a .rest .now) - length (a .rest .now) / 2) (length (a .rest .now)) (gap .excess .result) (call .nearest-tree .result .bound) (test .if3 .taken) in
     leaves-as k (a .area .now) _ _ (halves-near dist query isLive k (a .d) (a .m) (a .rest .now) (tallyOf k (a .area .now) (a .near)) (side .if2 .taken))
     (second-within dist query isLive k (short (a .asked .now)) (leftHalf (a .rest .now)) (rightHalf (a .rest .now)) (a .m) (a .d) (s .fits .m .fits) (near-ready t s) (call .nearest-tree .ensures)
     (gap .excess .result) (gap .excess .ensures) (open′ .1) _ _ (c .before .nearest-tree2 .ensures))
@@ -202,7 +202,7 @@ nearest-halves-returns-3 t c =
     (⊎-elim
     (λ none. second-none dist query isLive k (short (a .asked .now)) (leftHalf (a .rest .now)) (rightHalf (a .rest .now)) (a .m) (a .d) (s .fits .m .fits) (near-ready t s) (call .nearest-tree .ensures) (simp (length-take, length-drop) (omega (arith, none))))
     (λ far. second-far dist query isLive k (short (a .asked .now)) (leftHalf (a .rest .now)) (rightHalf (a .rest .now)) (a .m) (a .d) (s .fits .m .fits) (near-ready t s) (call .nearest-tree .ensures) (gap .excess .result) (gap .excess .ensures) far)
-    (fails (length (a .rest .now) - length (a .rest .now) / 2) (length (a .rest .now)) (gap .excess .result) (call .nearest-tree .result .bound) (c .before .within .result) (c .before .within .ensures) (c .if3 .left)))
+    (fails (length (a .rest .now) - length (a .rest .now) / 2) (length (a .rest .now)) (gap .excess .result) (call .nearest-tree .result .bound) (c .if3 .left)))
 
 nearest-halves-same-length-3 : (t : ℕ) → nearest-halves-lts.Need-same-length-3 (nearest-halves-callees t) (nearest-halves-at t) nearest-halves.Post
 nearest-halves-same-length-3 t c = c .before .nearest-tree4 .kept .1 .1 .0 ∙ right-length t (c .before .before .before .before .before .before .before)
@@ -219,7 +219,7 @@ nearest-halves-returns-4 t c =
     let query = queryAsked (a .asked .now) in
     leaves-as k (a .area .now) _ _ (halves-far dist query isLive k (a .d) (a .m) (a .rest .now) (tallyOf k (a .area .now) (a .near)) (joined .before .if2 .left))
     (second-within dist query isLive k (short (a .asked .now)) (rightHalf (a .rest .now)) (leftHalf (a .rest .now)) (a .d) (a .m) (s .fits .d .fits) (far-ready t s) (right-left t joined)
-    (gap .excess2 .result) (gap .excess2 .ensures) (leb-true (gap .excess2 .result) (joined .if4 .met .bound) (sym (test .before .within2 .ensures) ∙ test .if5 .taken)) _ _ (c .before .nearest-tree4 .ensures))
+    (gap .excess2 .result) (gap .excess2 .ensures) (omega (arith, test .if5 .taken)) _ _ (c .before .nearest-tree4 .ensures))
 
 nearest-halves-returns-5 : (t : ℕ) → nearest-halves-lts.Need-returns-5 (nearest-halves-callees t) (nearest-halves-at t) nearest-halves.Post
 nearest-halves-returns-5 t c =
@@ -232,7 +232,7 @@ nearest-halves-returns-5 t c =
     let query = queryAsked (a .asked .now) in
     leaves-as k (a .area .now) _ _ (halves-far dist query isLive k (a .d) (a .m) (a .rest .now) (tallyOf k (a .area .now) (a .near)) (joined .before .if2 .left))
     (second-far dist query isLive k (short (a .asked .now)) (rightHalf (a .rest .now)) (leftHalf (a .rest .now)) (a .d) (a .m) (s .fits .d .fits) (far-ready t s) (right-left t joined)
-    (gap .excess2 .result) (gap .excess2 .ensures) (leb-false (gap .excess2 .result) (joined .if4 .met .bound) (sym (c .before .within2 .ensures) ∙ c .if5 .left)))
+    (gap .excess2 .result) (gap .excess2 .ensures) (omega (arith, c .if5 .left)))
 
 -- what taking the first slot's item in left, its k being the one that is asked
 own-left : (t : ℕ) (c : nearest-tree-lts.After-take-in (nearest-tree-callees t) (nearest-tree-at t) nearest-tree.Post) → (let k = c .before .before in
@@ -288,11 +288,11 @@ pub +nearest-halves+nearest-tree-spec : {M : Type 1} → statement M
     (λ c. search needs)
     (λ c. simp length-take (omega arith))
     (nearest-halves-nearest-tree-requires t)
-    (λ c κs. search needs) (λ c κs. search needs) (λ c. search needs) (λ c. search needs) (λ c. search needs) (λ c. search needs)
+    (λ c κs. search needs) (λ c. search needs) (λ c. search needs) (λ c. search needs) (λ c. search needs)
     (nearest-halves-nearest-tree-requires-2 t)
     (λ c. search needs) (λ c. search needs) (λ c. search needs) (λ c. search needs)
     (nearest-halves-nearest-tree-requires-3 t)
-    (λ c κs. search needs) (λ c κs. search needs)
+    (λ c κs. search needs)
     (λ c. simp length-take (omega arith))
     (nearest-halves-nearest-tree-requires-4 t)
     (nearest-halves-same-length t)

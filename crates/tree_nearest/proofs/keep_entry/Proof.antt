@@ -18,21 +18,21 @@ use Rattle.tree_nearest.proofs.keep_entry.Statement.{statement}
 use Rattle.tree_nearest.proofs.keep_entry.Tie as tie
 
 -- with k kept there is a last one, and it stands in the area
-last-some : (c : tie.Then1) → 0 < c .before .kept-of .result
+last-some : (c : tie.Then1) → 0 < c .before .kept-under .result
 last-some c =
     let start = c .before .before in
-    omega (arith, c .before .kept-of .ensures, under-worst (start .args .k) (start .args .bound) (c .if1 .taken), start .pre .0 .some)
+    omega (arith, c .before .kept-under .ensures, under-worst (start .args .k) (start .args .bound) (c .if1 .taken), start .pre .0 .some)
 
-last-inside : (c : tie.Then1) → c .before .kept-of .result - 1 < length (c .before .before .args .area .now)
-last-inside c = omega (arith, last-some c, c .before .kept-of .ensures, held-inside (c .before .before .pre .0))
+last-inside : (c : tie.Then1) → c .before .kept-under .result - 1 < length (c .before .before .args .area .now)
+last-inside c = omega (arith, last-some c, c .before .kept-under .ensures, held-inside (c .before .before .pre .0))
 
 -- its order beside the last of k, as the definition has it
-by-last : (c : tie.After-kept-of) (b : Bool) → (let a = c .before .args in
-    b ≡ keyLe (entryKey (a .new)) (entryKey (getD (a .area .now) (c .kept-of .result - 1) []))
+by-last : (c : tie.After-kept-under) (b : Bool) → (let a = c .before .args in
+    b ≡ keyLe (entryKey (a .new)) (entryKey (getD (a .area .now) (c .kept-under .result - 1) []))
     → keyLe (entryKey (a .new)) (entryKey (getD (a .area .now) (keptUnder (a .k) (a .bound) - 1) [])) ≡ b)
 by-last c b e =
     let a = c .before .args in
-    ap (λ (n : ℕ). keyLe (entryKey (a .new)) (entryKey (getD (a .area .now) (n - 1) []))) (sym (c .kept-of .ensures)) ∙ sym e
+    ap (λ (n : ℕ). keyLe (entryKey (a .new)) (entryKey (getD (a .area .now) (n - 1) []))) (sym (c .kept-under .ensures)) ∙ sym e
 
 returns : tie.Need-returns
 returns c =
@@ -47,7 +47,7 @@ puts c =
     let start = c .before .before in
     let a = start .args in
     let P : ℕ → Type 0 = Puts (start .pre .0) (a .new) in
-    let n = c .before .kept-of .ensures in
+    let n = c .before .kept-under .ensures in
     ⊎-elim
     (λ w. subst P (sym (w .4 ∙ ap (λ (i : ℕ). i - 1) n)) (puts-worst (start .pre .0) (a .new) (w .0 .taken) (by-last (c .before) _ (w .2 .ensures) ∙ not-false _ (w .3 .left))))
     (λ w. subst P (sym (w .1 ∙ n)) (puts-more (start .pre .0) (a .new) (start .pre .1) (w .0 .left)))
@@ -69,7 +69,7 @@ returns-2 c =
     let joined = call .before .before in
     let start = joined .before .before in
     let p = puts joined in
-    (put-below (start .pre .0) (start .args .new) p _ (call .insert-entry .ensures) (c .if3 .taken), put-front (start .pre .0) (start .args .new) p _ (call .insert-entry .ensures))
+    (put-below (start .pre .0) (start .args .new) p _ (call .insert-entry .ensures) (omega (arith, c .if3 .taken)), put-front (start .pre .0) (start .args .new) p _ (call .insert-entry .ensures))
 
 -- the place where it was put last stays in the area
 end-inside : (c : tie.After-insert-entry) → c .before .before .if1 .end < length (c .insert-entry .last .0)
@@ -81,7 +81,7 @@ returns-3 c =
     let joined = call .before .before in
     let start = joined .before .before in
     let p = puts joined in
-    (put-full (start .pre .0) (start .args .new) p _ (call .insert-entry .ensures) (c .before .if3 .left), put-front (start .pre .0) (start .args .new) p _ (call .insert-entry .ensures))
+    (put-full (start .pre .0) (start .args .new) p _ (call .insert-entry .ensures) (omega (arith, c .before .if3 .left)), put-front (start .pre .0) (start .args .new) p _ (call .insert-entry .ensures))
 
 pub keep-entry-spec : {M : Type 1} → statement M
 keep-entry-spec =

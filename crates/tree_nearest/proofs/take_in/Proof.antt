@@ -1,14 +1,13 @@
 -- An item beyond the bound, or one that is not live, only moves the count; any other is kept in its order. Assumes nothing.
 use Prim.Native.Nat.{ℕ}
 use mathlib.Core.Path.{_≡_, sym, ap, _∙_}
-use mathlib.Core.Bool.{Bool, true, false}
-use mathlib.Core.List.{List, [], _∷_}
+use mathlib.Core.Bool.{true}
+use mathlib.Core.List.{[], _∷_}
 use native.Mathlib.Omega.{arith}
 use borrow.Author.Needs.{needs}
 use borrow.Author.Tests.{not-true, not-false}
-use Rattle.metric_rules.specs.Row.{Row, isLive}
+use Rattle.metric_rules.specs.Row.{isLive}
 use Rattle.search_rules.specs.Range.{entry}
-use Rattle.tree_nearest.specs.Nearby.{liveIn}
 use Rattle.tree_nearest.proofs.TakingIn.{taken-far, taken-dead, taken-live}
 use Rattle.tree_nearest.proofs.Steps.{live-one}
 use Rattle.tree_nearest.proofs.take_in.Statement.{statement}

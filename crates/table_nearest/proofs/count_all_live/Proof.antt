@@ -11,8 +11,8 @@ use Rattle.table_rules.specs.Table.{slotsOf}
 use Rattle.table_rules.proofs.Down.{few-slots}
 use Rattle.table_nearest.specs.Tallies.{liveBelow}
 use Rattle.table_nearest.proofs.Searching.{live-next, live-none, slots-inside}
-use Rattle.table_nearest.proofs.count_table.Statement.{statement}
-use Rattle.table_nearest.proofs.count_table.Tie as tie
+use Rattle.table_nearest.proofs.count_all_live.Statement.{statement}
+use Rattle.table_nearest.proofs.count_all_live.Tie as tie
 
 abbrev Inv-loop : tie.InvT-loop
 Inv-loop table order found₀ bucket₀ found bucket =
@@ -62,8 +62,8 @@ returns c =
     let none-left : l .bucket ≡ 0 = omega arith in
     omega (arith, l .inv .1, ap (liveBelow t) none-left, live-none t)
 
-pub count-table-spec : {M : Type 1} → statement M
-count-table-spec =
+pub count-all-live-spec : {M : Type 1} → statement M
+count-all-live-spec =
     tie.close
     (tie.spec
     Inv-loop
