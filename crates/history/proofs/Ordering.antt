@@ -3,7 +3,7 @@
 use Prim.Native.Nat.{ℕ}
 use mathlib.Core.List.{List, [], _∷_, foldl}
 use Rattle.metric_rules.specs.declared.Profile.{Profile}
-use Rattle.metric_rules.specs.Row.{isLive}
+use Rattle.metric_rules.specs.Row.{queryRow, mayReport}
 use Rattle.metric_rules.specs.Distance.{distance}
 use Rattle.search_rules.specs.Range.{Ascending, ordered}
 use Rattle.search_rules.specs.Nearest.{Tally, keep, nearestTree}
@@ -19,9 +19,9 @@ module _ (t : Table) (query : Profile) where
   range-ascends radius = ordered-ascends _
 
   buckets-ascend : (k : ℕ) (bs : List ℕ) (u : Tally) → Ascending (u .kept)
-      → Ascending (foldl (λ tally b. nearestTree (distance (tableSpace t)) query isLive k tally (slotsOf t b)) u bs .kept)
+      → Ascending (foldl (λ tally b. nearestTree (distance (tableSpace t)) query (mayReport (queryRow query k)) k tally (slotsOf t b)) u bs .kept)
   buckets-ascend k [] u here = here
-  buckets-ascend k (b ∷ bs) u here = buckets-ascend k bs _ (nearest-ascends (distance (tableSpace t)) query isLive k u (slotsOf t b) here)
+  buckets-ascend k (b ∷ bs) u here = buckets-ascend k bs _ (nearest-ascends (distance (tableSpace t)) query (mayReport (queryRow query k)) k u (slotsOf t b) here)
 
   pub answer-ascends : (k : ℕ) → Ascending (nearestAnswer t query k .entries)
   unfolding nearestAnswer nearestTally

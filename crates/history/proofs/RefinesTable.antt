@@ -7,7 +7,7 @@ use native.Mathlib.Omega.{arith}
 use Rattle.lists.specs.Lists.{All}
 use Rattle.lists.proofs.Lists.{all-weaken, all-perm, perm-map}
 use Rattle.metric_rules.specs.declared.Profile.{Profile}
-use Rattle.metric_rules.specs.Row.{isLive}
+use Rattle.metric_rules.specs.Row.{queryRow, mayReport}
 use Rattle.metric_rules.specs.Distance.{distance}
 use Rattle.metric_rules.proofs.Laws.{distance-metric}
 use Rattle.search_rules.specs.Range.{Entry, ordered, entryOf}
@@ -45,13 +45,13 @@ module _ {t : Table} (invariant : Invariant t) where
   pub range-scans : (q : Profile) (r : ℕ) → rangeAnswer t q r .entries ≡ ordered (within r (liveEntries t q))
   unfolding rangeAnswer rangeMet liveItems liveSlots
   range-scans q r =
-      ap ordered (range-buckets (distance (tableSpace t)) q (distance-metric (tableSpace t)) isLive (slotsOf t) r (bucketsDown t) searched-down)
+      ap ordered (range-buckets (distance (tableSpace t)) q (distance-metric (tableSpace t)) (mayReport (queryRow q r)) (slotsOf t) r (bucketsDown t) searched-down)
       ∙ within-permuted r (down-live q) (entry-pairs (distance (tableSpace t)) q (liveItems t (bucketsDown t)))
 
   pub nearest-scans : (q : Profile) (k : ℕ) → nearestAnswer t q k .entries ≡ keep k (liveEntries t q)
   unfolding nearestAnswer nearestTally liveItems liveSlots
   nearest-scans q k =
-      nearest-buckets (distance (tableSpace t)) q (distance-metric (tableSpace t)) isLive (slotsOf t) k (bucketsDown t) searched-down
+      nearest-buckets (distance (tableSpace t)) q (distance-metric (tableSpace t)) (mayReport (queryRow q k)) (slotsOf t) k (bucketsDown t) searched-down
       (record { kept = []; count = 0 })
       (record { pairs = tt; sorted = tt; few = omega arith })
       ∙ keep-permuted k (down-live q) (entry-pairs (distance (tableSpace t)) q (liveItems t (bucketsDown t)))

@@ -1,4 +1,4 @@
--- The frame test by its three tests, and what a refusal is behind a frame that stands. Assumes nothing.
+-- The frame test by its three tests, and what a refusal is behind a frame that stands.
 use Prim.Native.Nat.{ℕ, _<_}
 use native.Mathlib.Omega.{arith}
 use mathlib.Core.Path.{_≡_, refl, _∙_, ap}

@@ -8,13 +8,13 @@ use mathlib.Core.List.{List, _++_}
 use lib.ListN.{length, take, drop, replicate}
 use lib.Seq.{take-append-seam}
 use Rattle.metric_rules.specs.declared.Profile.{Profile}
-use Rattle.metric_rules.specs.Row.{Row, IsProfile}
+use Rattle.metric_rules.specs.Row.{Row, IsProfile, queryRow, mayReport}
 use Rattle.metric_rules.proofs.Codec.{threshold-of-row}
 use Rattle.metric_rules.specs.Validity.{validMeasures}
 use Rattle.tree_rules.specs.Sorting.{sortBy}
 use Rattle.search_rules.specs.Range.{Entry, ordered}
 use Rattle.search_rules.specs.Nearest.{Tally}
-use Rattle.search_asked.specs.Asked.{askedOf, kAsked}
+use Rattle.search_asked.specs.Asked.{askedOf, reportsAsked, kAsked}
 use Rattle.tree_nearest.specs.declared.Nearby.{Nearby}
 use Rattle.tree_nearest.specs.Nearby.{keptUnder, Leaves}
 use Rattle.tree_nearest.proofs.Bounds.{under-bound}
@@ -27,7 +27,7 @@ use Rattle.table_rules.specs.Passed.{Passed}
 use Rattle.table_rules.specs.Search.{bucketsDown, nearestTally, nearestAnswer, nearestRefusal, nearestReply, resultAfterNearest, zeroEntry}
 use Rattle.table_rules.proofs.Replies.{not-short, refused-search, held-search, short-search, nearest-stopped, nearest-measure, nearest-none, nearest-fits}
 use Rattle.table_rules.proofs.Keeping.{nearest-size}
-use Rattle.table_nearest.specs.Tallies.{noneKept, liveBelow, tallyBelow}
+use Rattle.table_nearest.specs.Tallies.{noneKept, reportedBelow, tallyBelow}
 use Rattle.table_nearest.proofs.Searching.{tally-all, Grown, grown-below}
 
 module _ (t : Table) (area : List Entry) (query : Profile) (k : ℕ) where
@@ -50,21 +50,24 @@ module _ (t : Table) (area : List Entry) (query : Profile) (k : ℕ) where
   refused-none e v z = refused-by noCount (nearest-none t area query k e v z) (λ i. omega arith) (λ i. omega arith)
 
   -- as many are kept as k and the slots that may be reported allow
-  kept-size : length (nearestTally t query k .kept) ≡ min k (liveBelow t (suc (orderOf t)))
-  unfolding nearestAnswer liveBelow bucketsDown bucketsOf
+  kept-size : length (nearestTally t query k .kept) ≡ min k (reportedBelow (mayReport (queryRow query k)) t (suc (orderOf t)))
+  unfolding nearestAnswer reportedBelow bucketsDown bucketsOf
   kept-size = nearest-size t query k
 
-  module _ (passes : readRefusal t ≡ 0) (valid : validMeasures query ≡ true) (some : k ≡ 0 → ⊥) (order : ℕ) (is : order ≡ orderOf t) where
-    size : length (nearestTally t query k .kept) ≡ min k (liveBelow t (suc order))
-    size = kept-size ∙ ap (λ (n : ℕ). min k (liveBelow t (suc n))) (sym is)
+  module _ (passes : readRefusal t ≡ 0) (valid : validMeasures query ≡ true) (some : k ≡ 0 → ⊥) (order : ℕ) (is : order ≡ orderOf t) (asked : List Row) (e : asked ≡ askedOf (rowAt t headerRow) query k) where
+    size : length (nearestTally t query k .kept) ≡ min (kAsked asked) (reportedBelow (reportsAsked asked) t (suc order))
+    size =
+        kept-size
+        ∙ sym ((λ i. min (kAsked (e i)) (reportedBelow (reportsAsked (e i)) t (suc (is i))))
+        ∙ ap (λ (n : ℕ). min n (reportedBelow (mayReport (queryRow query k)) t (suc (orderOf t)))) (threshold-of-row 0 query k 0))
 
     -- more than the area holds
-    pub refused-short : length area < min k (liveBelow t (suc order)) → Right (record { refusal = noRoom; found = 0; distances = 0 }) (replicate (length area) zeroEntry)
+    pub refused-short : length area < min (kAsked asked) (reportedBelow (reportsAsked asked) t (suc order)) → Right (record { refusal = noRoom; found = 0; distances = 0 }) (replicate (length area) zeroEntry)
     unfolding nearestReply resultAfterNearest nearestAnswer
     refused-short h = short-search area (nearestAnswer t query k) (nearestRefusal t area query k) (nearest-fits t area query k passes valid some) (omega (arith, size))
 
     -- what the buckets left, where the area holds it
-    module _ (profile : IsProfile query) (p : Passed t) (fits : min k (liveBelow t (suc order)) ≤ length area) (asked : List Row) (e : asked ≡ askedOf (rowAt t headerRow) query k)
+    module _ (profile : IsProfile query) (p : Passed t) (fits : min (kAsked asked) (reportedBelow (reportsAsked asked) t (suc order)) ≤ length area)
         (mid : List Entry) (near : Nearby) (l : Leaves (kAsked asked) (tallyBelow asked t (suc order) noneKept) area mid near) where
       tally : Tally
       tally = nearestTally t query k

@@ -3,59 +3,60 @@
 use Prim.Native.Nat.{ℕ, zero, suc, _+_, _*_, _≤_, _<_, _^_, min}
 use native.Mathlib.Omega.{arith}
 use mathlib.Core.Path.{_≡_, sym, ap, ap₂, subst, _∙_}
+use mathlib.Core.Bool.{Bool}
 use mathlib.Core.List.{List, [], map, foldl}
 use lib.ListN.{length, take}
 use Rattle.lists.specs.Lists.{total}
 use Rattle.metric_rules.specs.declared.Profile.{Profile}
-use Rattle.metric_rules.specs.Row.{Row, IsProfile, isLive}
+use Rattle.metric_rules.specs.Row.{Row, IsProfile, queryRow, mayReport}
 use Rattle.metric_rules.specs.Distance.{distance}
 use Rattle.metric_rules.proofs.Codec.{profile-of-row, threshold-of-row}
 use Rattle.tree_rules.specs.Sorting.{sortBy}
 use Rattle.search_rules.specs.Range.{Entry, ordered}
 use Rattle.search_rules.specs.Nearest.{Tally, nearestTree}
-use Rattle.search_asked.specs.Asked.{askedOf, distanceAsked, queryAsked, kAsked}
+use Rattle.search_asked.specs.Asked.{askedOf, distanceAsked, queryAsked, reportsAsked, kAsked}
 use Rattle.tree_nearest.specs.declared.Nearby.{Nearby}
-use Rattle.tree_nearest.specs.Nearby.{boundOf, keptUnder, tallyOf, Leaves, liveIn, Ready, nearestAsked}
+use Rattle.tree_nearest.specs.Nearby.{boundOf, keptUnder, tallyOf, Leaves, reportedIn, Ready, nearestAsked}
 use Rattle.tree_nearest.proofs.Bounds.{Near, bound-below, under-unbounded}
 use Rattle.tree_nearest.proofs.Steps.{Fit, Sound, short, sound-tree, leaves-as, leaves-same, ready-less, ready-fit, ready-few, ready-after, tally-after, leaves-then}
 use Rattle.table_rules.specs.Geometry.{room, bucketsOf, headerRow, firstSlot}
-use Rattle.table_rules.specs.Table.{Table, rowAt, orderOf, tableSpace, builtOf, slotsOf, liveSlots}
+use Rattle.table_rules.specs.Table.{Table, rowAt, orderOf, tableSpace, builtOf, slotsOf}
 use Rattle.table_rules.specs.Search.{bucketsDown, nearestTally}
 use Rattle.table_rules.specs.Passed.{Passed}
 use Rattle.table_rules.proofs.Passing.{built-inside}
 use Rattle.table_rules.proofs.Down.{below, below-next, below-none, few-slots}
-use Rattle.table_nearest.specs.Tallies.{noneKept, mostSlots, liveBelow, bucketTally, tallyBelow}
+use Rattle.table_nearest.specs.Tallies.{noneKept, mostSlots, reportedBelow, bucketTally, tallyBelow}
 
 -- by what this table and this query ask, all buckets give what the definition of nearest says
 pub tally-all : (t : Table) (query : Profile) (k : ℕ) → IsProfile query → tallyBelow (askedOf (rowAt t headerRow) query k) t (suc (orderOf t)) noneKept ≡ nearestTally t query k
 unfolding tallyBelow bucketTally nearestTally bucketsDown bucketsOf tableSpace
 tally-all t query k is =
-    ap₂ (λ (q : Profile) (n : ℕ). foldl (λ tally b. nearestTree (distance (tableSpace t)) q isLive n tally (slotsOf t b)) noneKept (bucketsDown t))
+    ap₂ (λ (q : Profile) (n : ℕ). foldl (λ tally b. nearestTree (distance (tableSpace t)) q (mayReport (queryRow query k)) n tally (slotsOf t b)) noneKept (bucketsDown t))
     (profile-of-row 0 query k 0 is) (threshold-of-row 0 query k 0)
 
-module _ (t : Table) where
+module _ (reports : Row → Bool) (t : Table) where
   -- one bucket more has its own slots to report
-  pub live-next : (n : ℕ) → liveBelow t (suc n) ≡ liveIn isLive (slotsOf t n) + liveBelow t n
-  unfolding liveBelow below total liveSlots
-  live-next n = ap (λ (bs : List ℕ). total (map (λ b. length (liveSlots t b)) bs)) (below-next n)
+  pub reported-next : (n : ℕ) → reportedBelow reports t (suc n) ≡ reportedIn reports (slotsOf t n) + reportedBelow reports t n
+  unfolding reportedBelow below total
+  reported-next n = ap (λ (bs : List ℕ). total (map (λ b. reportedIn reports (slotsOf t b)) bs)) (below-next n)
 
-  pub live-none : liveBelow t 0 ≡ 0
-  unfolding liveBelow below total
-  live-none = ap (λ (bs : List ℕ). total (map (λ b. length (liveSlots t b)) bs)) below-none
+  pub reported-none : reportedBelow reports t 0 ≡ 0
+  unfolding reportedBelow below total
+  reported-none = ap (λ (bs : List ℕ). total (map (λ b. reportedIn reports (slotsOf t b)) bs)) below-none
 
-  -- a bucket's slots are inside the table
-  pub slots-inside : Passed t → (order b : ℕ) → order ≡ orderOf t → b ≤ order → (order ≡ orderOf t) × (order < 31) × (b ≤ order) × (firstSlot order b + builtOf t b ≤ length t)
-  slots-inside p order b e h = (
-    e,
-    omega (arith, e, p .framed .order),
-    h,
-    subst (λ (n : ℕ). firstSlot n b + builtOf t b ≤ length t) (sym e) (built-inside p b (omega (arith, e))),
-  )
+-- a bucket's slots are inside the table
+pub slots-inside : (t : Table) → Passed t → (order b : ℕ) → order ≡ orderOf t → b ≤ order → (order ≡ orderOf t) × (order < 31) × (b ≤ order) × (firstSlot order b + builtOf t b ≤ length t)
+slots-inside t p order b e h = (
+  e,
+  omega (arith, e, p .framed .order),
+  h,
+  subst (λ (n : ℕ). firstSlot n b + builtOf t b ≤ length t) (sym e) (built-inside p b (omega (arith, e))),
+)
 
 -- a search can start with nothing kept
-none-ready : (k live n : ℕ) (area : List Entry) → 0 < k → min k live ≤ length area → n < 2 ^ 32 → Ready k live n area (record { count = 0; bound = 2 ^ 32 })
+none-ready : (k reported n : ℕ) (area : List Entry) → 0 < k → min k reported ≤ length area → n < 2 ^ 32 → Ready k reported n area (record { count = 0; bound = 2 ^ 32 })
 unfolding ordered sortBy
-none-ready k live n area some fits h =
+none-ready k reported n area some fits h =
     let none : take (keptUnder k (2 ^ 32)) area ≡ [] = ap (λ (i : ℕ). take i area) (under-unbounded k (2 ^ 32) (omega arith)) in
     record {
       held =
@@ -79,9 +80,9 @@ module _ (asked : List Row) (t : Table) where
   tally-none u = ap (foldl (λ v b. bucketTally asked t b v) u) below-none
 
   bucket-sound : (b : ℕ) (u : Tally) → Fit (u .kept) → length (u .kept) ≤ kAsked asked
-      → Sound (distanceAsked asked) (queryAsked asked) isLive (kAsked asked) (liveIn isLive (slotsOf t b)) (length (slotsOf t b)) u (bucketTally asked t b u)
+      → Sound (distanceAsked asked) (queryAsked asked) (reportsAsked asked) (kAsked asked) (reportedIn (reportsAsked asked) (slotsOf t b)) (length (slotsOf t b)) u (bucketTally asked t b u)
   unfolding bucketTally
-  bucket-sound b u fit few = sound-tree (distanceAsked asked) (queryAsked asked) isLive (kAsked asked) (short asked) (slotsOf t b) u fit few
+  bucket-sound b u fit few = sound-tree (distanceAsked asked) (queryAsked asked) (reportsAsked asked) (kAsked asked) (short asked) (slotsOf t b) u fit few
 
   -- what n buckets make of a tally: in order, at most k, no fewer than before, and at most every slot is visited
   pub record Grown (n : ℕ) (u r : Tally) : Type 0 where
@@ -103,7 +104,7 @@ module _ (asked : List Row) (t : Table) where
   -- with n buckets to come: they can start, and what they leave is left by the whole search
   pub record Awaits (n : ℕ) (whole : Tally) (start area : List Entry) (near : Nearby) : Type 0 where
     pub least : n ≤ suc (orderOf t)
-    pub ready : Ready (kAsked asked) (liveBelow t n) (mostSlots * n) area near
+    pub ready : Ready (kAsked asked) (reportedBelow (reportsAsked asked) t n) (mostSlots * n) area near
     pub leaves : (last : List Entry) (r : Nearby) → Leaves (kAsked asked) (tallyBelow asked t n (tallyOf (kAsked asked) area near)) area last r → Leaves (kAsked asked) whole start last r
 
   -- none is to come
@@ -114,14 +115,14 @@ module _ (asked : List Row) (t : Table) where
       a .leaves area near (leaves-as (kAsked asked) area area near (sym none) (leaves-same (a .ready)))
 
   -- all are to come
-  pub awaits-all : Passed t → 0 < kAsked asked → (n m : ℕ) → n ≡ m → n ≤ suc (orderOf t) → (area : List Entry) → min (kAsked asked) (liveBelow t m) ≤ length area
+  pub awaits-all : Passed t → 0 < kAsked asked → (n m : ℕ) → n ≡ m → n ≤ suc (orderOf t) → (area : List Entry) → min (kAsked asked) (reportedBelow (reportsAsked asked) t m) ≤ length area
       → Awaits n (tallyBelow asked t m noneKept) area area (record { count = 0; bound = 2 ^ 32 })
   unfolding room
   awaits-all p some n m e h area fits =
       let same : tallyOf (kAsked asked) area (record { count = 0; bound = 2 ^ 32 }) ≡ noneKept = ap (λ (i : ℕ). record { kept = take i area; count = 0 }) (under-unbounded (kAsked asked) (2 ^ 32) (omega arith)) in
       record {
         least = h;
-        ready = none-ready (kAsked asked) (liveBelow t n) (mostSlots * n) area some (omega (arith, ap (liveBelow t) e)) (omega (arith, p .framed .order));
+        ready = none-ready (kAsked asked) (reportedBelow (reportsAsked asked) t n) (mostSlots * n) area some (omega (arith, ap (reportedBelow (reportsAsked asked) t) e)) (omega (arith, p .framed .order));
         leaves = λ last r. leaves-as (kAsked asked) area last r (ap₂ (λ (i : ℕ) (u : Tally). tallyBelow asked t i u) e same);
       }
 
@@ -129,20 +130,20 @@ module _ (asked : List Row) (t : Table) where
     in-table : n ≤ orderOf t
     in-table = omega (arith, e, a .least)
 
-    both-ready : Ready (kAsked asked) (liveIn isLive (slotsOf t n) + liveBelow t n) (length (slotsOf t n) + mostSlots * n) area near
+    both-ready : Ready (kAsked asked) (reportedIn (reportsAsked asked) (slotsOf t n) + reportedBelow (reportsAsked asked) t n) (length (slotsOf t n) + mostSlots * n) area near
     unfolding room
-    both-ready = ready-less (omega (arith, ap (liveBelow t) e, live-next t n)) (omega (arith, e, few-slots p n in-table)) (a .ready)
+    both-ready = ready-less (omega (arith, ap (reportedBelow (reportsAsked asked) t) e, reported-next (reportsAsked asked) t n)) (omega (arith, e, few-slots p n in-table)) (a .ready)
 
     -- bucket n can start
-    pub bucket-ready : {slots : List Row} → slots ≡ slotsOf t n → Ready (kAsked asked) (liveIn isLive slots) (length slots) area near
-    bucket-ready is = subst (λ (xs : List Row). Ready (kAsked asked) (liveIn isLive xs) (length xs) area near) (sym is) (ready-less (omega arith) (omega arith) both-ready)
+    pub bucket-ready : {slots : List Row} → slots ≡ slotsOf t n → Ready (kAsked asked) (reportedIn (reportsAsked asked) slots) (length slots) area near
+    bucket-ready is = subst (λ (xs : List Row). Ready (kAsked asked) (reportedIn (reportsAsked asked) xs) (length xs) area near) (sym is) (ready-less (omega arith) (omega arith) both-ready)
 
     -- and what it left is where the others start
     module _ {slots : List Row} (is : slots ≡ slotsOf t n) (mid : List Entry) (r : Nearby) (l : Leaves (kAsked asked) (nearestAsked asked slots area near) area mid r) where
       once : Leaves (kAsked asked) (nearestAsked asked (slotsOf t n) area near) area mid r
       once = subst (λ (xs : List Row). Leaves (kAsked asked) (nearestAsked asked xs area near) area mid r) is l
 
-      sound : Sound (distanceAsked asked) (queryAsked asked) isLive (kAsked asked) (liveIn isLive (slotsOf t n)) (length (slotsOf t n)) (tallyOf (kAsked asked) area near) (nearestAsked asked (slotsOf t n) area near)
+      sound : Sound (distanceAsked asked) (queryAsked asked) (reportsAsked asked) (kAsked asked) (reportedIn (reportsAsked asked) (slotsOf t n)) (length (slotsOf t n)) (tallyOf (kAsked asked) area near) (nearestAsked asked (slotsOf t n) area near)
       unfolding bucketTally
       sound = bucket-sound n (tallyOf (kAsked asked) area near) (ready-fit (a .ready)) (ready-few (a .ready))
 
@@ -154,11 +155,11 @@ module _ (asked : List Row) (t : Table) where
           let grown = grown-below p n (omega (arith, in-table)) (bucketTally asked t n u) (sound .fit) (omega (arith, sound .counted .size)) in
           record {
             least = omega (arith, in-table);
-            ready = ready-after (distanceAsked asked) (queryAsked asked) isLive (liveIn isLive (slotsOf t n)) (liveBelow t n) (length (slotsOf t n)) (mostSlots * n) both-ready sound once;
+            ready = ready-after (distanceAsked asked) (queryAsked asked) (reportsAsked asked) (reportedIn (reportsAsked asked) (slotsOf t n)) (reportedBelow (reportsAsked asked) t n) (length (slotsOf t n)) (mostSlots * n) both-ready sound once;
             leaves = λ last z q.
                 a .leaves last z
                 (leaves-as (kAsked asked) area last z rest
-                (leaves-then (distanceAsked asked) (queryAsked asked) isLive (liveIn isLive (slotsOf t n)) (liveBelow t n) (length (slotsOf t n)) (mostSlots * n) both-ready sound once
+                (leaves-then (distanceAsked asked) (queryAsked asked) (reportsAsked asked) (reportedIn (reportsAsked asked) (slotsOf t n)) (reportedBelow (reportsAsked asked) t n) (length (slotsOf t n)) (mostSlots * n) both-ready sound once
                 (tallyBelow asked t n (bucketTally asked t n u)) last z (grown .grows)
-                (leaves-as (kAsked asked) mid last z (ap (tallyBelow asked t n) (tally-after (distanceAsked asked) (queryAsked asked) isLive (liveIn isLive (slotsOf t n)) (liveBelow t n) (length (slotsOf t n)) (mostSlots * n) both-ready sound once)) q)));
+                (leaves-as (kAsked asked) mid last z (ap (tallyBelow asked t n) (tally-after (distanceAsked asked) (queryAsked asked) (reportsAsked asked) (reportedIn (reportsAsked asked) (slotsOf t n)) (reportedBelow (reportsAsked asked) t n) (length (slotsOf t n)) (mostSlots * n) both-ready sound once)) q)));
           }

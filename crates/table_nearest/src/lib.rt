@@ -3,19 +3,20 @@ ghost use mathlib.Core.Path.{_≡_};
 ghost use Prim.Native.Nat.{_≤_, _<_, min, suc};
 ghost use lib.Dec.{leb};
 ghost use lib.ListN.{length};
-ghost use Rattle.metric_rules.specs.Row.{isLive};
-ghost use Rattle.search_asked.specs.Asked.{kAsked};
-ghost use Rattle.tree_nearest.specs.Nearby.{Leaves, liveIn, ReadyAsked, nearestAsked};
+ghost use Rattle.metric_rules.specs.Row.{mayReport};
+ghost use Rattle.search_asked.specs.Asked.{reportsAsked, kAsked};
+ghost use Rattle.tree_nearest.specs.Nearby.{Leaves, reportedIn, ReadyAsked, nearestAsked};
 ghost use Rattle.table_rules.specs.Table.{orderOf};
 ghost use Rattle.table_rules.specs.Passed.{Passed};
 ghost use Rattle.table_rules.specs.Search.{nearestReply, resultAfterNearest};
-ghost use Rattle.table_nearest.specs.Tallies.{noneKept, liveBelow, tallyBelow};
+ghost use Rattle.table_nearest.specs.Tallies.{noneKept, reportedBelow, tallyBelow};
 use metric::valid_measures;
 use metric_rules::Profile;
 use metric_rules::Row;
-use rows::is_live;
+use rows::threshold_of;
 use search_asked::Asked;
 use search_asked::asked_of;
+use search_asked::may_report;
 use search_reply::accepted;
 use search_reply::refused;
 use search_reply::too_short;
@@ -33,14 +34,14 @@ use tree_nearest::UNBOUNDED;
 use tree_nearest::kept_under;
 use tree_nearest_tally::visited;
 
-// How many of these slots may be reported.
-fn count_live(slots: &[Row]) -> usize
-    ensures { λ r. ⌜ r ≡ liveIn isLive (now (slots .entry)) ⌝ }
+// How many of these slots a search by this query may report.
+fn count_reported(slots: &[Row], query: &Row) -> usize
+    ensures { λ r. ⌜ r ≡ reportedIn (mayReport (now (query .entry))) (now (slots .entry)) ⌝ }
 {
     let mut found: usize = 0;
     let mut i = 0;
     while i < slots.len() {
-        if is_live(slots[i]) {
+        if may_report(query, slots[i]) {
             found += 1;
         }
         i += 1;
@@ -48,29 +49,29 @@ fn count_live(slots: &[Row]) -> usize
     found
 }
 
-// How many slots of all buckets may be reported.
-fn count_all_live(table: &[Row], order: Order) -> usize
+// How many slots of all buckets it may report.
+fn count_all_reported(table: &[Row], order: Order, query: &Row) -> usize
     requires { ⌜ (order .t ≡ orderOf (now table)) × Passed (now table) ⌝ }
-    ensures { λ r. ⌜ r ≡ liveBelow (now (table .entry)) (suc (order .t)) ⌝ }
+    ensures { λ r. ⌜ r ≡ reportedBelow (mayReport (now (query .entry))) (now (table .entry)) (suc (order .t)) ⌝ }
 {
     let mut found: usize = 0;
     let mut bucket = order.t + 1;
     while 0 < bucket {
         bucket -= 1;
-        found += count_live(slots_of(table, order, bucket));
+        found += count_reported(slots_of(table, order, bucket), query);
     }
     found
 }
 
 // Whether so many entries hold the reply. Those of a shorter area than k are counted beforehand, so that a search has room for all that it keeps.
-fn reply_fits(table: &[Row], order: Order, k: u32, entries: usize) -> bool
+fn reply_fits(table: &[Row], order: Order, entries: usize, asked: &Asked) -> bool
     requires { ⌜ (order .t ≡ orderOf (now table)) × Passed (now table) ⌝ }
-    ensures { λ r. ⌜ r ≡ leb (min k (liveBelow (now (table .entry)) (suc (order .t)))) entries ⌝ }
+    ensures { λ r. ⌜ r ≡ leb (min (kAsked (now (asked .entry))) (reportedBelow (reportsAsked (now (asked .entry))) (now (table .entry)) (suc (order .t)))) entries ⌝ }
 {
-    if k as usize <= entries {
+    if threshold_of(asked[1]) as usize <= entries {
         return true;
     }
-    count_all_live(table, order) <= entries
+    count_all_reported(table, order, &asked[1]) <= entries
 }
 
 // One bucket's slots, from what the buckets above it have kept, by way of the tally that is lent. An empty bucket is searched as no slots.
@@ -86,7 +87,7 @@ fn nearest_bucket(near: Nearby, slots: &[Row], area: &mut [Entry], asked: &Asked
 
 // All buckets, the highest first.
 fn nearest_buckets(table: &[Row], order: Order, area: &mut [Entry], asked: &Asked) -> Nearby
-    requires { ⌜ (order .t ≡ orderOf (now table)) × Passed (now table) × (0 < kAsked (now asked)) × (min (kAsked (now asked)) (liveBelow (now table) (suc (order .t))) ≤ length (now area)) ⌝ }
+    requires { ⌜ (order .t ≡ orderOf (now table)) × Passed (now table) × (0 < kAsked (now asked)) × (min (kAsked (now asked)) (reportedBelow (reportsAsked (now asked)) (now table) (suc (order .t))) ≤ length (now area)) ⌝ }
     ensures { λ r. ⌜ Leaves (kAsked (now (asked .entry))) (tallyBelow (now (asked .entry)) (now (table .entry)) (suc (order .t)) noneKept) (now (area .entry)) (now (area .exit)) r ⌝ }
 {
     let mut near = Nearby {
@@ -117,10 +118,10 @@ pub fn nearest(table: &[Row], result: &mut [Entry], query: Profile, k: u32) -> S
         return refused(NO_COUNT);
     }
     let order = order_in(table);
-    if !reply_fits(table, order, k, result.len()) {
+    let asked = asked_of(table[HEADER_ROW], query, k);
+    if !reply_fits(table, order, result.len(), &asked) {
         return too_short(result);
     }
-    let asked = asked_of(table[HEADER_ROW], query, k);
     let near = nearest_buckets(table, order, result, &asked);
     accepted(result, kept_under(near.bound, k), near.count)
 }

@@ -37,9 +37,9 @@ rangeAnswer t query radius = let met = rangeMet t query radius in record { entri
 -- RULES 11.8: the kept entries and the count pass through every bucket
 unfoldable pub nearestTally : Table → Profile → ℕ → Tally
 nearestTally t query k =
-    foldl (λ tally b. nearestTree (distance (tableSpace t)) query (mayReport (queryRow query 0)) k tally (slotsOf t b)) (record { kept = []; count = 0 }) (bucketsDown t)
+    foldl (λ tally b. nearestTree (distance (tableSpace t)) query (mayReport (queryRow query k)) k tally (slotsOf t b)) (record { kept = []; count = 0 }) (bucketsDown t)
 
--- RULES 11.9, 15.3: the reply is what is kept, over any table min(k, Z) entries, Z being the number of built slots with mark 0 (`nearest-size`)
+-- RULES 11.9, 15.3: the reply is what is kept, over any table min(k, Z) entries, Z being the number of built slots that may be reported (`nearest-size`)
 unfoldable pub nearestAnswer : Table → Profile → ℕ → Answer
 nearestAnswer t query k = let tally = nearestTally t query k in record { entries = tally .kept; count = tally .count }
 

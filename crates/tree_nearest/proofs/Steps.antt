@@ -19,12 +19,12 @@ use Rattle.tree_rules.specs.Layout.{leftSize}
 use Rattle.tree_rules.proofs.Sorting.{NotAfter, sort-perm, sort-sorted, sort-of-sorted}
 use Rattle.tree_rules.proofs.Parts.{left-size, part-rest}
 use Rattle.search_rules.specs.Range.{Entry, entry, entryDistance, entryKey, entryOf, ordered, toQuery, entersLeft, entersRight}
-use Rattle.search_rules.specs.Nearest.{Tally, keep, worst, opens, taken, enterHalf, enterHalves, nearestWithin, nearestTree}
+use Rattle.search_rules.specs.Nearest.{Tally, keep, opens, taken, enterHalf, enterHalves, nearestWithin, nearestTree}
 use Rattle.search_rules.proofs.NearestLaws.{nearestStep, nearest-none, nearest-step, Counted, lives, own-live, nearest-counted, counted-half, counted-taken}
 use Rattle.search_rules.proofs.Selecting.{select-append, select-all}
 use Rattle.search_asked.specs.Asked.{distanceAsked}
 use Rattle.tree_nearest.specs.declared.Nearby.{Nearby}
-use Rattle.tree_nearest.specs.Nearby.{boundOf, keptOf, inFront, tallyOf, Leaves, liveIn, Ready, takenAt, nearInHalves}
+use Rattle.tree_nearest.specs.Nearby.{boundOf, keptOf, inFront, tallyOf, Leaves, reportedIn, Ready, takenAt, nearInHalves}
 use Rattle.tree_nearest.proofs.Bounds.{Near, under-bound, opens-always, opens-within, shut-beyond, held-few, held-front}
 
 -- every distance fits 32 bits
@@ -93,9 +93,9 @@ module _ (dist : Profile → Profile → ℕ) (query : Profile) (reports : Row �
     tree-keeps slots t h = within-keeps (length slots) slots t h
 
   -- what a step over n slots, so many of them to be reported, does to a tally
-  pub record Sound (live n : ℕ) (t r : Tally) : Type 0 where
+  pub record Sound (reported n : ℕ) (t r : Tally) : Type 0 where
     pub fit : Fit (r .kept)
-    pub counted : Counted dist query reports k t r live n
+    pub counted : Counted dist query reports k t r reported n
 
   module _ (short : (p q : Profile) → dist p q < 2 ^ 32) where
     own-fit : (t : Tally) (s : Row) → Fit (t .kept) → Fit (taken dist query reports k t s .kept)
@@ -122,19 +122,19 @@ module _ (dist : Profile → Profile → ℕ) (query : Profile) (reports : Row �
     sound-taken s t h few = record { fit = own-fit t s h; counted = counted-taken dist query reports k t s few }
 
 -- a slot that may be reported, alone
-pub live-one : (reports : Row → Bool) (row : Row) → reports row ≡ true → liveIn reports (row ∷ []) ≡ 1
-live-one reports row e = ap length (select-all reports (row ∷ []) (e, tt))
+pub one-reported : (reports : Row → Bool) (row : Row) → reports row ≡ true → reportedIn reports (row ∷ []) ≡ 1
+one-reported reports row e = ap length (select-all reports (row ∷ []) (e, tt))
 
-pub live-append : (reports : Row → Bool) (xs ys : List Row) → liveIn reports xs + liveIn reports ys ≡ liveIn reports (xs ++ ys)
-live-append reports xs ys = sym (length-append (select reports xs) (select reports ys)) ∙ ap length (sym (select-append reports xs ys))
+pub reported-append : (reports : Row → Bool) (xs ys : List Row) → reportedIn reports xs + reportedIn reports ys ≡ reportedIn reports (xs ++ ys)
+reported-append reports xs ys = sym (length-append (select reports xs) (select reports ys)) ∙ ap length (sym (select-append reports xs ys))
 
 -- the first slot and those behind it
-pub first-live : (reports : Row → Bool) (slots : List Row) → 0 < length slots → liveIn reports (getD slots 0 [] ∷ []) + liveIn reports (take (length slots - 1) (drop 1 slots)) ≡ liveIn reports slots
-first-live reports [] h = absurd (omega arith)
-first-live reports (s ∷ rest) h = ap (λ (xs : List Row). liveIn reports (s ∷ []) + liveIn reports xs) (part-rest 1 (s ∷ rest)) ∙ live-append reports (s ∷ []) rest
+pub first-reported : (reports : Row → Bool) (slots : List Row) → 0 < length slots → reportedIn reports (getD slots 0 [] ∷ []) + reportedIn reports (take (length slots - 1) (drop 1 slots)) ≡ reportedIn reports slots
+first-reported reports [] h = absurd (omega arith)
+first-reported reports (s ∷ rest) h = ap (λ (xs : List Row). reportedIn reports (s ∷ []) + reportedIn reports xs) (part-rest 1 (s ∷ rest)) ∙ reported-append reports (s ∷ []) rest
 
 -- a step can start: what stands in the area is a tally
-module _ {k live n : ℕ} {area : List Entry} {near : Nearby} (p : Ready k live n area near) where
+module _ {k reported n : ℕ} {area : List Entry} {near : Nearby} (p : Ready k reported n area near) where
   pub ready-fit : Fit (keptOf k area (near .bound))
   ready-fit = record { in-order = p .held .in-order; near = p .held .near }
 
@@ -145,12 +145,12 @@ module _ {k live n : ℕ} {area : List Entry} {near : Nearby} (p : Ready k live 
   pub leaves-same : Leaves k (tallyOf k area near) area area near
   leaves-same = (λ i. record { count = near .count; bound = p .held .bound-is i }, sym (held-front (p .held)))
 
-pub ready-less : {k live less n m : ℕ} {area : List Entry} {near : Nearby} → less ≤ live → m ≤ n → Ready k live n area near → Ready k less m area near
+pub ready-less : {k reported less n m : ℕ} {area : List Entry} {near : Nearby} → less ≤ reported → m ≤ n → Ready k reported n area near → Ready k less m area near
 ready-less h g p = record { held = p .held; room = omega (arith, p .room); counts = omega (arith, p .counts) }
 
 module _ (dist : Profile → Profile → ℕ) (query : Profile) (reports : Row → Bool) where
   -- a step over n slots was made and one over m more is to come
-  module _ {k : ℕ} (live more n m : ℕ) {area : List Entry} {near : Nearby} (p : Ready k (live + more) (n + m) area near) {t : Tally} (s : Sound dist query reports k live n (tallyOf k area near) t)
+  module _ {k : ℕ} (reported more n m : ℕ) {area : List Entry} {near : Nearby} (p : Ready k (reported + more) (n + m) area near) {t : Tally} (s : Sound dist query reports k reported n (tallyOf k area near) t)
       {mid : List Entry} {r : Nearby} (l : Leaves k t area mid r) where
     few : length (t .kept) ≤ k
     few = omega (arith, s .counted .size)
@@ -220,11 +220,11 @@ right-is rest = part-rest (length rest - length rest / 2) rest ∙ ap (λ (l : �
 pub halves-slots : (rest : List Row) → length (leftHalf rest) + length (rightHalf rest) ≡ length rest
 halves-slots rest = simp (length-take, length-drop) (omega arith)
 
-pub halves-live : (reports : Row → Bool) (rest : List Row) → liveIn reports (leftHalf rest) + liveIn reports (rightHalf rest) ≡ liveIn reports rest
-halves-live reports rest =
-    ap₂ (λ (xs ys : List Row). liveIn reports xs + liveIn reports ys) (left-is rest) (right-is rest)
-    ∙ live-append reports (take (leftSize (suc (length rest))) rest) (drop (leftSize (suc (length rest))) rest)
-    ∙ ap (liveIn reports) (take-append-drop (leftSize (suc (length rest))) rest)
+pub halves-reported : (reports : Row → Bool) (rest : List Row) → reportedIn reports (leftHalf rest) + reportedIn reports (rightHalf rest) ≡ reportedIn reports rest
+halves-reported reports rest =
+    ap₂ (λ (xs ys : List Row). reportedIn reports xs + reportedIn reports ys) (left-is rest) (right-is rest)
+    ∙ reported-append reports (take (leftSize (suc (length rest))) rest) (drop (leftSize (suc (length rest))) rest)
+    ∙ ap (reportedIn reports) (take-append-drop (leftSize (suc (length rest))) rest)
 
 module _ (dist : Profile → Profile → ℕ) (query : Profile) (reports : Row → Bool) (k : ℕ) where
   pub near-empty : (slots : List Row) (t : Tally) → length slots ≡ 0 → nearestTree dist query reports k t slots ≡ t
@@ -253,13 +253,13 @@ module _ (dist : Profile → Profile → ℕ) (query : Profile) (reports : Row �
   nearThenFar first second a b t = enterHalf dist query reports k (entersLeft a b) (λ u. nearestTree dist query reports k u second) (nearestTree dist query reports k t first)
 
   module _ (short : (p q : Profile) → dist p q < 2 ^ 32) (first second : List Row) (a b : ℕ) (few : a < 2 ^ 32) {area : List Entry} {near : Nearby}
-      (p : Ready k (liveIn reports first + liveIn reports second) (length first + length second) area near) {mid : List Entry} {r : Nearby}
+      (p : Ready k (reportedIn reports first + reportedIn reports second) (length first + length second) area near) {mid : List Entry} {r : Nearby}
       (l : Leaves k (nearestTree dist query reports k (tallyOf k area near) first) area mid r) where
-    once : Sound dist query reports k (liveIn reports first) (length first) (tallyOf k area near) (nearestTree dist query reports k (tallyOf k area near) first)
+    once : Sound dist query reports k (reportedIn reports first) (length first) (tallyOf k area near) (nearestTree dist query reports k (tallyOf k area near) first)
     once = sound-tree dist query reports k short first (tallyOf k area near) (ready-fit p) (ready-few p)
 
-    pub second-ready : Ready k (liveIn reports second) (length second) mid r
-    second-ready = ready-after dist query reports (liveIn reports first) (liveIn reports second) (length first) (length second) p once l
+    pub second-ready : Ready k (reportedIn reports second) (length second) mid r
+    second-ready = ready-after dist query reports (reportedIn reports first) (reportedIn reports second) (length first) (length second) p once l
 
     -- the other half has no slots, or is too far
     pub second-none : length second ≡ 0 → Leaves k (nearThenFar first second a b (tallyOf k area near)) area mid r
@@ -278,11 +278,11 @@ module _ (dist : Profile → Profile → ℕ) (query : Profile) (reports : Row �
     second-within gap e inside last z q =
         let t₁ = nearestTree dist query reports k (tallyOf k area near) first in
         let after : nearestTree dist query reports k (tallyOf k mid r) second ≡ nearThenFar first second a b (tallyOf k area near) =
-        ap (λ (u : Tally). nearestTree dist query reports k u second) (tally-after dist query reports (liveIn reports first) (liveIn reports second) (length first) (length second) p once l)
+        ap (λ (u : Tally). nearestTree dist query reports k u second) (tally-after dist query reports (reportedIn reports first) (reportedIn reports second) (length first) (length second) p once l)
         ∙ sym (turn-open (entersLeft a b) (λ u. nearestTree dist query reports k u second) t₁ (opens-within k a b few _ (r .bound) (ap (λ (x : Nearby). x .bound) (l .0)) (omega arith)))
         in
         let twice = sound-turn dist query reports k short (entersLeft a b) second t₁ (once .fit) (omega (arith, once .counted .size)) in
-        leaves-then dist query reports (liveIn reports first) (liveIn reports second) (length first) (length second) p once l (nearThenFar first second a b (tallyOf k area near)) last z (omega (arith, once .counted .size, twice .counted .size))
+        leaves-then dist query reports (reportedIn reports first) (reportedIn reports second) (length first) (length second) p once l (nearThenFar first second a b (tallyOf k area near)) last z (omega (arith, once .counted .size, twice .counted .size))
         (leaves-as k mid last z after q)
 
   pub halves-near : (d m : ℕ) (rest : List Row) (t : Tally) → d ≤ m → nearThenFar (leftHalf rest) (rightHalf rest) m d t ≡ nearInHalves dist query reports k d m rest t
@@ -344,7 +344,7 @@ module _ (dist : Profile → Profile → ℕ) (query : Profile) (reports : Row �
       ∙ sym (nearest-step dist query reports k s rest t)
 
   -- a tree's two steps, the first of which has been made at distance d
-  module _ (short : (p q : Profile) → dist p q < 2 ^ 32) (slots : List Row) (some : 0 < length slots) {area : List Entry} {near : Nearby} (p : Ready k (liveIn reports slots) (length slots) area near)
+  module _ (short : (p q : Profile) → dist p q < 2 ^ 32) (slots : List Row) (some : 0 < length slots) {area : List Entry} {near : Nearby} (p : Ready k (reportedIn reports slots) (length slots) area near)
       (d : ℕ) (at : d ≡ toQuery dist query (getD slots 0 [])) {mid : List Entry} {r : Nearby} (l : Leaves k (takenAt reports k (tallyOf k area near) (getD slots 0 []) d) area mid r) where
     rest : List Row
     rest = take (length slots - 1) (drop 1 slots)
@@ -360,17 +360,17 @@ module _ (dist : Profile → Profile → ℕ) (query : Profile) (reports : Row �
     unfolding own
     own-left = leaves-as k area mid r (ap (takenAt reports k (tallyOf k area near) (getD slots 0 [])) at) l
 
-    own-sound : Sound dist query reports k (liveIn reports (getD slots 0 [] ∷ [])) 1 (tallyOf k area near) own
+    own-sound : Sound dist query reports k (reportedIn reports (getD slots 0 [] ∷ [])) 1 (tallyOf k area near) own
     unfolding own own-live
     own-sound = sound-taken dist query reports k short (getD slots 0 []) (tallyOf k area near) (ready-fit p) (ready-few p)
 
-    both-ready : Ready k (liveIn reports (getD slots 0 [] ∷ []) + liveIn reports rest) (1 + length rest) area near
+    both-ready : Ready k (reportedIn reports (getD slots 0 [] ∷ []) + reportedIn reports rest) (1 + length rest) area near
     unfolding rest
-    both-ready = ready-less (omega (arith, first-live reports slots some)) (omega (arith, sum)) p
+    both-ready = ready-less (omega (arith, first-reported reports slots some)) (omega (arith, sum)) p
 
-    pub tree-ready : Ready k (liveIn reports (take (length slots - 1) (drop 1 slots))) (length (take (length slots - 1) (drop 1 slots))) mid r
+    pub tree-ready : Ready k (reportedIn reports (take (length slots - 1) (drop 1 slots))) (length (take (length slots - 1) (drop 1 slots))) mid r
     unfolding rest
-    tree-ready = ready-after dist query reports (liveIn reports (getD slots 0 [] ∷ [])) (liveIn reports rest) 1 (length rest) both-ready own-sound own-left
+    tree-ready = ready-after dist query reports (reportedIn reports (getD slots 0 [] ∷ [])) (reportedIn reports rest) 1 (length rest) both-ready own-sound own-left
 
     pub tree-leave : (m : ℕ) → m ≡ thresholdOf (getD slots 0 []) → (last : List Entry) (z : Nearby)
         → Leaves k (nearInHalves dist query reports k d m (take (length slots - 1) (drop 1 slots)) (tallyOf k mid r)) mid last z → Leaves k (nearestTree dist query reports k (tallyOf k area near) slots) area last z
@@ -378,10 +378,10 @@ module _ (dist : Profile → Profile → ℕ) (query : Profile) (reports : Row �
     tree-leave m mt last z q =
         let whole = nearestTree dist query reports k (tallyOf k area near) slots in
         let after : nearInHalves dist query reports k d m rest (tallyOf k mid r) ≡ whole =
-        ap (nearInHalves dist query reports k d m rest) (tally-after dist query reports (liveIn reports (getD slots 0 [] ∷ [])) (liveIn reports rest) 1 (length rest) both-ready own-sound own-left)
+        ap (nearInHalves dist query reports k d m rest) (tally-after dist query reports (reportedIn reports (getD slots 0 [] ∷ [])) (reportedIn reports rest) 1 (length rest) both-ready own-sound own-left)
         ∙ ap₂ (λ (x y : ℕ). nearInHalves dist query reports k x y rest own) at mt
         ∙ near-first slots (tallyOf k area near) some
         in
         let all = sound-tree dist query reports k short slots (tallyOf k area near) (ready-fit p) (ready-few p) in
-        leaves-then dist query reports (liveIn reports (getD slots 0 [] ∷ [])) (liveIn reports rest) 1 (length rest) both-ready own-sound own-left whole last z (omega (arith, own-sound .counted .size, all .counted .size, first-live reports slots some))
+        leaves-then dist query reports (reportedIn reports (getD slots 0 [] ∷ [])) (reportedIn reports rest) 1 (length rest) both-ready own-sound own-left whole last z (omega (arith, own-sound .counted .size, all .counted .size, first-reported reports slots some))
         (leaves-as k mid last z after q)

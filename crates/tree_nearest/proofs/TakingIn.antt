@@ -150,17 +150,17 @@ module _ (reports : Row → Bool) {k : ℕ} {area : List Entry} {bound : ℕ} (h
     r ∙ ap (λ (es : List Entry). inFront es area) (sym e),
   )
 
-  kept-dead : reports row ≡ false → takenAt reports k (tallyOf k area (record { count = count; bound = bound })) row d .kept ≡ keptOf k area bound
+  kept-unreported : reports row ≡ false → takenAt reports k (tallyOf k area (record { count = count; bound = bound })) row d .kept ≡ keptOf k area bound
   unfolding takenAt
-  kept-dead e = ap (λ (b : Bool). elim b [ true ↦ keep k (entry (tagOf row) d ∷ keptOf k area bound) | false ↦ keptOf k area bound ]) e
+  kept-unreported e = ap (λ (b : Bool). elim b [ true ↦ keep k (entry (tagOf row) d ∷ keptOf k area bound) | false ↦ keptOf k area bound ]) e
 
-  kept-live : reports row ≡ true → takenAt reports k (tallyOf k area (record { count = count; bound = bound })) row d .kept ≡ keep k (entry (tagOf row) d ∷ keptOf k area bound)
+  kept-reported : reports row ≡ true → takenAt reports k (tallyOf k area (record { count = count; bound = bound })) row d .kept ≡ keep k (entry (tagOf row) d ∷ keptOf k area bound)
   unfolding takenAt
-  kept-live e = ap (λ (b : Bool). elim b [ true ↦ keep k (entry (tagOf row) d ∷ keptOf k area bound) | false ↦ keptOf k area bound ]) e
+  kept-reported e = ap (λ (b : Bool). elim b [ true ↦ keep k (entry (tagOf row) d ∷ keptOf k area bound) | false ↦ keptOf k area bound ]) e
 
   -- nothing changes but the count where the item may not be reported
-  pub taken-dead : reports row ≡ false → Taken (count + 1) bound area
-  taken-dead e = taken-as (kept-dead e) (omega arith) (h .bound-is) (sym (held-front h))
+  pub taken-unreported : reports row ≡ false → Taken (count + 1) bound area
+  taken-unreported e = taken-as (kept-unreported e) (omega arith) (h .bound-is) (sym (held-front h))
 
   -- nor where it is farther than the bound, reported or not
   pub taken-far : bound < d → d < 2 ^ 32 → Taken (count + 1) bound area
@@ -168,12 +168,12 @@ module _ (reports : Row → Bool) {k : ℕ} {area : List Entry} {bound : ℕ} (h
   taken-far far fits = go (reports row) refl
     where
       go : (b : Bool) → reports row ≡ b → Taken (count + 1) bound area
-      go false e = taken-dead e
-      go true e = taken-as (kept-live e ∙ dropped-far h (entry (tagOf row) d) (omega arith) far) (omega arith) (h .bound-is) (sym (held-front h))
+      go false e = taken-unreported e
+      go true e = taken-as (kept-reported e ∙ dropped-far h (entry (tagOf row) d) (omega arith) far) (omega arith) (h .bound-is) (sym (held-front h))
 
   -- else it is kept in its order
-  pub taken-live : reports row ≡ true → (new : Entry) → new ≡ entry (tagOf row) d → (b : ℕ) (after : List Entry) → b ≡ boundOf k (keep k (new ∷ keptOf k area bound)) → after ≡ inFront (keep k (new ∷ keptOf k area bound)) area
+  pub taken-reported : reports row ≡ true → (new : Entry) → new ≡ entry (tagOf row) d → (b : ℕ) (after : List Entry) → b ≡ boundOf k (keep k (new ∷ keptOf k area bound)) → after ≡ inFront (keep k (new ∷ keptOf k area bound)) area
       → Taken (count + 1) b after
-  taken-live e new is b after p q =
+  taken-reported e new is b after p q =
       let same = ap (λ (x : Entry). keep k (x ∷ keptOf k area bound)) is in
-      taken-as (kept-live e) (omega arith) (p ∙ ap (boundOf k) same) (q ∙ ap (λ (es : List Entry). inFront es area) same)
+      taken-as (kept-reported e) (omega arith) (p ∙ ap (boundOf k) same) (q ∙ ap (λ (es : List Entry). inFront es area) same)

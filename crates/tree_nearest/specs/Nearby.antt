@@ -8,11 +8,11 @@ use lib.ListN.{length, take, drop}
 use lib.Dec.{ltb}
 use Rattle.lists.specs.Lists.{All, select}
 use Rattle.metric_rules.specs.declared.Profile.{Profile}
-use Rattle.metric_rules.specs.Row.{Row, tagOf, isLive}
+use Rattle.metric_rules.specs.Row.{Row, tagOf}
 use Rattle.tree_rules.specs.Layout.{leftSize}
 use Rattle.search_rules.specs.Range.{Entry, entry, entryDistance, ordered}
 use Rattle.search_rules.specs.Nearest.{Tally, keep, worst, enterHalves, nearestTree}
-use Rattle.search_asked.specs.Asked.{distanceAsked, queryAsked, kAsked}
+use Rattle.search_asked.specs.Asked.{distanceAsked, queryAsked, reportsAsked, kAsked}
 use Rattle.tree_nearest.specs.declared.Nearby.{Nearby}
 
 -- the bound with these entries kept: while they are fewer than k, 2^32, which no distance reaches, and their number; then the worst distance kept
@@ -51,13 +51,13 @@ abbrev pub Leaves : ℕ → Tally → List Entry → List Entry → Nearby → T
 Leaves k t area after r = (r ≡ nearbyOf k t) × (after ≡ inFront (t .kept) area)
 
 -- how many of these slots may be reported
-abbrev pub liveIn : (Row → Bool) → List Row → ℕ
-liveIn reports slots = length (select reports slots)
+abbrev pub reportedIn : (Row → Bool) → List Row → ℕ
+reportedIn reports slots = length (select reports slots)
 
 -- what a step over so many slots can start from, so many of them to be reported: the area has room for what will be kept
-pub record Ready (k live slots : ℕ) (area : List Entry) (n : Nearby) : Type 0 where
+pub record Ready (k reported slots : ℕ) (area : List Entry) (n : Nearby) : Type 0 where
   pub held : Held k area (n .bound)
-  pub room : min k (length (keptOf k area (n .bound)) + live) ≤ length area
+  pub room : min k (length (keptOf k area (n .bound)) + reported) ≤ length area
   pub counts : n .count + slots < 2 ^ 32
 
 -- a slot's own item, at distance d from the query, is taken in
@@ -74,7 +74,7 @@ nearInHalves dist query reports k d m rest t =
 
 -- by what is asked: what a search of these slots can start from, and nearest over them from what an area and the numbers stand for
 abbrev pub ReadyAsked : List Row → List Row → List Entry → Nearby → Type 0
-ReadyAsked asked slots area n = Ready (kAsked asked) (liveIn isLive slots) (length slots) area n
+ReadyAsked asked slots area n = Ready (kAsked asked) (reportedIn (reportsAsked asked) slots) (length slots) area n
 
 abbrev pub nearestAsked : List Row → List Row → List Entry → Nearby → Tally
-nearestAsked asked slots area n = nearestTree (distanceAsked asked) (queryAsked asked) isLive (kAsked asked) (tallyOf (kAsked asked) area n) slots
+nearestAsked asked slots area n = nearestTree (distanceAsked asked) (queryAsked asked) (reportsAsked asked) (kAsked asked) (tallyOf (kAsked asked) area n) slots

@@ -6,7 +6,7 @@ use lib.ListN.{length, take, drop}
 use lib.Seq.{sets}
 use lib.Dec.{leb}
 use Rattle.metric_rules.specs.declared.Profile.{Profile}
-use Rattle.metric_rules.specs.Row.{Row, tagOf, isLive}
+use Rattle.metric_rules.specs.Row.{Row, tagOf}
 use Rattle.tree_rules.specs.Layout.{leftSize}
 use Rattle.search_rules.specs.Range.{Entry, entry, entersLeft, entersRight, Met, nothing, both, rangeTree}
 use Rattle.search_asked.specs.Asked.{distanceAsked, queryAsked, reportsAsked, radiusAsked}

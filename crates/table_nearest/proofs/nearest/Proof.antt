@@ -3,14 +3,14 @@ use borrow.Author.Needs.{needs}
 use borrow.Author.Tests.{not-true, not-false, leb-true, leb-false}
 use native.Mathlib.Omega.{arith}
 use Prim.Native.Nat.{ℕ, suc, _-_, _≤_, _<_, _^_, min}
-use mathlib.Core.Path.{_≡_, sym, ap, subst, _∙_}
+use mathlib.Core.Path.{_≡_, sym, ap, _∙_}
 use mathlib.Core.Bool.{true}
 use mathlib.Core.List.{_++_}
 use lib.ListN.{length, take, replicate}
 use Rattle.metric_rules.specs.Validity.{validMeasures}
 use Rattle.metric_rules.proofs.Values.{is-profile}
 use Rattle.metric_rules.proofs.Codec.{threshold-of-row}
-use Rattle.search_asked.specs.Asked.{kAsked}
+use Rattle.search_asked.specs.Asked.{reportsAsked, kAsked}
 use Rattle.tree_nearest.specs.Nearby.{keptUnder}
 use Rattle.table_rules.specs.Checks.{readRefusal}
 use Rattle.table_rules.specs.Search.{nearestReply, resultAfterNearest, zeroEntry}
@@ -18,7 +18,7 @@ use Rattle.table_rules.specs.Geometry.{headerRow, firstSlot, tableRows}
 use Rattle.table_rules.specs.Table.{Table, rowAt}
 use Rattle.table_rules.specs.Passed.{Passed}
 use Rattle.table_rules.proofs.Passing.{read-passed}
-use Rattle.table_nearest.specs.Tallies.{liveBelow}
+use Rattle.table_nearest.specs.Tallies.{reportedBelow}
 use Rattle.table_nearest.proofs.Replying.{refused-table, refused-measure, refused-none, refused-short, numbers-fit, answered}
 use Rattle.table_nearest.proofs.nearest.Statement.{statement}
 use Rattle.table_nearest.proofs.nearest.Tie as tie
@@ -56,7 +56,7 @@ order-in-requires : tie.Need-order-in-requires
 order-in-requires c κs = some-rows (passed c)
 
 reply-fits-requires : tie.Need-reply-fits-requires
-reply-fits-requires c κs = (c .order-in .ensures, passed (c .before))
+reply-fits-requires c κs = let order = c .before .before .before in (order .order-in .ensures, passed (order .before))
 
 -- the tests that are passed, as equations
 passes : (c : tie.Else3) → readRefusal (c .before .before .before .before .before .args .table .now) ≡ 0
@@ -66,45 +66,53 @@ valid : (c : tie.Else3) → validMeasures (c .before .before .before .before .be
 valid c = sym (c .before .before .valid-measures .ensures) ∙ not-false _ (c .before .if2 .left)
 
 returns-4 : tie.Need-returns-4
+unfolding rowAt headerRow
 returns-4 c =
     let test = c .before .before .before in
-    let order = test .before .before in
+    let asked = test .before .before .before in
+    let order = asked .before .before in
     let e = order .before in
     let a = e .before .before .before .before .before .args in
-    let more = leb-false (min (a .k) (liveBelow (a .table .now) (suc (order .order-in .result .t)))) (length (a .result .now)) (sym (test .before .reply-fits .ensures) ∙ not-true _ (test .if4 .taken)) in
-    let stop = refused-short (a .table .now) (a .result .now) (a .query) (a .k) (passes e) (valid e) (e .if3 .left) (order .order-in .result .t) (order .order-in .ensures) more in
+    let more = leb-false (min (kAsked (asked .asked-of .result)) (reportedBelow (reportsAsked (asked .asked-of .result)) (a .table .now) (suc (order .order-in .result .t)))) (length (a .result .now))
+    (sym (test .before .reply-fits .ensures) ∙ not-true _ (test .if4 .taken)) in
+    let stop = refused-short (a .table .now) (a .result .now) (a .query) (a .k) (passes e) (valid e) (e .if3 .left) (order .order-in .result .t) (order .order-in .ensures) (asked .asked-of .result) (asked .asked-of .ensures) more in
     (c .before .too-short .ensures .0 ∙ stop .0, c .before .too-short .ensures .1 ∙ stop .1)
 
 -- past the last test the area has room for what will be kept
-fits : (c : tie.Else4) → (let order = c .before .before in
+fits : (c : tie.Else4) → (let asked = c .before .before .before in
+    let order = asked .before .before in
     let a = order .before .before .before .before .before .before .args in
-    min (a .k) (liveBelow (a .table .now) (suc (order .order-in .result .t))) ≤ length (a .result .now))
+    min (kAsked (asked .asked-of .result)) (reportedBelow (reportsAsked (asked .asked-of .result)) (a .table .now) (suc (order .order-in .result .t))) ≤ length (a .result .now))
 fits c =
-    let order = c .before .before in
+    let asked = c .before .before .before in
+    let order = asked .before .before in
     let a = order .before .before .before .before .before .before .args in
-    leb-true (min (a .k) (liveBelow (a .table .now) (suc (order .order-in .result .t)))) (length (a .result .now)) (sym (c .before .reply-fits .ensures) ∙ not-false _ (c .if4 .left))
+    leb-true (min (kAsked (asked .asked-of .result)) (reportedBelow (reportsAsked (asked .asked-of .result)) (a .table .now) (suc (order .order-in .result .t)))) (length (a .result .now))
+    (sym (c .before .reply-fits .ensures) ∙ not-false _ (c .if4 .left))
 
 nearest-buckets-requires : tie.Need-nearest-buckets-requires
 nearest-buckets-requires c κs =
-    let asked = c .before .before in
-    let test = asked .before .before in
-    let order = test .before .before in
+    let test = c .before .before in
+    let asked = test .before .before .before in
+    let order = asked .before .before in
     let e = order .before in
     let a = e .before .before .before .before .before .args in
-    let number : kAsked (asked .asked-of .result) ≡ a .k = ap kAsked (asked .asked-of .ensures) ∙ threshold-of-row 0 (a .query) (a .k) 0 in (
-      order .order-in .ensures,
-      passed e,
-      omega (arith, number, e .if3 .left),
-      subst (λ (n : ℕ). min n (liveBelow (a .table .now) (suc (order .order-in .result .t))) ≤ length (a .result .now)) (sym number) (fits test),
-    )
+    let number : kAsked (asked .asked-of .result) ≡ a .k = ap kAsked (asked .asked-of .ensures) ∙ threshold-of-row 0 (a .query) (a .k) 0 in
+    (order .order-in .ensures, passed e, omega (arith, number, e .if3 .left), fits test)
 
 -- what the buckets left is an answer that fits
 module _ (c : tie.After-nearest-buckets) where
   abbrev test : tie.Else4
-  test = c .before .before .before .before .before
+  test = c .before .before .before
+
+  abbrev asked : tie.After-asked-of
+  asked = test .before .before .before
+
+  abbrev order : tie.After-order-in
+  order = asked .before .before
 
   abbrev e : tie.Else3
-  e = test .before .before .before
+  e = order .before
 
   abbrev s : tie.Start
   s = e .before .before .before .before .before
@@ -117,9 +125,8 @@ module _ (c : tie.After-nearest-buckets) where
   unfolding rowAt headerRow
   numbers found f =
       let a = s .args in
-      let order = test .before .before .order-in in
-      numbers-fit (a .table .now) (a .result .now) (a .query) (a .k) (passes e) (valid e) (e .if3 .left) (order .result .t) (order .ensures) (is-profile (a .query) _ (s .good .1 .1 .0)) (passed e) (fits test)
-      (c .before .before .before .asked-of .result) (c .before .before .before .asked-of .ensures) _ (c .nearest-buckets .result) (c .nearest-buckets .ensures) same (s .fits .k .fits) found f
+      numbers-fit (a .table .now) (a .result .now) (a .query) (a .k) (passes e) (valid e) (e .if3 .left) (order .order-in .result .t) (order .order-in .ensures)
+      (asked .asked-of .result) (asked .asked-of .ensures) (is-profile (a .query) _ (s .good .1 .1 .0)) (passed e) (fits test) _ (c .nearest-buckets .result) (c .nearest-buckets .ensures) same (s .fits .k .fits) found f
 
   answer : (found : ℕ) → found ≡ keptUnder (s .args .k) (c .nearest-buckets .result .bound)
       → (let a = s .args in
@@ -129,9 +136,8 @@ module _ (c : tie.After-nearest-buckets) where
   unfolding rowAt headerRow
   answer found f =
       let a = s .args in
-      let order = test .before .before .order-in in
-      answered (a .table .now) (a .result .now) (a .query) (a .k) (passes e) (valid e) (e .if3 .left) (order .result .t) (order .ensures) (is-profile (a .query) _ (s .good .1 .1 .0)) (passed e) (fits test)
-      (c .before .before .before .asked-of .result) (c .before .before .before .asked-of .ensures) _ (c .nearest-buckets .result) (c .nearest-buckets .ensures) found f same
+      answered (a .table .now) (a .result .now) (a .query) (a .k) (passes e) (valid e) (e .if3 .left) (order .order-in .result .t) (order .order-in .ensures)
+      (asked .asked-of .result) (asked .asked-of .ensures) (is-profile (a .query) _ (s .good .1 .1 .0)) (passed e) (fits test) _ (c .nearest-buckets .result) (c .nearest-buckets .ensures) found f same
 
 accepted-requires : tie.Need-accepted-requires
 accepted-requires c κs = numbers (c .before .before .before) (c .kept-under .result) (c .kept-under .ensures)
@@ -155,12 +161,12 @@ nearest-spec =
     (λ c κs. search needs)
     returns-3
     order-in-requires
+    (λ c. some-rows (passed (c .before)))
+    (λ c κs. search needs)
     reply-fits-requires
     (λ c κs. search needs)
     (λ c. search needs)
     returns-4
-    (λ c. some-rows (passed (c .before .before .before)))
-    (λ c κs. search needs)
     nearest-buckets-requires
     (λ c κs. search needs)
     accepted-requires

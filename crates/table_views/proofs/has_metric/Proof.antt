@@ -1,5 +1,4 @@
 -- `table_views::has_metric` meets its contract: the metric tested is the one that `spaceOf` reads.
--- Assumes nothing.
 use mathlib.Core.Path.{_∙_, ap}
 use borrow.Author.Needs.{needs}
 use Rattle.metric_rules.specs.Distance.{validMetric}

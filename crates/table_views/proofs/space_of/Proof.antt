@@ -1,5 +1,4 @@
 -- `table_views::space_of` meets its contract: the metric is read where `spaceOf` has it.
--- Assumes nothing.
 use Prim.Native.Nat.{ℕ}
 use mathlib.Core.Path.{ap}
 use borrow.Author.Needs.{needs}

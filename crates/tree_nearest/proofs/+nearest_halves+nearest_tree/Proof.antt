@@ -1,7 +1,7 @@
 -- A slot's own item and then its halves leave what the tree's definition says, and the half on the query's side and then the other what the halves' does.
--- The measures are twice the slots' number, and one more for the halves. Assumes nothing.
+-- The measures are twice the slots' number, and one more for the halves.
 use Prim.Native.Nat.{ℕ, _+_, _-_, _*_, _/_, _≤_, _<_}
-use mathlib.Core.Path.{_≡_, refl, sym, ap, subst, _∙_}
+use mathlib.Core.Path.{_≡_, refl, sym, ap, _∙_}
 use mathlib.Core.Bool.{Bool, true, false, _&&_}
 use mathlib.Core.Logic.{⊎-elim, _⊎_, inl, inr}
 use native.Mathlib.Omega.{arith}
@@ -11,13 +11,11 @@ use lib.Dec.{leb, ltb}
 use Rattle.lists.proofs.Tests.{and-first, and-second}
 use borrow.Fn.Kinds.{In}
 use borrow.Fn.PlainCycle.{Measures, is, falls, and}
-use mathlib.Core.List.{[], _∷_}
-use lib.ListN.{length, take, drop, getD, length-take, length-drop}
-use Rattle.metric_rules.specs.Row.{isLive}
+use lib.ListN.{length, take, drop, length-take, length-drop}
 use Rattle.search_rules.specs.Range.{toQuery}
-use Rattle.search_asked.specs.Asked.{distanceAsked, queryAsked, kAsked}
-use Rattle.tree_nearest.specs.Nearby.{tallyOf, Leaves, liveIn, Ready, takenAt, nearestAsked}
-use Rattle.tree_nearest.proofs.Steps.{short, leaves-as, ready-less, leaves-same, near-empty, second-ready, second-none, second-far, second-within, leftHalf, rightHalf, halves-slots, halves-live, halves-near, halves-far, halves-none, tree-ready, tree-leave, first-live}
+use Rattle.search_asked.specs.Asked.{distanceAsked, queryAsked, reportsAsked, kAsked}
+use Rattle.tree_nearest.specs.Nearby.{tallyOf, Leaves, reportedIn, Ready, nearestAsked}
+use Rattle.tree_nearest.proofs.Steps.{short, leaves-as, ready-less, leaves-same, near-empty, second-ready, second-none, second-far, second-within, leftHalf, rightHalf, halves-slots, halves-reported, halves-near, halves-far, halves-none, tree-ready, tree-leave, first-reported}
 use Rattle.tree_nearest.proofs.nearest_halves.Reads as nearest-halves
 use Rattle.tree_nearest.proofs.nearest_halves.Kinds as nearest-halves-kinds
 use Rattle.tree_nearest.proofs.+nearest_halves+nearest_tree.Lts-nearest_halves as nearest-halves-lts
@@ -69,7 +67,7 @@ abbrev nearest-halves-callees : ℕ → nearest-halves-lts.Claims
 nearest-halves-callees t = (nearest-tree-below t, nearest-tree.Post, excess-reads.Asked, excess-reads.Learnt)
 
 abbrev nearest-tree-callees : ℕ → nearest-tree-lts.Claims
-nearest-tree-callees t = (distance-between-reads.Asked, distance-between-reads.Learnt, threshold-of-reads.Asked, threshold-of-reads.Learnt, take-in-reads.Asked, take-in-reads.Learnt, nearest-halves-below t, nearest-halves.Post)
+nearest-tree-callees t = (distance-between-reads.Asked, distance-between-reads.Learnt, take-in-reads.Asked, take-in-reads.Learnt, threshold-of-reads.Asked, threshold-of-reads.Learnt, nearest-halves-below t, nearest-halves.Post)
 
 -- where a call of the halves' step begins, and what it goes by
 abbrev Begins : ℕ → Type 0
@@ -77,21 +75,21 @@ Begins t = nearest-halves-lts.Start (nearest-halves-callees t) (nearest-halves-a
 
 -- both halves are to come, in either order
 near-ready : (t : ℕ) (s : Begins t) → (let a = s .args in
-    Ready (kAsked (a .asked .now)) (liveIn isLive (leftHalf (a .rest .now)) + liveIn isLive (rightHalf (a .rest .now))) (length (leftHalf (a .rest .now)) + length (rightHalf (a .rest .now))) (a .area .now) (a .near))
+    Ready (kAsked (a .asked .now)) (reportedIn (reportsAsked (a .asked .now)) (leftHalf (a .rest .now)) + reportedIn (reportsAsked (a .asked .now)) (rightHalf (a .rest .now))) (length (leftHalf (a .rest .now)) + length (rightHalf (a .rest .now))) (a .area .now) (a .near))
 near-ready t s =
     let a = s .args in
-    ready-less (omega (arith, halves-live isLive (a .rest .now))) (omega (arith, halves-slots (a .rest .now))) (s .pre .1)
+    ready-less (omega (arith, halves-reported (reportsAsked (a .asked .now)) (a .rest .now))) (omega (arith, halves-slots (a .rest .now))) (s .pre .1)
 
 far-ready : (t : ℕ) (s : Begins t) → (let a = s .args in
-    Ready (kAsked (a .asked .now)) (liveIn isLive (rightHalf (a .rest .now)) + liveIn isLive (leftHalf (a .rest .now))) (length (rightHalf (a .rest .now)) + length (leftHalf (a .rest .now))) (a .area .now) (a .near))
+    Ready (kAsked (a .asked .now)) (reportedIn (reportsAsked (a .asked .now)) (rightHalf (a .rest .now)) + reportedIn (reportsAsked (a .asked .now)) (leftHalf (a .rest .now))) (length (rightHalf (a .rest .now)) + length (leftHalf (a .rest .now))) (a .area .now) (a .near))
 far-ready t s =
     let a = s .args in
-    ready-less (omega (arith, halves-live isLive (a .rest .now))) (omega (arith, halves-slots (a .rest .now))) (s .pre .1)
+    ready-less (omega (arith, halves-reported (reportsAsked (a .asked .now)) (a .rest .now))) (omega (arith, halves-slots (a .rest .now))) (s .pre .1)
 
 nearest-halves-returns : (t : ℕ) → nearest-halves-lts.Need-returns (nearest-halves-callees t) (nearest-halves-at t) nearest-halves.Post
 nearest-halves-returns t c =
     let a = c .before .args in
-    leaves-as (kAsked (a .asked .now)) (a .area .now) _ _ (halves-none (distanceAsked (a .asked .now)) (queryAsked (a .asked .now)) isLive (kAsked (a .asked .now)) (a .d) (a .m) (a .rest .now) (tallyOf (kAsked (a .asked .now)) (a .area .now) (a .near)) (c .if1 .taken))
+    leaves-as (kAsked (a .asked .now)) (a .area .now) _ _ (halves-none (distanceAsked (a .asked .now)) (queryAsked (a .asked .now)) (reportsAsked (a .asked .now)) (kAsked (a .asked .now)) (a .d) (a .m) (a .rest .now) (tallyOf (kAsked (a .asked .now)) (a .area .now) (a .near)) (c .if1 .taken))
     (leaves-same (c .before .pre .1))
 
 nearest-halves-nearest-tree-requires : (t : ℕ) → nearest-halves-lts.Need-nearest-tree-requires (nearest-halves-callees t) (nearest-halves-at t) nearest-halves.Post
@@ -123,7 +121,7 @@ nearest-halves-nearest-tree-requires-2 t c κs =
       omega (arith, s .pre .0, size),
       (
         omega (arith, size, open′ .0),
-        second-ready (distanceAsked (a .asked .now)) (queryAsked (a .asked .now)) isLive (kAsked (a .asked .now)) (short (a .asked .now)) (leftHalf (a .rest .now)) (rightHalf (a .rest .now)) (a .m) (a .d) (s .fits .m .fits) (near-ready t s) (call .nearest-tree .ensures),
+        second-ready (distanceAsked (a .asked .now)) (queryAsked (a .asked .now)) (reportsAsked (a .asked .now)) (kAsked (a .asked .now)) (short (a .asked .now)) (leftHalf (a .rest .now)) (rightHalf (a .rest .now)) (a .m) (a .d) (s .fits .m .fits) (near-ready t s) (call .nearest-tree .ensures),
       ),
     )
 
@@ -145,7 +143,7 @@ right-left t c =
     (λ w. (w .6 ∙ w .3 .ensures .0, w .5 ∙ w .3 .ensures .1))
     (λ w.
     leaves-as k (a .area .now) _ _
-    (sym (near-empty (distanceAsked (a .asked .now)) (queryAsked (a .asked .now)) isLive k (rightHalf (a .rest .now)) (tallyOf k (a .area .now) (a .near)) (simp (length-take, length-drop) (omega (arith, w .0 .left)))))
+    (sym (near-empty (distanceAsked (a .asked .now)) (queryAsked (a .asked .now)) (reportsAsked (a .asked .now)) k (rightHalf (a .rest .now)) (tallyOf k (a .area .now) (a .near)) (simp (length-take, length-drop) (omega (arith, w .0 .left)))))
     (w .2 ∙ same .0, w .1 ∙ same .1))
     (c .if4 .came)
 
@@ -162,7 +160,7 @@ nearest-halves-nearest-tree-requires-4 t c κs =
       omega (arith, s .pre .0, size),
       (
         omega (arith, size, some .if1 .left),
-        second-ready (distanceAsked (a .asked .now)) (queryAsked (a .asked .now)) isLive (kAsked (a .asked .now)) (short (a .asked .now)) (rightHalf (a .rest .now)) (leftHalf (a .rest .now)) (a .d) (a .m) (s .fits .d .fits) (far-ready t s) (right-left t joined),
+        second-ready (distanceAsked (a .asked .now)) (queryAsked (a .asked .now)) (reportsAsked (a .asked .now)) (kAsked (a .asked .now)) (short (a .asked .now)) (rightHalf (a .rest .now)) (leftHalf (a .rest .now)) (a .d) (a .m) (s .fits .d .fits) (far-ready t s) (right-left t joined),
       ),
     )
 
@@ -181,8 +179,8 @@ nearest-halves-returns-2 t c =
     let dist = distanceAsked (a .asked .now) in
     let query = queryAsked (a .asked .now) in
     let open′ = passes (length (a .rest .now) - length (a .rest .now) / 2) (length (a .rest .now)) (gap .excess .result) (call .nearest-tree .result .bound) (test .if3 .taken) in
-    leaves-as k (a .area .now) _ _ (halves-near dist query isLive k (a .d) (a .m) (a .rest .now) (tallyOf k (a .area .now) (a .near)) (side .if2 .taken))
-    (second-within dist query isLive k (short (a .asked .now)) (leftHalf (a .rest .now)) (rightHalf (a .rest .now)) (a .m) (a .d) (s .fits .m .fits) (near-ready t s) (call .nearest-tree .ensures)
+    leaves-as k (a .area .now) _ _ (halves-near dist query (reportsAsked (a .asked .now)) k (a .d) (a .m) (a .rest .now) (tallyOf k (a .area .now) (a .near)) (side .if2 .taken))
+    (second-within dist query (reportsAsked (a .asked .now)) k (short (a .asked .now)) (leftHalf (a .rest .now)) (rightHalf (a .rest .now)) (a .m) (a .d) (s .fits .m .fits) (near-ready t s) (call .nearest-tree .ensures)
     (gap .excess .result) (gap .excess .ensures) (open′ .1) _ _ (c .before .nearest-tree2 .ensures))
 
 nearest-halves-same-length-2 : (t : ℕ) → nearest-halves-lts.Need-same-length-2 (nearest-halves-callees t) (nearest-halves-at t) nearest-halves.Post
@@ -198,10 +196,10 @@ nearest-halves-returns-3 t c =
     let k = kAsked (a .asked .now) in
     let dist = distanceAsked (a .asked .now) in
     let query = queryAsked (a .asked .now) in
-    leaves-as k (a .area .now) _ _ (halves-near dist query isLive k (a .d) (a .m) (a .rest .now) (tallyOf k (a .area .now) (a .near)) (side .if2 .taken))
+    leaves-as k (a .area .now) _ _ (halves-near dist query (reportsAsked (a .asked .now)) k (a .d) (a .m) (a .rest .now) (tallyOf k (a .area .now) (a .near)) (side .if2 .taken))
     (⊎-elim
-    (λ none. second-none dist query isLive k (short (a .asked .now)) (leftHalf (a .rest .now)) (rightHalf (a .rest .now)) (a .m) (a .d) (s .fits .m .fits) (near-ready t s) (call .nearest-tree .ensures) (simp (length-take, length-drop) (omega (arith, none))))
-    (λ far. second-far dist query isLive k (short (a .asked .now)) (leftHalf (a .rest .now)) (rightHalf (a .rest .now)) (a .m) (a .d) (s .fits .m .fits) (near-ready t s) (call .nearest-tree .ensures) (gap .excess .result) (gap .excess .ensures) far)
+    (λ none. second-none dist query (reportsAsked (a .asked .now)) k (short (a .asked .now)) (leftHalf (a .rest .now)) (rightHalf (a .rest .now)) (a .m) (a .d) (s .fits .m .fits) (near-ready t s) (call .nearest-tree .ensures) (simp (length-take, length-drop) (omega (arith, none))))
+    (λ far. second-far dist query (reportsAsked (a .asked .now)) k (short (a .asked .now)) (leftHalf (a .rest .now)) (rightHalf (a .rest .now)) (a .m) (a .d) (s .fits .m .fits) (near-ready t s) (call .nearest-tree .ensures) (gap .excess .result) (gap .excess .ensures) far)
     (fails (length (a .rest .now) - length (a .rest .now) / 2) (length (a .rest .now)) (gap .excess .result) (call .nearest-tree .result .bound) (c .if3 .left)))
 
 nearest-halves-same-length-3 : (t : ℕ) → nearest-halves-lts.Need-same-length-3 (nearest-halves-callees t) (nearest-halves-at t) nearest-halves.Post
@@ -217,8 +215,8 @@ nearest-halves-returns-4 t c =
     let k = kAsked (a .asked .now) in
     let dist = distanceAsked (a .asked .now) in
     let query = queryAsked (a .asked .now) in
-    leaves-as k (a .area .now) _ _ (halves-far dist query isLive k (a .d) (a .m) (a .rest .now) (tallyOf k (a .area .now) (a .near)) (joined .before .if2 .left))
-    (second-within dist query isLive k (short (a .asked .now)) (rightHalf (a .rest .now)) (leftHalf (a .rest .now)) (a .d) (a .m) (s .fits .d .fits) (far-ready t s) (right-left t joined)
+    leaves-as k (a .area .now) _ _ (halves-far dist query (reportsAsked (a .asked .now)) k (a .d) (a .m) (a .rest .now) (tallyOf k (a .area .now) (a .near)) (joined .before .if2 .left))
+    (second-within dist query (reportsAsked (a .asked .now)) k (short (a .asked .now)) (rightHalf (a .rest .now)) (leftHalf (a .rest .now)) (a .d) (a .m) (s .fits .d .fits) (far-ready t s) (right-left t joined)
     (gap .excess2 .result) (gap .excess2 .ensures) (omega (arith, test .if5 .taken)) _ _ (c .before .nearest-tree4 .ensures))
 
 nearest-halves-returns-5 : (t : ℕ) → nearest-halves-lts.Need-returns-5 (nearest-halves-callees t) (nearest-halves-at t) nearest-halves.Post
@@ -230,40 +228,26 @@ nearest-halves-returns-5 t c =
     let k = kAsked (a .asked .now) in
     let dist = distanceAsked (a .asked .now) in
     let query = queryAsked (a .asked .now) in
-    leaves-as k (a .area .now) _ _ (halves-far dist query isLive k (a .d) (a .m) (a .rest .now) (tallyOf k (a .area .now) (a .near)) (joined .before .if2 .left))
-    (second-far dist query isLive k (short (a .asked .now)) (rightHalf (a .rest .now)) (leftHalf (a .rest .now)) (a .d) (a .m) (s .fits .d .fits) (far-ready t s) (right-left t joined)
+    leaves-as k (a .area .now) _ _ (halves-far dist query (reportsAsked (a .asked .now)) k (a .d) (a .m) (a .rest .now) (tallyOf k (a .area .now) (a .near)) (joined .before .if2 .left))
+    (second-far dist query (reportsAsked (a .asked .now)) k (short (a .asked .now)) (rightHalf (a .rest .now)) (leftHalf (a .rest .now)) (a .d) (a .m) (s .fits .d .fits) (far-ready t s) (right-left t joined)
     (gap .excess2 .result) (gap .excess2 .ensures) (omega (arith, c .if5 .left)))
-
--- what taking the first slot's item in left, its k being the one that is asked
-own-left : (t : ℕ) (c : nearest-tree-lts.After-take-in (nearest-tree-callees t) (nearest-tree-at t) nearest-tree.Post) → (let k = c .before .before in
-    let d = k .before .before in
-    let a = d .before .before .before .before .args in
-    Leaves (kAsked (a .asked .now)) (takenAt isLive (kAsked (a .asked .now)) (tallyOf (kAsked (a .asked .now)) (a .area .now) (a .near)) (getD (a .slots .now) 0 []) (d .distance-between .result)) (a .area .now) (c .take-in .last .1 .1 .1 .1 .0) (c .take-in .result))
-own-left t c =
-    let k = c .before .before in
-    let d = k .before .before in
-    let a = d .before .before .before .before .args in
-    subst (λ (n : ℕ). Leaves n (takenAt isLive n (tallyOf n (a .area .now) (a .near)) (getD (a .slots .now) 0 []) (d .distance-between .result)) (a .area .now) (c .take-in .last .1 .1 .1 .1 .0) (c .take-in .result)) (k .threshold-of .ensures)
-    (c .take-in .ensures)
 
 nearest-tree-take-in-requires : (t : ℕ) → nearest-tree-lts.Need-take-in-requires (nearest-tree-callees t) (nearest-tree-at t) nearest-tree.Post
 nearest-tree-take-in-requires t c κs =
-    let k = c .before in
-    let s = k .before .before .before .before .before .before in
+    let s = c .before .before .before .before .before .before in
     let a = s .args in
-    subst (λ (n : ℕ). Ready n (liveIn isLive (getD (a .slots .now) 0 [] ∷ [])) 1 (a .area .now) (a .near)) (sym (k .threshold-of .ensures))
-    (ready-less (omega (arith, first-live isLive (a .slots .now) (s .pre .1 .0))) (omega (arith, s .pre .1 .0)) (s .pre .1 .1))
+    ready-less (omega (arith, first-reported (reportsAsked (a .asked .now)) (a .slots .now) (s .pre .1 .0))) (omega (arith, s .pre .1 .0)) (s .pre .1 .1)
 
 nearest-tree-nearest-halves-requires : (t : ℕ) → nearest-tree-lts.Need-nearest-halves-requires (nearest-tree-callees t) (nearest-tree-at t) nearest-tree.Post
 unfolding toQuery
 nearest-tree-nearest-halves-requires t c κs =
     let own = c .before .before .before .before in
-    let d = own .before .before .before .before in
+    let d = own .before .before .before in
     let s = d .before .before .before .before in
     let a = s .args in
     let size : length (take (length (a .slots .now) - 1) (drop 1 (a .slots .now))) ≡ length (a .slots .now) - 1 = simp (length-take, length-drop) (omega arith) in (
       omega (arith, s .pre .0, s .pre .1 .0, size),
-      tree-ready (distanceAsked (a .asked .now)) (queryAsked (a .asked .now)) isLive (kAsked (a .asked .now)) (short (a .asked .now)) (a .slots .now) (s .pre .1 .0) (s .pre .1 .1) (d .distance-between .result) (d .distance-between .ensures) (own-left t own),
+      tree-ready (distanceAsked (a .asked .now)) (queryAsked (a .asked .now)) (reportsAsked (a .asked .now)) (kAsked (a .asked .now)) (short (a .asked .now)) (a .slots .now) (s .pre .1 .0) (s .pre .1 .1) (d .distance-between .result) (d .distance-between .ensures) (own .take-in .ensures),
     )
 
 nearest-tree-same-length : (t : ℕ) → nearest-tree-lts.Need-same-length (nearest-tree-callees t) (nearest-tree-at t) nearest-tree.Post
@@ -274,11 +258,11 @@ unfolding toQuery
 nearest-tree-returns t c =
     let m = c .before .before .before in
     let own = m .before .before .before in
-    let d = own .before .before .before .before in
+    let d = own .before .before .before in
     let s = d .before .before .before .before in
     let a = s .args in
-    tree-leave (distanceAsked (a .asked .now)) (queryAsked (a .asked .now)) isLive (kAsked (a .asked .now)) (short (a .asked .now)) (a .slots .now) (s .pre .1 .0) (s .pre .1 .1) (d .distance-between .result) (d .distance-between .ensures) (own-left t own)
-    (m .threshold-of2 .result) (m .threshold-of2 .ensures) _ _ (c .before .nearest-halves .ensures)
+    tree-leave (distanceAsked (a .asked .now)) (queryAsked (a .asked .now)) (reportsAsked (a .asked .now)) (kAsked (a .asked .now)) (short (a .asked .now)) (a .slots .now) (s .pre .1 .0) (s .pre .1 .1) (d .distance-between .result) (d .distance-between .ensures) (own .take-in .ensures)
+    (m .threshold-of .result) (m .threshold-of .ensures) _ _ (c .before .nearest-halves .ensures)
 
 pub +nearest-halves+nearest-tree-spec : {M : Type 1} → statement M
 +nearest-halves+nearest-tree-spec =
@@ -305,7 +289,7 @@ pub +nearest-halves+nearest-tree-spec : {M : Type 1} → statement M
     (nearest-halves-returns-5 t))
     λ t. nearest-tree-lts.spec (nearest-tree-callees t) (nearest-tree-at t)
     nearest-tree.Post
-    (λ c. search needs) (λ c. search needs) (λ c. search needs) (λ c κs. search needs) (λ c. search needs) (λ c κs. search needs)
+    (λ c. search needs) (λ c. search needs) (λ c. search needs) (λ c κs. search needs) (λ c. search needs)
     (nearest-tree-take-in-requires t)
     (λ c. search needs) (λ c. search needs) (λ c. search needs) (λ c κs. search needs)
     (nearest-tree-nearest-halves-requires t)

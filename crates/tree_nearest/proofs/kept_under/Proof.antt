@@ -1,4 +1,4 @@
--- Below 2^32 the bound is a distance, so that k are kept; else it tells how many. Assumes nothing.
+-- Below 2^32 the bound is a distance, so that k are kept; else it tells how many.
 use mathlib.Core.Path.{sym}
 use Rattle.tree_nearest.proofs.Bounds.{under-worst, under-unbounded}
 use Rattle.tree_nearest.proofs.kept_under.Statement.{statement}

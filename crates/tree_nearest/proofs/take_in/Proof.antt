@@ -1,15 +1,18 @@
--- An item beyond the bound, or one that is not live, only moves the count; any other is kept in its order. Assumes nothing.
-use Prim.Native.Nat.{ℕ}
-use mathlib.Core.Path.{_≡_, sym, ap, _∙_}
+-- An item beyond the bound, or one that may not be reported, only moves the count; any other is kept in its order.
+use Prim.Native.Nat.{ℕ, _+_, _≤_, min}
+use mathlib.Core.Path.{_≡_, sym, ap, subst, _∙_}
 use mathlib.Core.Bool.{true}
 use mathlib.Core.List.{[], _∷_}
 use native.Mathlib.Omega.{arith}
+use lib.ListN.{length}
 use borrow.Author.Needs.{needs}
 use borrow.Author.Tests.{not-true, not-false}
-use Rattle.metric_rules.specs.Row.{isLive}
-use Rattle.search_rules.specs.Range.{entry}
-use Rattle.tree_nearest.proofs.TakingIn.{taken-far, taken-dead, taken-live}
-use Rattle.tree_nearest.proofs.Steps.{live-one}
+use Rattle.metric_rules.specs.Row.{mayReport}
+use Rattle.search_rules.specs.Range.{Entry, entry}
+use Rattle.search_rules.specs.Nearest.{keep}
+use Rattle.tree_nearest.specs.Nearby.{boundOf, keptOf, Held, inFront}
+use Rattle.tree_nearest.proofs.TakingIn.{taken-far, taken-unreported, taken-reported}
+use Rattle.tree_nearest.proofs.Steps.{one-reported}
 use Rattle.tree_nearest.proofs.take_in.Statement.{statement}
 use Rattle.tree_nearest.proofs.take_in.Tie as tie
 
@@ -17,32 +20,39 @@ returns : tie.Need-returns
 returns c =
     let start = c .before .before in
     let a = start .args in
-    taken-far isLive (start .pre .held) (a .near .count) (a .row) (a .d) (c .if1 .taken) (omega (arith, start .fits .d))
+    taken-far (mayReport (a .query .now)) (start .pre .held) (a .near .count) (a .row) (a .d) (c .if1 .taken) (omega (arith, start .fits .d))
 
 returns-2 : tie.Need-returns-2
 returns-2 c =
     let start = c .before .before .before .before in
     let a = start .args in
-    taken-dead isLive (start .pre .held) (a .near .count) (a .row) (a .d) (sym (c .before .is-live .ensures) ∙ not-true _ (c .if2 .taken))
+    taken-unreported (mayReport (a .query .now)) (start .pre .held) (a .near .count) (a .row) (a .d) (sym (c .before .may-report .ensures) ∙ not-true _ (c .if2 .taken))
 
--- what is known of an item that is kept
-live : (c : tie.After-tag-of) → isLive (c .before .before .before .before .before .args .row) ≡ true
-live c = sym (c .before .before .is-live .ensures) ∙ not-false _ (c .before .if2 .left)
+-- an item that is kept may be reported
+reported : (c : tie.After-threshold-of) → (let a = c .before .before .before .before .before .before .args in mayReport (a .query .now) (a .row) ≡ true)
+reported c = sym (c .before .before .before .may-report .ensures) ∙ not-false _ (c .before .before .if2 .left)
 
 keep-entry-requires : tie.Need-keep-entry-requires
 keep-entry-requires c κs =
-    let at = c .before in
-    let start = at .before .before .before .before .before in
-    (start .pre .held, omega (arith, start .pre .room, live-one isLive (start .args .row) (live at)))
+    let k = c .before .before in
+    let start = k .before .before .before .before .before .before in
+    let a = start .args in
+    subst (λ (n : ℕ). Held n (a .area .now) (a .near .bound) × (min n (length (keptOf n (a .area .now) (a .near .bound)) + 1) ≤ length (a .area .now))) (sym (k .threshold-of .ensures))
+    (start .pre .held, omega (arith, start .pre .room, one-reported (mayReport (a .query .now)) (a .row) (reported k)))
 
 returns-3 : tie.Need-returns-3
 unfolding entry
 returns-3 c =
     let call = c .before in
-    let at = call .before .before in
-    let start = at .before .before .before .before .before in
+    let tag = call .before .before in
+    let k = tag .before in
+    let start = k .before .before .before .before .before .before in
     let a = start .args in
-    taken-live isLive (start .pre .held) (a .near .count) (a .row) (a .d) (live at) _ (ap (λ (tag : ℕ). tag ∷ a .d ∷ []) (at .tag-of .ensures)) _ _ (call .keep-entry .ensures .0) (call .keep-entry .ensures .1)
+    let new : Entry = tag .tag-of .result ∷ a .d ∷ [] in
+    let kept = subst
+    (λ (n : ℕ). (call .keep-entry .result ≡ boundOf n (keep n (new ∷ keptOf n (a .area .now) (a .near .bound)))) × (call .keep-entry .last .1 .1 .1 .0 ≡ inFront (keep n (new ∷ keptOf n (a .area .now) (a .near .bound))) (a .area .now)))
+    (k .threshold-of .ensures) (call .keep-entry .ensures) in
+    taken-reported (mayReport (a .query .now)) (start .pre .held) (a .near .count) (a .row) (a .d) (reported k) new (ap (λ (n : ℕ). n ∷ a .d ∷ []) (tag .tag-of .ensures)) _ _ (kept .0) (kept .1)
 
 pub take-in-spec : {M : Type 1} → statement M
 take-in-spec =
@@ -52,6 +62,7 @@ take-in-spec =
     returns
     (λ c κs. search needs)
     returns-2
+    (λ c κs. search needs)
     (λ c κs. search needs)
     keep-entry-requires
     (λ c. search needs)
