@@ -131,14 +131,14 @@ module _ (mark : ℕ) (p : List ℕ) where
       by false f = tt
 
   module _ (separator : ℕ) (text : List ℕ) (next : ℕ) where
-    abbrev Told : NumberRead → Type 0
-    Told s = MeasureAt separator mark text (p ∷ partsBehind separator text next) (signedSize (isNegative p) next s)
+    abbrev MeasureOf : NumberRead → Type 0
+    MeasureOf s = MeasureAt separator mark text (p ∷ partsBehind separator text next) (signedSize (isNegative p) next s)
 
-    pub measure-told : Told (sizeIn mark (unsigned p))
+    pub measure-of-size : MeasureOf (sizeIn mark (unsigned p))
     unfolding sizeIn numberIf
-    measure-told = by (isSize mark (unsigned p)) refl
+    measure-of-size = by (isSize mark (unsigned p)) refl
       where
-        by : (t : Bool) → isSize mark (unsigned p) ≡ t → Told (numberIf t (hundredths mark (unsigned p)))
+        by : (t : Bool) → isSize mark (unsigned p) ≡ t → MeasureOf (numberIf t (hundredths mark (unsigned p)))
         by true e = (sym size-measure ∙ e, sign-covers, refl)
         by false e = sym size-measure ∙ e
 
@@ -152,7 +152,7 @@ module _ (separator mark : ℕ) (text : List ℕ) (end : ℕ) where
       → MeasureAt separator mark text (partsBehind separator text end) m
   behind-measured {next} h p e f g =
       let part = take (next - (end + 1)) (drop (end + 1) text) in
-      coe 1 0 (i. MeasureAt separator mark text (next-part separator text end next h p i) ((g ∙ ap₂ (λ n s. signedSize n next s) f e) i)) (measure-told mark part separator text next)
+      coe 1 0 (i. MeasureAt separator mark text (next-part separator text end next h p i) ((g ∙ ap₂ (λ n s. signedSize n next s) f e) i)) (measure-of-size mark part separator text next)
 
 -- four in turn: each begins where the one before it ends
 module _ (separator mark : ℕ) (text : List ℕ) (begin : ℕ) where

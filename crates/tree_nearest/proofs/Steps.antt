@@ -51,9 +51,9 @@ keep-near k es h = all-take (λ e. entryDistance e < 2 ^ 32) k (ordered es) (all
 module _ (dist : Profile → Profile → ℕ) (query : Profile) (reports : Row → Bool) (k : ℕ) where
   -- a property of the entries kept that taking one slot's item in preserves is preserved by a whole search
   module _ (P : List Entry → Type 0) (own : (t : Tally) (s : Row) → P (t .kept) → P (taken dist query reports k t s .kept)) where
-    turn-keeps : (enters : ℕ → Bool) (search : Tally → Tally) (t : Tally) → P (t .kept) → P (search t .kept) → P (enterHalf dist query reports k enters search t .kept)
+    half-keeps : (enters : ℕ → Bool) (search : Tally → Tally) (t : Tally) → P (t .kept) → P (search t .kept) → P (enterHalf dist query reports k enters search t .kept)
     unfolding enterHalf
-    turn-keeps enters search t h g = go (opens k enters (t .kept))
+    half-keeps enters search t h g = go (opens k enters (t .kept))
       where
         go : (b : Bool) → P ((elim b as (λ _. Tally) [ true ↦ search t | false ↦ t ]) .kept)
         go true = g
@@ -65,10 +65,10 @@ module _ (dist : Profile → Profile → ℕ) (query : Profile) (reports : Row �
     halves-keep d m left right f g t h = go (leb d m)
       where
         goL : (u : Tally) → P (u .kept) → P (enterHalf dist query reports k (entersLeft d m) left u .kept)
-        goL u e = turn-keeps (entersLeft d m) left u e (f u e)
+        goL u e = half-keeps (entersLeft d m) left u e (f u e)
 
         goR : (u : Tally) → P (u .kept) → P (enterHalf dist query reports k (entersRight d m) right u .kept)
-        goR u e = turn-keeps (entersRight d m) right u e (g u e)
+        goR u e = half-keeps (entersRight d m) right u e (g u e)
 
         go : (b : Bool) → P ((elim b as (λ _. Tally) [ true ↦ enterHalf dist query reports k (entersRight d m) right (enterHalf dist query reports k (entersLeft d m) left t) | false ↦ enterHalf dist query reports k (entersLeft d m) left (enterHalf dist query reports k (entersRight d m) right t) ]) .kept)
         go true = goR (enterHalf dist query reports k (entersLeft d m) left t) (goL t h)
@@ -109,11 +109,11 @@ module _ (dist : Profile → Profile → ℕ) (query : Profile) (reports : Row �
     pub sound-tree : (slots : List Row) (t : Tally) → Fit (t .kept) → length (t .kept) ≤ k → Sound (lives dist query reports k slots) (length slots) t (nearestTree dist query reports k t slots)
     sound-tree slots t h few = record { fit = tree-keeps Fit own-fit slots t h; counted = nearest-counted dist query reports k t slots few }
 
-    sound-turn : (enters : ℕ → Bool) (half : List Row) (t : Tally) → Fit (t .kept) → length (t .kept) ≤ k
+    sound-half : (enters : ℕ → Bool) (half : List Row) (t : Tally) → Fit (t .kept) → length (t .kept) ≤ k
         → Sound (lives dist query reports k half) (length half) t (enterHalf dist query reports k enters (λ u. nearestTree dist query reports k u half) t)
-    sound-turn enters half t h few =
+    sound-half enters half t h few =
         record {
-          fit = turn-keeps Fit own-fit enters (λ u. nearestTree dist query reports k u half) t h (tree-keeps Fit own-fit half t h);
+          fit = half-keeps Fit own-fit enters (λ u. nearestTree dist query reports k u half) t h (tree-keeps Fit own-fit half t h);
           counted = counted-half dist query reports k enters (λ u. nearestTree dist query reports k u half) t (lives dist query reports k half) (length half) few (nearest-counted dist query reports k t half few);
         }
 
@@ -231,18 +231,18 @@ module _ (dist : Profile → Profile → ℕ) (query : Profile) (reports : Row �
   near-empty [] t e = nearest-none dist query reports k t
   near-empty (s ∷ rest) t e = absurd (omega arith)
 
-  turn-open : (enters : ℕ → Bool) (search : Tally → Tally) (t : Tally) → opens k enters (t .kept) ≡ true → enterHalf dist query reports k enters search t ≡ search t
+  half-open : (enters : ℕ → Bool) (search : Tally → Tally) (t : Tally) → opens k enters (t .kept) ≡ true → enterHalf dist query reports k enters search t ≡ search t
   unfolding enterHalf
-  turn-open enters search t e = ap (λ (b : Bool). elim b [ true ↦ search t | false ↦ t ]) e
+  half-open enters search t e = ap (λ (b : Bool). elim b [ true ↦ search t | false ↦ t ]) e
 
-  turn-shut : (enters : ℕ → Bool) (search : Tally → Tally) (t : Tally) → opens k enters (t .kept) ≡ false → enterHalf dist query reports k enters search t ≡ t
+  half-shut : (enters : ℕ → Bool) (search : Tally → Tally) (t : Tally) → opens k enters (t .kept) ≡ false → enterHalf dist query reports k enters search t ≡ t
   unfolding enterHalf
-  turn-shut enters search t e = ap (λ (b : Bool). elim b [ true ↦ search t | false ↦ t ]) e
+  half-shut enters search t e = ap (λ (b : Bool). elim b [ true ↦ search t | false ↦ t ]) e
 
   -- the turn of a half without slots does nothing
-  turn-empty : (enters : ℕ → Bool) (half : List Row) (t : Tally) → length half ≡ 0 → enterHalf dist query reports k enters (λ u. nearestTree dist query reports k u half) t ≡ t
+  half-empty : (enters : ℕ → Bool) (half : List Row) (t : Tally) → length half ≡ 0 → enterHalf dist query reports k enters (λ u. nearestTree dist query reports k u half) t ≡ t
   unfolding enterHalf
-  turn-empty enters half t e = go (opens k enters (t .kept))
+  half-empty enters half t e = go (opens k enters (t .kept))
     where
       go : (b : Bool) → elim b [ true ↦ nearestTree dist query reports k t half | false ↦ t ] ≡ t
       go true = near-empty half t e
@@ -263,12 +263,12 @@ module _ (dist : Profile → Profile → ℕ) (query : Profile) (reports : Row �
 
     -- the other half has no slots, or is too far
     pub second-none : length second ≡ 0 → Leaves k (nearThenFar first second a b (tallyOf k area near)) area mid r
-    second-none e = leaves-as k area mid r (sym (turn-empty (entersLeft a b) second (nearestTree dist query reports k (tallyOf k area near) first) e)) l
+    second-none e = leaves-as k area mid r (sym (half-empty (entersLeft a b) second (nearestTree dist query reports k (tallyOf k area near) first) e)) l
 
     pub second-far : (gap : ℕ) → gap ≡ a - b → r .bound < gap → Leaves k (nearThenFar first second a b (tallyOf k area near)) area mid r
     second-far gap e far =
         leaves-as k area mid r
-        (sym (turn-shut (entersLeft a b) (λ u. nearestTree dist query reports k u second) (nearestTree dist query reports k (tallyOf k area near) first)
+        (sym (half-shut (entersLeft a b) (λ u. nearestTree dist query reports k u second) (nearestTree dist query reports k (tallyOf k area near) first)
         (shut-beyond k a b few _ (r .bound) (ap (λ (x : Nearby). x .bound) (l .0)) (omega arith))))
         l
 
@@ -279,9 +279,9 @@ module _ (dist : Profile → Profile → ℕ) (query : Profile) (reports : Row �
         let t₁ = nearestTree dist query reports k (tallyOf k area near) first in
         let after : nearestTree dist query reports k (tallyOf k mid r) second ≡ nearThenFar first second a b (tallyOf k area near) =
         ap (λ (u : Tally). nearestTree dist query reports k u second) (tally-after dist query reports (reportedIn reports first) (reportedIn reports second) (length first) (length second) p once l)
-        ∙ sym (turn-open (entersLeft a b) (λ u. nearestTree dist query reports k u second) t₁ (opens-within k a b few _ (r .bound) (ap (λ (x : Nearby). x .bound) (l .0)) (omega arith)))
+        ∙ sym (half-open (entersLeft a b) (λ u. nearestTree dist query reports k u second) t₁ (opens-within k a b few _ (r .bound) (ap (λ (x : Nearby). x .bound) (l .0)) (omega arith)))
         in
-        let twice = sound-turn dist query reports k short (entersLeft a b) second t₁ (once .fit) (omega (arith, once .counted .size)) in
+        let twice = sound-half dist query reports k short (entersLeft a b) second t₁ (once .fit) (omega (arith, once .counted .size)) in
         leaves-then dist query reports (reportedIn reports first) (reportedIn reports second) (length first) (length second) p once l (nearThenFar first second a b (tallyOf k area near)) last z (omega (arith, once .counted .size, twice .counted .size))
         (leaves-as k mid last z after q)
 
@@ -293,7 +293,7 @@ module _ (dist : Profile → Profile → ℕ) (query : Profile) (reports : Row �
       let goL : Tally → Tally = enterHalf dist query reports k (entersLeft d m) left in
       let goR : Tally → Tally = enterHalf dist query reports k (entersRight d m) right in
       ap₂ (λ (xs ys : List Row). nearThenFar xs ys m d t) (left-is rest) (right-is rest)
-      ∙ ap goR (sym (turn-open (entersLeft d m) left t (opens-always k d m h (t .kept))))
+      ∙ ap goR (sym (half-open (entersLeft d m) left t (opens-always k d m h (t .kept))))
       ∙ sym (ap (λ (b : Bool). elim b [ true ↦ goR (goL t) | false ↦ goL (goR t) ]) (le-leb d m h))
 
   pub halves-far : (d m : ℕ) (rest : List Row) (t : Tally) → m < d → nearThenFar (rightHalf rest) (leftHalf rest) d m t ≡ nearInHalves dist query reports k d m rest t
@@ -304,7 +304,7 @@ module _ (dist : Profile → Profile → ℕ) (query : Profile) (reports : Row �
       let goL : Tally → Tally = enterHalf dist query reports k (entersLeft d m) left in
       let goR : Tally → Tally = enterHalf dist query reports k (entersRight d m) right in
       ap₂ (λ (xs ys : List Row). nearThenFar xs ys d m t) (right-is rest) (left-is rest)
-      ∙ ap goL (sym (turn-open (entersRight d m) right t (opens-always k m d (omega arith) (t .kept))))
+      ∙ ap goL (sym (half-open (entersRight d m) right t (opens-always k m d (omega arith) (t .kept))))
       ∙ sym (ap (λ (b : Bool). elim b [ true ↦ goR (goL t) | false ↦ goL (goR t) ]) (lt-leb d m h))
 
   -- no slots, no halves
@@ -319,10 +319,10 @@ module _ (dist : Profile → Profile → ℕ) (query : Profile) (reports : Row �
       right = drop (leftSize (suc (length rest))) rest
 
       goL : (u : Tally) → enterHalf dist query reports k (entersLeft d m) (λ v. nearestTree dist query reports k v left) u ≡ u
-      goL u = turn-empty (entersLeft d m) left u (rw length-take (omega arith))
+      goL u = half-empty (entersLeft d m) left u (rw length-take (omega arith))
 
       goR : (u : Tally) → enterHalf dist query reports k (entersRight d m) (λ v. nearestTree dist query reports k v right) u ≡ u
-      goR u = turn-empty (entersRight d m) right u (rw length-drop (omega arith))
+      goR u = half-empty (entersRight d m) right u (rw length-drop (omega arith))
 
       go : (b : Bool)
           → elim b [

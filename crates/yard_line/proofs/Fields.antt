@@ -260,34 +260,34 @@ module _ (letter : ℕ) (text : List ℕ) where
   of-by e f g h k = λ i. commandBy (sym e i) (sym f i) (sym g i) (sym h i) (k i)
 
   module _ {t : Bool} {v : ℕ} (value : v ≡ numeral 10 text) where
-    pub within-said : letter ≡ letterW → isNumber text ≡ t → commandBy false t false false v ≡ commandOf letter text
-    within-said e f =
+    pub within-is : letter ≡ letterW → isNumber text ≡ t → commandBy false t false false v ≡ commandOf letter text
+    within-is e f =
         of-by (other-letter letter letterA _ (λ k. omega arith)) (this-letter letter letterW e f) (other-letter letter letterN _ (λ k. omega arith))
         (other-letter letter letterR _ (λ k. omega arith)) value
 
-    pub nearest-said : letter ≡ letterN → isNumber text ≡ t → commandBy false false t false v ≡ commandOf letter text
-    nearest-said e f =
+    pub nearest-is : letter ≡ letterN → isNumber text ≡ t → commandBy false false t false v ≡ commandOf letter text
+    nearest-is e f =
         of-by (other-letter letter letterA _ (λ k. omega arith)) (other-letter letter letterW _ (λ k. omega arith)) (this-letter letter letterN e f)
         (other-letter letter letterR _ (λ k. omega arith)) value
 
-    pub add-said : letter ≡ letterA → isTag text ≡ t → commandBy t false false false v ≡ commandOf letter text
-    add-said e f =
+    pub add-is : letter ≡ letterA → isTag text ≡ t → commandBy t false false false v ≡ commandOf letter text
+    add-is e f =
         of-by (this-letter letter letterA e f) (other-letter letter letterW _ (λ k. omega arith)) (other-letter letter letterN _ (λ k. omega arith))
         (other-letter letter letterR _ (λ k. omega arith)) value
 
-    pub remove-said : letter ≡ letterR → isTag text ≡ t → commandBy false false false t v ≡ commandOf letter text
-    remove-said e f =
+    pub remove-is : letter ≡ letterR → isTag text ≡ t → commandBy false false false t v ≡ commandOf letter text
+    remove-is e f =
         of-by (other-letter letter letterA _ (λ k. omega arith)) (other-letter letter letterW _ (λ k. omega arith)) (other-letter letter letterN _ (λ k. omega arith))
         (this-letter letter letterR e f) value
 
   module _ (no-within : letter ≡ letterW → ⊥) (no-nearest : letter ≡ letterN → ⊥) where
-    pub no-tag-said : isTag text ≡ false → command.Other ≡ commandOf letter text
-    no-tag-said e =
+    pub no-tag-is : isTag text ≡ false → command.Other ≡ commandOf letter text
+    no-tag-is e =
         of-by (ap (λ t. eqb letter letterA && t) e ∙ and-false (eqb letter letterA)) (other-letter letter letterW _ no-within) (other-letter letter letterN _ no-nearest)
         (ap (λ t. eqb letter letterR && t) e ∙ and-false (eqb letter letterR)) refl
 
-    pub nothing-said : (letter ≡ letterA → ⊥) → (letter ≡ letterR → ⊥) → command.Other ≡ commandOf letter text
-    nothing-said h k =
+    pub neither-is : (letter ≡ letterA → ⊥) → (letter ≡ letterR → ⊥) → command.Other ≡ commandOf letter text
+    neither-is h k =
         of-by (other-letter letter letterA _ h) (other-letter letter letterW _ no-within) (other-letter letter letterN _ no-nearest) (other-letter letter letterR _ k) refl
 
 -- the letter of a first field of one byte
@@ -342,19 +342,19 @@ module _ (line : List ℕ) where
     count = ap (λ qs. eqb (length qs) 2) parts ∙ two-more (length ps) 0
 
     -- the grammar's choice, by the tests that the code makes
-    pub said : (t : Bool) → areWhole b ps ≡ t → elim t [ true ↦ commandOf b y | false ↦ command.Other ] ≡ commandIn line
+    pub whole-is : (t : Bool) → areWhole b ps ≡ t → elim t [ true ↦ commandOf b y | false ↦ command.Other ] ≡ commandIn line
     unfolding areWhole
-    said t e = by (eqb b letterR) refl t e
+    whole-is t e = by (eqb b letterR) refl t e
       where
-        told : {u : Bool} → eqb b letterR ≡ u → areWhole b ps ≡ elim u [ true ↦ eqb (length ps) 0 | false ↦ areProfile ps ]
-        told f = ap (λ u. elim u [ true ↦ eqb (length ps) 0 | false ↦ areProfile ps ]) f
+        whole-by : {u : Bool} → eqb b letterR ≡ u → areWhole b ps ≡ elim u [ true ↦ eqb (length ps) 0 | false ↦ areProfile ps ]
+        whole-by f = ap (λ u. elim u [ true ↦ eqb (length ps) 0 | false ↦ areProfile ps ]) f
 
         no : (l : ℕ) (form : List ℕ → Bool) → (b ≡ l → ⊥) → opens l form line ≡ false
         no l form h = opens-as l form ∙ other-letter b l (form y) h
 
         removal : b ≡ letterR → (t : Bool) → eqb (length ps) 0 ≡ t → elim t [ true ↦ commandOf b y | false ↦ command.Other ] ≡ commandIn line
         removal f true e =
-            sym (remove-said b y refl f refl)
+            sym (remove-is b y refl f refl)
             ∙ ap (λ v. commandBy false false false (isTag y) v) second
             ∙ command-by line (has-profile line parts ∙ fields-by ps (ne-eqb (length ps) 5 (λ k. omega (arith, k, eqb-true (length ps) 0 e))) refl refl) refl refl refl (count ∙ e)
             (opens-as letterR isTag ∙ this-letter b letterR f refl)
@@ -365,9 +365,9 @@ module _ (line : List ℕ) where
             kept false k = command-by line k refl refl refl (count ∙ e) refl
 
         by : (u : Bool) → eqb b letterR ≡ u → (t : Bool) → areWhole b ps ≡ t → elim t [ true ↦ commandOf b y | false ↦ command.Other ] ≡ commandIn line
-        by true f t e = removal (eqb-true b letterR f) t (sym (told f) ∙ e)
+        by true f t e = removal (eqb-true b letterR f) t (sym (whole-by f) ∙ e)
         by false f true e =
             sym (of-by b y refl refl refl (ap (λ u. u && isTag y) f) refl)
             ∙ ap (λ v. commandBy (eqb b letterA && isTag y) (eqb b letterW && isNumber y) (eqb b letterN && isNumber y) false v) second
-            ∙ command-by line (has-profile line parts ∙ sym (told f) ∙ e) (opens-as letterA isTag) (opens-as letterW isNumber) (opens-as letterN isNumber) refl refl
-        by false f false e = other-command (has-profile line parts ∙ sym (told f) ∙ e) (opens-as letterR isTag ∙ ap (λ u. u && isTag y) f)
+            ∙ command-by line (has-profile line parts ∙ sym (whole-by f) ∙ e) (opens-as letterA isTag) (opens-as letterW isNumber) (opens-as letterN isNumber) refl refl
+        by false f false e = other-command (has-profile line parts ∙ sym (whole-by f) ∙ e) (opens-as letterR isTag ∙ ap (λ u. u && isTag y) f)

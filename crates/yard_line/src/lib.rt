@@ -156,7 +156,7 @@ fn is_whole(line: &[u8], letter: u8, end: usize) -> bool
 }
 
 // The command of a letter, by the field behind it.
-fn spoken(letter: u8, text: &[u8]) -> Command
+fn command_of(letter: u8, text: &[u8]) -> Command
     ensures { λ r. ⌜ r ≡ commandOf letter (now (text .entry)) ⌝ }
 {
     if letter == b'W' {
@@ -200,5 +200,5 @@ pub fn command(line: &[u8]) -> Command
     if !is_whole(line, letter, second_end) {
         return Command::Other;
     }
-    spoken(letter, &line[first_end + 1..second_end])
+    command_of(letter, &line[first_end + 1..second_end])
 }

@@ -6,7 +6,7 @@ use borrow.Author.Needs.{needs}
 use mathlib.Core.Bool.{true, false}
 use borrow.Author.Tests.{not-true, not-false}
 use Rattle.yard_rules.specs.Line.{onlyByte}
-use Rattle.yard_line.proofs.Fields.{two-fields, first-byte, long-letter, one-field, said}
+use Rattle.yard_line.proofs.Fields.{two-fields, first-byte, long-letter, one-field, whole-is}
 use Rattle.yard_line.proofs.command.Statement.{statement}
 use Rattle.yard_line.proofs.command.Tie as tie
 
@@ -21,14 +21,14 @@ returns-3 c =
     let line = c .before .before .before .before .before .before .before .before .args .line .now in
     let parts = two-fields line (c .before .before .before .before .before .before .part-end .ensures) (omega arith) (c .before .before .before .part-end2 .ensures) in
     let letter = first-byte line (omega arith) ∙ ap (λ k. onlyByte (take k line)) (sym (c .before .before .before .before .before .if1 .left)) in
-    said line parts letter false (sym (c .before .is-whole .ensures) ∙ not-true _ (c .if3 .taken))
+    whole-is line parts letter false (sym (c .before .is-whole .ensures) ∙ not-true _ (c .if3 .taken))
 
 returns-4 : tie.Need-returns-4
 returns-4 c =
     let line = c .before .before .before .before .before .before .before .before .before .before .args .line .now in
     let parts = two-fields line (c .before .before .before .before .before .before .before .before .part-end .ensures) (omega arith) (c .before .before .before .before .before .part-end2 .ensures) in
     let letter = first-byte line (omega arith) ∙ ap (λ k. onlyByte (take k line)) (sym (c .before .before .before .before .before .before .before .if1 .left)) in
-    c .spoken .ensures ∙ said line parts letter true (sym (c .before .before .before .is-whole .ensures) ∙ not-false _ (c .before .before .if3 .left))
+    c .command-of .ensures ∙ whole-is line parts letter true (sym (c .before .before .before .is-whole .ensures) ∙ not-false _ (c .before .before .if3 .left))
 
 pub command-spec : {M : Type 1} → statement M
 command-spec =

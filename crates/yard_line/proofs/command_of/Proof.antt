@@ -1,54 +1,54 @@
--- `yard_line::spoken` meets its contract, letter by letter.
+-- `yard_line::command_of` meets its contract, letter by letter.
 use mathlib.Core.Path.{refl}
 use borrow.Author.Needs.{needs}
 use Rattle.text_read.specs.Found.{numberIn}
 use Rattle.text_read.proofs.Forms.{no-number, a-number}
 use Rattle.yard_line.specs.Found.{wordIn}
-use Rattle.yard_line.proofs.Fields.{no-word, a-word, within-said, nearest-said, add-said, remove-said, no-tag-said, nothing-said}
-use Rattle.yard_line.proofs.spoken.Statement.{statement}
-use Rattle.yard_line.proofs.spoken.Tie as tie
+use Rattle.yard_line.proofs.Fields.{no-word, a-word, within-is, nearest-is, add-is, remove-is, no-tag-is, neither-is}
+use Rattle.yard_line.proofs.command_of.Statement.{statement}
+use Rattle.yard_line.proofs.command_of.Tie as tie
 
 returns : tie.Need-returns
 unfolding wordIn
-returns c = within-said _ _ refl (c .before .before .before .if1 .taken) (no-word _ _ (c .before .before .word .ensures) (c .enum-told .given .1))
+returns c = within-is _ _ refl (c .before .before .before .if1 .taken) (no-word _ _ (c .before .before .word .ensures) (c .enum-told .given .1))
 
 returns-2 : tie.Need-returns-2
 unfolding wordIn
 returns-2 c =
     let radius = a-word _ _ (c .before .before .before .word .ensures) (c .before .radius .given .1) in
-    within-said _ _ (radius .1) (c .before .before .before .before .if1 .taken) (radius .0)
+    within-is _ _ (radius .1) (c .before .before .before .before .if1 .taken) (radius .0)
 
 returns-3 : tie.Need-returns-3
 unfolding wordIn
-returns-3 c = nearest-said _ _ refl (c .before .before .before .if2 .taken) (no-word _ _ (c .before .before .word2 .ensures) (c .enum-told2 .given .1))
+returns-3 c = nearest-is _ _ refl (c .before .before .before .if2 .taken) (no-word _ _ (c .before .before .word2 .ensures) (c .enum-told2 .given .1))
 
 returns-4 : tie.Need-returns-4
 unfolding wordIn
 returns-4 c =
     let k = a-word _ _ (c .before .before .before .word2 .ensures) (c .before .k .given .1) in
-    nearest-said _ _ (k .1) (c .before .before .before .before .if2 .taken) (k .0)
+    nearest-is _ _ (k .1) (c .before .before .before .before .if2 .taken) (k .0)
 
 returns-5 : tie.Need-returns-5
 unfolding numberIn
-returns-5 c = no-tag-said _ _ (c .before .before .before .before .if1 .left) (c .before .before .before .if2 .left) (no-number _ _ (c .before .before .number .ensures) (c .enum-told3 .given .1))
+returns-5 c = no-tag-is _ _ (c .before .before .before .before .if1 .left) (c .before .before .before .if2 .left) (no-number _ _ (c .before .before .number .ensures) (c .enum-told3 .given .1))
 
 returns-6 : tie.Need-returns-6
 unfolding numberIn
 returns-6 c =
     let tag = a-number _ _ (c .before .before .before .before .number .ensures) (c .before .before .tag .given .1) in
-    add-said _ _ (tag .1) (c .if3 .taken) (tag .0)
+    add-is _ _ (tag .1) (c .if3 .taken) (tag .0)
 
 returns-7 : tie.Need-returns-7
 unfolding numberIn
 returns-7 c =
     let tag = a-number _ _ (c .before .before .before .before .before .number .ensures) (c .before .before .before .tag .given .1) in
-    remove-said _ _ (tag .1) (c .if4 .taken) (tag .0)
+    remove-is _ _ (tag .1) (c .if4 .taken) (tag .0)
 
 returns-8 : tie.Need-returns-8
-returns-8 c = nothing-said _ _ (c .before .before .before .before .before .before .before .if1 .left) (c .before .before .before .before .before .before .if2 .left) (c .before .if3 .left) (c .if4 .left)
+returns-8 c = neither-is _ _ (c .before .before .before .before .before .before .before .if1 .left) (c .before .before .before .before .before .before .if2 .left) (c .before .if3 .left) (c .if4 .left)
 
-pub spoken-spec : {M : Type 1} → statement M
-spoken-spec =
+pub command-of-spec : {M : Type 1} → statement M
+command-of-spec =
     tie.close
     (tie.spec
     (λ c κs. search needs) (λ c. search needs) (λ c. search needs)
