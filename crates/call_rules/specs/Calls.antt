@@ -23,7 +23,7 @@ use Rattle.image_rules.specs.Load.{loadRefusal, tableAfterLoad}
 use Rattle.list_rules.specs.declared.ListRead.{ListRead}
 use Rattle.list_rules.specs.ReadList.{readListReply, tableAfterReadList, workAfterReadList}
 
--- The calls that begin a table. They read nothing of what lay there but its length; a load's image is an argument
+-- RULES 7, 12.3: the calls that begin a table. They read nothing of what lay there but its length; a load's image is an argument
 pub data Begin : Type 0 where
   fresh : (order : ℕ) (space : Space) → Begin
   load : (image : List ℕ) → Begin
@@ -40,7 +40,7 @@ abbrev pub tableBegun : Begin → Table → Table
 tableBegun (fresh order space) t = tableAfterFresh order space t
 tableBegun (load image) t = tableAfterLoad image t
 
--- The calls that change a table. Each is lent a work area; a herd list's bytes are an argument
+-- RULES 8, 9, 13: the calls that change a table. Each is lent a work area; a herd list's bytes are an argument
 pub data Change : Type 0 where
   add : (tag : ℕ) (profile : Profile) → Change
   remove : (tag : ℕ) → Change
@@ -66,7 +66,7 @@ workChanged (add tag profile) t work = workAfterAdd t work tag profile
 workChanged (remove tag) t work = workAfterRemove t work tag
 workChanged (readList list) t work = workAfterReadList t work list
 
--- The calls that only ask: they leave the table as it is. Each is lent areas of its own to answer in
+-- RULES 10, 11: the calls that only ask. They leave the table as it is. Each is lent areas of its own to answer in
 pub data Ask : Type 0 where
   lookUp : (tag : ℕ) → Ask
   range : (query : Profile) (radius : ℕ) → Ask
@@ -92,7 +92,7 @@ areasAnswered (lookUp tag) t none = none
 areasAnswered (range query radius) t result = resultAfterRange t result query radius
 areasAnswered (nearest query k) t result = resultAfterNearest t result query k
 
--- The four groups as one: a call, the areas lent to it besides the table, and what it leaves
+-- The four groups as one, with writing (RULES 12.2): a call, the areas lent to it besides the table, and what it leaves
 pub data Call : Type 0 where
   begin : Begin → Call
   change : Change → Call

@@ -28,7 +28,7 @@ overlaid left area = take (length area) left ++ drop (length left) area
 unfoldable pub leftBy : Table → Table → Table
 leftBy left area = area ++ drop (length area) left
 
--- what a call shows besides its refusal, by kind: look up's profile, the number found and the entries, a herd list's line and the number added
+-- RULES 17.6: what a call shows besides its refusal, by kind: look up's profile, the number found and the entries, a herd list's line and the number added
 pub data Payload : Type 0 where
   bare : Payload
   aProfile : Profile → Payload
@@ -42,7 +42,7 @@ zeroed (aProfile p) = aProfile noProfile
 zeroed (someEntries found entries) = someEntries 0 []
 zeroed (aListRead line added) = aListRead 0 0
 
--- what table and model are "alike in" at a call
+-- RULES 17.6: what table and model are alike in at a call
 pub record Shown : Type 0 where
   pub refusal : ℕ
   pub payload : Payload
@@ -65,7 +65,7 @@ askShown (lookUp tag) l none = shows (l .refusal) (aProfile (l .profile))
 askShown (range q r) s result = shows (s .refusal) (someEntries (s .found) (take (s .found) result))
 askShown (nearest q k) s result = shows (s .refusal) (someEntries (s .found) (take (s .found) result))
 
--- writing's refusal is excepted
+-- RULES 17.6: writing's refusal is excepted
 unfoldable pub shown : (c : Call) → Reply c → Areas c → Shown
 shown (begin b) reply areas = beginShown b reply
 shown (change c) reply work = changeShown c reply

@@ -1,4 +1,4 @@
--- 01, "A head and its distance", and W2: which tags, measures and marks are valid.
+-- RULES 2.2, 2.4, 14.6: which tags, measures and marks are valid.
 use Prim.Native.Nat.{ℕ, _/_, _%_, _^_}
 use mathlib.Core.Bool.{Bool, _&&_}
 use lib.IntN.{ℤ, natAbs}

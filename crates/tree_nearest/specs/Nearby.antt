@@ -1,4 +1,4 @@
--- What a nearest search hands on from step to step (01, "Searching": "The running count and the kept bound pass through every step"): two numbers, while
+-- What a nearest search hands on from step to step (RULES 11.8: "The running count and the kept bound pass through every step"): two numbers, while
 -- the entries kept stand in order at the front of the area.
 use Prim.Native.Nat.{ℕ, suc, _+_, _-_, _≤_, _<_, _^_, min}
 use mathlib.Core.Path.{_≡_}
