@@ -4,27 +4,32 @@ use Prim.Native.Nat.{ℕ, zero, suc, _+_, _≤_, _<_}
 use native.Mathlib.Omega.{arith}
 use mathlib.Core.Path.{_≡_, refl, sym, _∙_, ap, ap₂}
 use mathlib.Core.Logic.{⊎-elim}
-use mathlib.Core.Bool.{Bool, true, false, _&&_}
+use mathlib.Core.Bool.{Bool, true, false}
 use mathlib.Core.List.{List, [], _∷_, map, map-map, Permᴰ·symm}
 use lib.Dec.{ltb, eqb}
 use lib.ListN.{length, length-map, getD}
-use borrow.Author.Tests.{leb-true, ltb-true, ltb-false}
+use borrow.Author.Tests.{leb-true, ltb-true, ltb-false, eq-eqb, ne-eqb}
 use Rattle.lists.specs.Lists.{countFrom, distinct, sameNumbers, All}
 use Rattle.lists.proofs.Lists.{Pairs, all-both, all-perm, all-map, pairs-map, perm-map, perm-length}
 use Rattle.lists.proofs.Distinct.{Differ, distinct-pairs}
 use Rattle.metric_rules.specs.declared.Profile.{Profile}
+use Rattle.metric_rules.specs.declared.Space.{Space}
 use Rattle.metric_rules.specs.Row.{Row, tagOf, withMark}
+use Rattle.metric_rules.specs.Distance.{distance}
 use Rattle.tree_rules.specs.Sorting.{sortBy}
 use Rattle.tree_rules.specs.Layout.{Ranked, rankedFrom, layout, isLayout}
 use Rattle.tree_rules.proofs.Parts.{getD-mapped}
 use Rattle.tree_rules.proofs.Sorting.{NotAfter, key-le-cases, key-le-last, sort-perm, sort-sorted}
 use Rattle.tree_rules.proofs.Layouts.{layoutOf, layout-ranked, layout-reordered}
 use Rattle.search_rules.specs.Range.{Entry, entry, entryDistance, entryKey, ordered}
+use Rattle.table_rules.specs.Refusals.{badImage}
 use Rattle.table_rules.proofs.ByNumber.{all-count, map-count}
 use Rattle.image_rules.proofs.Blocks.{length-count, getD-count}
 use Rattle.image_entries.specs.FirstFault.{firstUnlike, firstFault}
+use Rattle.image_entries.specs.Faults.{noFault, faultUnless, orFault, treeFault}
 use Rattle.image_entries.specs.Entries.{places, entryTag, entryPlace, tagEntry, Fresh, IsEntry, TagsDetermine, slotEntries, rankedIn, laidOut, partFault}
-use Rattle.image_entries.proofs.FirstFault.{is-layout-no-fault}
+use Rattle.image_entries.proofs.FirstFault.{is-layout-no-fault, fault-most}
+use Rattle.image_entries.proofs.Faults.{first-none, numbered-unless}
 use Rattle.image_entries.proofs.Apart.{pairs-at}
 use Rattle.image_entries.proofs.Ranking.{ordered-perm, determined-places, laid-out}
 
@@ -153,21 +158,39 @@ module _ (slot : ℕ → Row) (n : ℕ) where
   entries-fresh = all-map (λ i. tagEntry (tagOf (slot i)) i) Fresh (countFrom 0 n) (all-count (λ i. Fresh (tagEntry (tagOf (slot i)) i)) 0 n (λ i l h. (refl, refl)))
 
 -- the test of a bucket: tags by the entries' order, and the first fault of the entries in order
-module _ (slot : ℕ → Row) (n : ℕ) (few : n ≤ places) (dist : Profile → Profile → ℕ) (b : Bool) (test : b ≡ distinct (map entryTag (slotEntries slot n))) where
+module _ (slot : ℕ → Row) (n : ℕ) (few : n ≤ places) (space : Space) (first : ℕ) (b : Bool) (test : b ≡ distinct (map entryTag (slotEntries slot n))) where
   tags-tested : b ≡ distinct (map tagOf (map slot (countFrom 0 n)))
   tags-tested = test ∙ ap distinct (tags-are slot n few)
-
-  pub bucket-fails : b ≡ false → false ≡ (distinct (map tagOf (map slot (countFrom 0 n))) && isLayout dist (map slot (countFrom 0 n)))
-  bucket-fails h = ap (λ (x : Bool). x && isLayout dist (map slot (countFrom 0 n))) (sym h ∙ tags-tested)
 
   pub bucket-determined : b ≡ true → TagsDetermine slot n
   bucket-determined h = tags-determine slot n few (sym tags-tested ∙ h)
 
-  pub bucket-tested :
-      b ≡ true → (r : ℕ) → r ≡ partFault slot dist 0 (ordered (slotEntries slot n))
-      → eqb r n ≡ (distinct (map tagOf (map slot (countFrom 0 n))) && isLayout dist (map slot (countFrom 0 n)))
-  bucket-tested h r e =
-      let rows : List Row = map slot (countFrom 0 n) in
-      ap₂ eqb (e ∙ bucket-fault slot n few dist) (sym (length-map (countFrom 0 n) slot ∙ length-count 0 n))
-      ∙ sym (is-layout-no-fault dist rows)
-      ∙ ap (λ (x : Bool). x && isLayout dist rows) (sym h ∙ tags-tested)
+  -- a tag occurs twice
+  pub tag-fault : b ≡ false → record { number = badImage; slot = 0 } ≡ treeFault space first (map slot (countFrom 0 n))
+  unfolding treeFault faultUnless orFault
+  tag-fault h = rw (sym tags-tested ∙ h) refl
+
+  -- none does, and the first fault of the entries is the layout's
+  module _ (h : b ≡ true) (r : ℕ) (e : r ≡ partFault slot (distance space) 0 (ordered (slotEntries slot n))) where
+    laid-tested : isLayout (distance space) (map slot (countFrom 0 n)) ≡ eqb r n
+    laid-tested =
+        is-layout-no-fault (distance space) (map slot (countFrom 0 n))
+        ∙ ap₂ eqb (sym (e ∙ bucket-fault slot n few (distance space))) (length-map (countFrom 0 n) slot ∙ length-count 0 n)
+
+    pub fault-within : r ≤ n
+    fault-within = omega (arith, e ∙ bucket-fault slot n few (distance space), fault-most (distance space) (map slot (countFrom 0 n)), length-map (countFrom 0 n) slot, length-count 0 n)
+
+    tree-decides : treeFault space first (map slot (countFrom 0 n)) ≡ faultUnless (eqb r n) (first + r)
+    unfolding treeFault
+    tree-decides =
+        ap (λ (x : Bool). orFault (faultUnless x 0) (faultUnless (isLayout (distance space) (map slot (countFrom 0 n))) (first + firstFault (distance space) (map slot (countFrom 0 n))))) (sym tags-tested ∙ h)
+        ∙ first-none (faultUnless true 0) _ (numbered-unless true 0)
+        ∙ ap₂ (λ (x : Bool) (i : ℕ). faultUnless x (first + i)) laid-tested (sym (e ∙ bucket-fault slot n few (distance space)))
+
+    pub layout-fault : (r ≡ n → ⊥) → record { number = badImage; slot = first + r } ≡ treeFault space first (map slot (countFrom 0 n))
+    unfolding faultUnless
+    layout-fault some = sym (tree-decides ∙ ap (λ (x : Bool). faultUnless x (first + r)) (ne-eqb r n some))
+
+    pub layout-none : r ≡ n → noFault ≡ treeFault space first (map slot (countFrom 0 n))
+    unfolding faultUnless
+    layout-none none = sym (tree-decides ∙ ap (λ (x : Bool). faultUnless x (first + r)) (eq-eqb r n none))

@@ -45,6 +45,16 @@ module _ {A : Type 0} (same : A → A → Bool) where
       go true r = r ∙ eqb-suc (firstUnlike same xs ys) (length xs)
       go false r = sym (ne-eqb 0 (suc (length xs)) (λ e. omega arith))
 
+  unlike-most : (xs ys : List A) → firstUnlike same xs ys ≤ length xs
+  unfolding firstUnlike
+  unlike-most [] ys = omega arith
+  unlike-most (x ∷ xs) [] = omega arith
+  unlike-most (x ∷ xs) (y ∷ ys) = go (same x y) (unlike-most xs ys)
+    where
+      go : (b : Bool) → firstUnlike same xs ys ≤ length xs → elim b [ true ↦ suc (firstUnlike same xs ys) | false ↦ 0 ] ≤ suc (length xs)
+      go true h = omega arith
+      go false h = omega arith
+
   -- two halves, the left alike up to its end or not
   module _ (ys ws : List A) where
     pub unlike-left :
@@ -88,3 +98,8 @@ unfolding isLayout firstFault
 is-layout-no-fault dist slots =
     alike-unlike sameNumbers (layout dist slots) (map (withMark 0) slots) (layout-length dist slots ∙ sym (length-map slots (withMark 0)))
     ∙ ap (eqb (firstFault dist slots)) (layout-length dist slots)
+
+-- and the first that does is one of them
+pub fault-most : (dist : Profile → Profile → ℕ) (slots : List Row) → firstFault dist slots ≤ length slots
+unfolding firstFault
+fault-most dist slots = omega (arith, unlike-most sameNumbers (layout dist slots) (map (withMark 0) slots), layout-length dist slots)

@@ -18,6 +18,12 @@ use search_rules::Entry;
 // A bucket has at most so many slots, and an entry's first word room for as many places below the tag.
 pub const PLACES: u64 = 4096;
 
+// What a test of an image's slots finds: the number of the first fault, 0 where there is none, and its slot among all, 0 where it has none.
+pub struct Fault {
+    pub number: u32,
+    pub slot: usize,
+}
+
 // The entry of a tag and a place.
 pub fn tag_entry(tag: u64, place: usize) -> Entry
     requires { ⌜ (tag < 2 ^ 50) × (place < places) ⌝ }

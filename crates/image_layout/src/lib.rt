@@ -5,14 +5,15 @@ ghost use mathlib.Core.Bool.{_&&_};
 ghost use lib.Dec.{eqb};
 ghost use mathlib.Core.List.{[], map};
 ghost use lib.ListN.{length, take, drop, getD, set};
-ghost use Rattle.lists.specs.Lists.{distinct, All};
-ghost use Rattle.metric_rules.specs.Row.{tagOf, thresholdOf};
+ghost use Rattle.lists.specs.Lists.{All};
+ghost use Rattle.metric_rules.specs.Row.{thresholdOf};
 ghost use Rattle.metric_rules.specs.Distance.{distance, spaceOf};
-ghost use Rattle.tree_rules.specs.Layout.{isLayout};
 ghost use Rattle.search_rules.specs.Range.{ordered};
 ghost use Rattle.image_entries.specs.Entries.{places, entryPlace, lastOf, IsEntry, TagsFit, TagsDetermine, measuredIn, laidOut, laidFrom, partFault};
+ghost use Rattle.image_entries.specs.Faults.{treeFault};
 ghost use Rattle.image_read.specs.InImage.{InImage, slotIn, slotsAt};
 use entry_sort::sort_entries;
+use image_entries::Fault;
 use image_entries::PLACES;
 use image_entries::enter_slots;
 use image_entries::tags_apart;
@@ -22,6 +23,7 @@ use metric::distance_between;
 use metric_rules::Row;
 use rows::threshold_of;
 use search_rules::Entry;
+use table_rules::BAD_IMAGE;
 
 // The place of the entry with the least first word.
 fn least_at(entries: &[Entry]) -> usize
@@ -127,14 +129,25 @@ fn first_fault(image: &[u8], at: Slots, header: &Row, entries: &mut [Entry], pla
     first_fault(image, at, header, &mut entries[end..], place + end)
 }
 
-// Whether no tag occurs twice in a bucket and its slots are their layout, marks aside. What `entries` holds then is left free; it keeps its length.
-pub fn tree_valid(image: &[u8], at: Slots, header: &Row, entries: &mut [Entry]) -> bool
+// The first fault of a bucket's tree: a tag that occurs twice, or the first slot that differs from the layout, marks aside. What `entries` holds then
+// is left free; it keeps its length.
+pub fn tree_fault(image: &[u8], at: Slots, header: &Row, entries: &mut [Entry]) -> Fault
     requires { ⌜ InImage (now image) at × (at .count ≤ places) × (length (now entries) ≡ at .count) × TagsFit (slotIn (now image) at) (at .count) ⌝ }
-    ensures { λ r. ⌜ r ≡ (distinct (map tagOf (slotsAt (now (image .entry)) at)) && isLayout (distance (spaceOf (now (header .entry)))) (slotsAt (now (image .entry)) at)) ⌝ }
+    ensures { λ r. ⌜ r ≡ treeFault (spaceOf (now (header .entry))) (at .first) (slotsAt (now (image .entry)) at) ⌝ }
 {
     enter_slots(image, at, entries);
     if !tags_apart(entries) {
-        return false;
+        return Fault {
+            number: BAD_IMAGE,
+            slot: 0,
+        };
     }
-    first_fault(image, at, header, entries, 0) == at.count
+    let place = first_fault(image, at, header, entries, 0);
+    if place != at.count {
+        return Fault {
+            number: BAD_IMAGE,
+            slot: at.first + place,
+        };
+    }
+    Fault { number: 0, slot: 0 }
 }

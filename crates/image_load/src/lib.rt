@@ -6,9 +6,11 @@ ghost use Rattle.metric_rules.specs.Distance.{validMetric};
 ghost use Rattle.table_rules.specs.Geometry.{mostOrder, validOrder};
 ghost use Rattle.image_rules.specs.Bytes.{validForm};
 ghost use Rattle.image_rules.specs.Read.{orderIn, slotsIn};
-ghost use Rattle.image_rules.specs.Load.{slotsPass, loadRefusal, tableAfterLoad};
+ghost use Rattle.image_rules.specs.Load.{loadRefusal, tableAfterLoad};
 ghost use Rattle.image_read.specs.InImage.{Headed, Whole, InImage};
+ghost use Rattle.image_test.specs.Trees.{slotsFault};
 ghost use Rattle.image_load.specs.Steps.{headerBy, sizesRefusal, laterRefusal};
+use image_entries::Fault;
 use image_fields::buckets_read;
 use image_fields::sizes_pass;
 use image_fill::put_buckets;
@@ -21,7 +23,7 @@ use image_read::header_in;
 use image_read::slots_in;
 use image_reader::has_bytes;
 use image_rules::START_BYTES;
-use image_test::trees_valid;
+use image_test::trees_fault;
 use metric_rules::Row;
 use table_fresh::fresh;
 use table_fresh::header_row;
@@ -91,16 +93,19 @@ fn sizes_refusal(image: &[u8], header: Header, rows: usize) -> u32
     0
 }
 
-// The slots of an image whose sizes and length are right: one by one, and then tags and layouts.
-fn slots_pass(image: &[u8], header: Header, all: Slots) -> bool
+// The first fault of the slots of an image whose sizes and length are right: the fields of all, and then the trees.
+fn slots_fault(image: &[u8], header: Header, all: Slots) -> Fault
     requires { ⌜ Whole (now image) header × InImage (now image) all × (all .first ≡ 0) × (all .count ≡ slotsIn (now image)) ⌝ }
-    ensures { λ r. ⌜ r ≡ slotsPass (now (image .entry)) ⌝ }
+    ensures { λ r. ⌜ r ≡ slotsFault (now (image .entry)) ⌝ }
 {
     if !buckets_read(image, header, all) {
-        return false;
+        return Fault {
+            number: BAD_IMAGE,
+            slot: 0,
+        };
     }
     let row = header_row(header.order.t, header.space);
-    trees_valid(image, header, all, &row)
+    trees_fault(image, header, all, &row)
 }
 
 // Every check behind the first four bytes in its order, for a table of so many rows. Nothing is written.
@@ -116,10 +121,8 @@ fn load_refusal(image: &[u8], header: Header, rows: usize) -> u32
     if second != 0 {
         return second;
     }
-    if !slots_pass(image, header, all_slots(image, header)) {
-        return BAD_IMAGE;
-    }
-    0
+    let fault = slots_fault(image, header, all_slots(image, header));
+    fault.number
 }
 
 // The refusal, 0 if accepted. An accepted image's table has every row written.

@@ -2,14 +2,11 @@
 use Prim.Native.Nat.{ℕ, zero, suc, _+_, _^_, _≤_, _<_}
 use native.Mathlib.Omega.{arith}
 use mathlib.Core.Path.{_≡_, refl, sym, _∙_, ap, ap₂}
-use mathlib.Core.Bool.{Bool, _&&_}
 use mathlib.Core.List.{List, _∷_, _++_, map, flatten, map-append}
 use lib.ListN.{length, getD, take, length-take}
-use Rattle.lists.specs.Lists.{countFrom, total, select, distinct}
+use Rattle.lists.specs.Lists.{countFrom, total, select}
 use Rattle.metric_rules.specs.Row.{Row, tagOf, isLive}
 use Rattle.metric_rules.specs.declared.Space.{Space}
-use Rattle.metric_rules.specs.Distance.{distance}
-use Rattle.tree_rules.specs.Layout.{isLayout}
 use Rattle.search_rules.specs.Range.{Entry}
 use Rattle.search_rules.proofs.Selecting.{select-append}
 use Rattle.table_rules.specs.Geometry.{bucketsOf}
@@ -19,10 +16,12 @@ use Rattle.image_rules.proofs.Blocks.{length-count, getD-count, count-append}
 use Rattle.lists.proofs.Totals.{total-more}
 use Rattle.image_rules.proofs.Counting.{flatten-more}
 use Rattle.image_read.specs.declared.Slots.{Slots}
+use Rattle.image_entries.specs.declared.Fault.{Fault}
+use Rattle.image_entries.specs.Faults.{treeFault}
 use Rattle.image_entries.specs.Entries.{places, TagsFit}
 use Rattle.image_read.specs.InImage.{InImage, slotIn, slotsAt}
 use Rattle.image_read.proofs.Places.{slots-rows, bucket-slots}
-use Rattle.image_test.specs.Trees.{treeValid}
+use Rattle.image_test.specs.Trees.{bucketFault}
 
 module _ (image : List ℕ) where
   -- all buckets' slots, and all slots
@@ -78,10 +77,9 @@ module _ (image : List ℕ) (at : Slots) (k : ℕ) (h : k ≤ orderIn image) (f 
 
   -- what it says of it
   pub bucket-tests :
-      (space : Space) (b : Bool) → b ≡ (distinct (map tagOf (slotsAt image at)) && isLayout (distance space) (slotsAt image at))
-      → treeValid space (bucketIn image (getD (bucketsOf (orderIn image)) k 0)) ≡ b
-  unfolding treeValid bucketsOf
-  bucket-tests space b e =
-      ap (λ (j : ℕ). treeValid space (bucketIn image j)) (getD-count 0 (suc (orderIn image)) k 0 (omega arith) ∙ omega arith)
-      ∙ ap (treeValid space) (sym (bucket-slots image at k f n))
+      (space : Space) (r : Fault) → r ≡ treeFault space (at .first) (slotsAt image at) → bucketFault space image (getD (bucketsOf (orderIn image)) k 0) ≡ r
+  unfolding bucketFault bucketsOf
+  bucket-tests space r e =
+      ap (bucketFault space image) (getD-count 0 (suc (orderIn image)) k 0 (omega arith) ∙ omega arith)
+      ∙ ap₂ (treeFault space) (sym f) (sym (bucket-slots image at k f n))
       ∙ sym e

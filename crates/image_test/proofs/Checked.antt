@@ -1,5 +1,5 @@
 -- What an image shows whose sizes are right and whose slots are valid, one by one: its buckets and its live items fit the array of entries, and its
--- tags leave room for a place. And the test of all slots in its two steps.
+-- tags leave room for a place. And the first fault of all slots, whose number is 0 exactly where they pass.
 use Prim.Native.Nat.{ℕ, suc, _+_, _^_, _≤_, _<_}
 use native.Mathlib.Nat.{pow-le-pow-right}
 use native.Mathlib.Omega.{arith}
@@ -18,6 +18,7 @@ use Rattle.metric_rules.specs.declared.Space.{Space}
 use Rattle.metric_rules.specs.Distance.{distance}
 use Rattle.metric_rules.proofs.Ranges.{tag-below}
 use Rattle.tree_rules.specs.Layout.{isLayout}
+use Rattle.table_rules.specs.Refusals.{badImage, unless}
 use Rattle.table_rules.specs.Geometry.{mostOrder, room, bucketsOf}
 use Rattle.table_rules.specs.Checks.{sizesPass}
 use Rattle.table_rules.proofs.ByNumber.{count-all, map-count, length-flatten}
@@ -29,7 +30,10 @@ use Rattle.search_rules.specs.Range.{Entry}
 use Rattle.image_read.specs.declared.Slots.{Slots}
 use Rattle.image_entries.specs.Entries.{places, TagsFit}
 use Rattle.image_read.specs.InImage.{InImage, slotIn, slotsAt}
-use Rattle.image_test.specs.Trees.{bucketRead, treeValid, treesValid}
+use Rattle.image_entries.specs.declared.Fault.{Fault}
+use Rattle.image_entries.specs.Faults.{noFault, faultUnless, orFault, firstOf}
+use Rattle.image_entries.proofs.Faults.{first-none, first-some, numbered-unless, numbered-or, numbered-all, numbered-tree}
+use Rattle.image_test.specs.Trees.{bucketRead, bucketFault, treesFault, slotsFault}
 use Rattle.image_test.proofs.Buckets.{rows-before, live-all}
 
 room-few : (k order : ℕ) → k ≤ order → order ≤ mostOrder → room k ≤ places
@@ -103,20 +107,35 @@ module _ (image : List ℕ) (known : orderIn image ≤ mostOrder) (sizes : sizes
     λ i l. tags-fit (at .first + i) (omega (arith, p .within)),
   )
 
--- the two tests, and all slots
-pub stand-fails : (space : Space) (image : List ℕ) (b : Bool) → b ≡ every (λ k. treeValid space (bucketIn image k)) (bucketsOf (orderIn image)) → b ≡ false → false ≡ treesValid space image
-unfolding treesValid
-stand-fails space image b e h = ap (λ (x : Bool). x && distinct (map tagOf (liveRows image))) (sym h ∙ e)
+-- the trees' first fault is the buckets', or where they have none that of the live tags
+pub trees-found : (space : Space) (image : List ℕ) (f : Fault) → f ≡ firstOf (map (bucketFault space image) (bucketsOf (orderIn image))) → (f .number ≡ 0 → ⊥) → f ≡ treesFault space image
+unfolding treesFault
+trees-found space image f e some =
+    e ∙ sym (first-some (firstOf (map (bucketFault space image) (bucketsOf (orderIn image)))) (faultUnless (distinct (map tagOf (liveRows image))) 0) (λ z. some (ap (λ (r : Fault). r .number) e ∙ z)))
 
-pub stand-tested :
-    (space : Space) (image : List ℕ) (at : Slots) (b : Bool) → b ≡ every (λ k. treeValid space (bucketIn image k)) (bucketsOf (orderIn image)) → b ≡ true
+pub trees-left :
+    (space : Space) (image : List ℕ) (at : Slots) (f : Fault) → f ≡ firstOf (map (bucketFault space image) (bucketsOf (orderIn image))) → f .number ≡ 0
     → at .first ≡ 0 → at .count ≡ slotsIn image → (r : Bool) → r ≡ distinct (map tagOf (select isLive (slotsAt image at)))
-    → r ≡ treesValid space image
-unfolding treesValid
-stand-tested space image at b e h first n r f =
-    f
-    ∙ ap (λ (rows : List Row). distinct (map tagOf rows)) (sym (live-all image at first n))
-    ∙ ap (λ (x : Bool). x && distinct (map tagOf (liveRows image))) (sym h ∙ e)
+    → treesFault space image ≡ faultUnless r 0
+unfolding treesFault
+trees-left space image at f e none first n r d =
+    first-none (firstOf (map (bucketFault space image) (bucketsOf (orderIn image)))) (faultUnless (distinct (map tagOf (liveRows image))) 0) (ap (λ (g : Fault). g .number) (sym e) ∙ none)
+    ∙ ap (λ (rows : List Row). faultUnless (distinct (map tagOf rows)) 0) (live-all image at first n)
+    ∙ ap (λ (b : Bool). faultUnless b 0) (sym d)
+
+-- the slots' first fault is that of the fields, or where they pass that of the trees
+module _ (image : List ℕ) (b : Bool) (test : every (bucketRead image) (bucketsOf (orderIn image)) ≡ b) where
+  fields-first : slotsFault image ≡ orFault (faultUnless b 0) (treesFault (spaceIn image) image)
+  unfolding slotsFault
+  fields-first = ap (λ (x : Bool). orFault (faultUnless x 0) (treesFault (spaceIn image) image)) test
+
+  pub fields-found : b ≡ false → record { number = badImage; slot = 0 } ≡ slotsFault image
+  unfolding faultUnless orFault
+  fields-found h = sym (fields-first ∙ ap (λ (x : Bool). orFault (faultUnless x 0) (treesFault (spaceIn image) image)) h)
+
+  pub fields-passed : b ≡ true → treesFault (spaceIn image) image ≡ slotsFault image
+  unfolding faultUnless orFault noFault
+  fields-passed h = sym (fields-first ∙ ap (λ (x : Bool). orFault (faultUnless x 0) (treesFault (spaceIn image) image)) h)
 
 -- tests of all elements, one after the other or both at once
 every-both : {A : Type 0} (f g both : A → Bool) → ((x : A) → both x ≡ (f x && g x)) → (xs : List A) → every both xs ≡ (every f xs && every g xs)
@@ -134,6 +153,13 @@ and-assoc : (a b c : Bool) → ((a && b) && c) ≡ (a && (b && c))
 and-assoc true b c = refl
 and-assoc false b c = refl
 
+-- no tag twice in a bucket, and its slots are their layout; every bucket so, and no live tag twice
+treeValid : Space → List Row → Bool
+treeValid space slots = distinct (map tagOf slots) && isLayout (distance space) slots
+
+treesValid : Space → List ℕ → Bool
+treesValid space image = every (λ k. treeValid space (bucketIn image k)) (bucketsOf (orderIn image)) && distinct (map tagOf (liveRows image))
+
 in-parts : (image : List ℕ) (k : ℕ) → bucketPasses (spaceIn image) (liveIn image k) (bucketIn image k) ≡ (bucketRead image k && treeValid (spaceIn image) (bucketIn image k))
 unfolding bucketPasses bucketRead treeValid
 in-parts image k =
@@ -142,7 +168,7 @@ in-parts image k =
     (isLayout (distance (spaceIn image)) (bucketIn image k))
 
 -- the test of all slots, in its two steps
-pub slots-pass-parts : (image : List ℕ) → slotsPass image ≡ (every (bucketRead image) (bucketsOf (orderIn image)) && treesValid (spaceIn image) image)
+slots-pass-parts : (image : List ℕ) → slotsPass image ≡ (every (bucketRead image) (bucketsOf (orderIn image)) && treesValid (spaceIn image) image)
 unfolding slotsPass treesValid
 slots-pass-parts image =
     let ks : List ℕ = bucketsOf (orderIn image) in
@@ -150,3 +176,16 @@ slots-pass-parts image =
     ap (λ (b : Bool). b && distinct (map tagOf (liveRows image)))
     (every-both (bucketRead image) stands (λ k. bucketPasses (spaceIn image) (liveIn image k) (bucketIn image k)) (in-parts image) ks)
     ∙ and-assoc (every (bucketRead image) ks) (every stands ks) (distinct (map tagOf (liveRows image)))
+
+-- no fault is found exactly where all slots pass, and otherwise its number is 8
+pub slots-numbered : (image : List ℕ) → slotsFault image .number ≡ unless (slotsPass image) badImage 0
+unfolding slotsFault treesFault bucketFault treesValid treeValid
+slots-numbered image =
+    let space = spaceIn image in
+    let ks : List ℕ = bucketsOf (orderIn image) in
+    let live = distinct (map tagOf (liveRows image)) in
+    let stands : ℕ → Bool = λ (k : ℕ). treeValid space (bucketIn image k) in
+    let trees = numbered-all (bucketFault space image) stands (λ k. numbered-tree space (slotsBefore image k) (bucketIn image k)) ks in
+    numbered-or (faultUnless (every (bucketRead image) ks) 0) (treesFault space image) (every (bucketRead image) ks) (treesValid space image) (numbered-unless (every (bucketRead image) ks) 0)
+    (numbered-or (firstOf (map (bucketFault space image) ks)) (faultUnless live 0) (every stands ks) live trees (numbered-unless live 0))
+    ∙ ap (λ (b : Bool). unless b badImage 0) (sym (slots-pass-parts image))

@@ -6,26 +6,31 @@ use mathlib.Core.List.{List, map}
 use Rattle.lists.specs.Lists.{every, distinct}
 use Rattle.metric_rules.specs.Row.{Row, tagOf}
 use Rattle.metric_rules.specs.declared.Space.{Space}
-use Rattle.metric_rules.specs.Distance.{distance}
-use Rattle.tree_rules.specs.Layout.{isLayout}
 use Rattle.search_rules.specs.Range.{Entry}
 use Rattle.table_rules.specs.Geometry.{bucketsOf}
 use Rattle.table_rules.specs.Checks.{liveSizeHolds}
-use Rattle.image_rules.specs.Read.{orderIn, liveIn, bucketIn}
+use Rattle.image_rules.specs.Read.{orderIn, spaceIn, liveIn, slotsBefore, bucketIn}
 use Rattle.image_rules.specs.Load.{fieldsPass, liveRows}
+use Rattle.image_entries.specs.declared.Fault.{Fault}
+use Rattle.image_entries.specs.Faults.{faultUnless, orFault, firstOf, treeFault}
 use Rattle.image_entries.specs.Entries.{tagEntry}
 
 -- the slots of bucket k are valid, and its live size holds
 unfoldable pub bucketRead : List ℕ → ℕ → Bool
 bucketRead image k = every fieldsPass (bucketIn image k) && liveSizeHolds (bucketIn image k) (liveIn image k)
 
--- no tag twice in a bucket, and its slots are their layout
-unfoldable pub treeValid : Space → List Row → Bool
-treeValid space slots = distinct (map tagOf slots) && isLayout (distance space) slots
+-- the first fault of bucket k's tree
+unfoldable pub bucketFault : Space → List ℕ → ℕ → Fault
+bucketFault space image k = treeFault space (slotsBefore image k) (bucketIn image k)
 
--- every bucket stands, and no live tag occurs twice
-unfoldable pub treesValid : Space → List ℕ → Bool
-treesValid space image = every (λ k. treeValid space (bucketIn image k)) (bucketsOf (orderIn image)) && distinct (map tagOf (liveRows image))
+-- the first of all buckets' trees, and then a live tag that occurs twice, which is told without a slot
+unfoldable pub treesFault : Space → List ℕ → Fault
+treesFault space image =
+    orFault (firstOf (map (bucketFault space image) (bucketsOf (orderIn image)))) (faultUnless (distinct (map tagOf (liveRows image))) 0)
+
+-- the first fault of all slots: their fields before any tree
+unfoldable pub slotsFault : List ℕ → Fault
+slotsFault image = orFault (faultUnless (every (bucketRead image) (bucketsOf (orderIn image))) 0) (treesFault (spaceIn image) image)
 
 -- the entry of a live slot, whatever its place
 unfoldable pub liveEntry : Row → Entry

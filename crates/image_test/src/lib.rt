@@ -1,4 +1,4 @@
-// The test of all of an image's slots with one array of entries: every bucket's tags and layout, and that no live tag occurs twice at all.
+// The first fault of an image's trees, found with one array of entries: every bucket's tags and layout, and a live tag that occurs twice at all.
 ghost use mathlib.Core.Path.{_≡_};
 ghost use Prim.Native.Nat.{ℕ, _≤_, _<_, _^_};
 ghost use mathlib.Core.Bool.{true};
@@ -9,13 +9,15 @@ ghost use Rattle.metric_rules.specs.Row.{tagOf, isLive};
 ghost use Rattle.metric_rules.specs.Distance.{spaceOf};
 ghost use Rattle.table_rules.specs.Geometry.{bucketsOf};
 ghost use Rattle.image_rules.specs.Read.{orderIn, bucketIn, rowIn, slotsIn};
+ghost use Rattle.image_entries.specs.Faults.{firstOf};
 ghost use Rattle.image_entries.specs.Entries.{places, TagsFit};
 ghost use Rattle.image_read.specs.InImage.{Whole, InImage, slotIn, slotsAt};
-ghost use Rattle.image_test.specs.Trees.{bucketRead, treeValid, treesValid, liveEntry};
+ghost use Rattle.image_test.specs.Trees.{bucketRead, bucketFault, treesFault, liveEntry};
+use image_entries::Fault;
 use image_entries::PLACES;
 use image_entries::tag_entry;
 use image_entries::tags_apart;
-use image_layout::tree_valid;
+use image_layout::tree_fault;
 use image_read::Header;
 use image_read::Slots;
 use image_read::built_in;
@@ -25,6 +27,7 @@ use metric_rules::Row;
 use rows::is_live;
 use rows::tag_of;
 use search_rules::Entry;
+use table_rules::BAD_IMAGE;
 
 // The entries of the live ones of some slots, from the first place on. The reply is their number. What `entries` holds behind them is left free;
 // it keeps its length.
@@ -55,17 +58,17 @@ fn live_apart(image: &[u8], at: Slots, entries: &mut [Entry]) -> bool
     tags_apart(&mut entries[..count])
 }
 
-// Whether every bucket stands, one after the other; `row` is a header row with the image's space. What `entries` holds then is left free; it keeps
-// its length.
-fn each_tree_valid(
+// The first fault of the buckets' trees, one after the other; `row` is a header row with the image's space. What `entries` holds then is left free;
+// it keeps its length.
+fn each_tree_fault(
     image: &[u8],
     header: Header,
     all: Slots,
     row: &Row,
     entries: &mut [Entry],
-) -> bool
+) -> Fault
     requires { ⌜ Whole (now image) header × InImage (now image) all × (length (now entries) ≡ places) × ((i : ℕ) → i < slotsIn (now image) → tagOf (rowIn (now image) i) < 2 ^ 50) ⌝ }
-    ensures { λ r. ⌜ r ≡ every (λ k. treeValid (spaceOf (now (row .entry))) (bucketIn (now (image .entry)) k)) (bucketsOf (orderIn (now (image .entry)))) ⌝ }
+    ensures { λ r. ⌜ r ≡ firstOf (map (bucketFault (spaceOf (now (row .entry))) (now (image .entry))) (bucketsOf (orderIn (now (image .entry))))) ⌝ }
 {
     let form = header.form;
     let buckets = header.order.t + 1;
@@ -74,23 +77,31 @@ fn each_tree_valid(
     while k < buckets {
         let count = built_in(image, form, k) as usize;
         let at = some_of(all, first, count);
-        if !tree_valid(image, at, row, &mut entries[..count]) {
-            return false;
+        let fault = tree_fault(image, at, row, &mut entries[..count]);
+        if fault.number != 0 {
+            return fault;
         }
         first += count;
         k += 1;
     }
-    true
+    Fault { number: 0, slot: 0 }
 }
 
-// Whether the slots of an image that is right but for its tags and layouts stand. The array is all the room that this takes.
-pub fn trees_valid(image: &[u8], header: Header, all: Slots, row: &Row) -> bool
+// The first fault of the trees of an image that is right but for its tags and layouts. The array is all the room that this takes.
+pub fn trees_fault(image: &[u8], header: Header, all: Slots, row: &Row) -> Fault
     requires { ⌜ Whole (now image) header × InImage (now image) all × (all .first ≡ 0) × (all .count ≡ slotsIn (now image)) × (every (bucketRead (now image)) (bucketsOf (orderIn (now image))) ≡ true) ⌝ }
-    ensures { λ r. ⌜ r ≡ treesValid (spaceOf (now (row .entry))) (now (image .entry)) ⌝ }
+    ensures { λ r. ⌜ r ≡ treesFault (spaceOf (now (row .entry))) (now (image .entry)) ⌝ }
 {
     let mut entries = [[0u64; 2]; PLACES as usize];
-    if !each_tree_valid(image, header, all, row, &mut entries[..]) {
-        return false;
+    let fault = each_tree_fault(image, header, all, row, &mut entries[..]);
+    if fault.number != 0 {
+        return fault;
     }
-    live_apart(image, all, &mut entries[..])
+    if !live_apart(image, all, &mut entries[..]) {
+        return Fault {
+            number: BAD_IMAGE,
+            slot: 0,
+        };
+    }
+    Fault { number: 0, slot: 0 }
 }

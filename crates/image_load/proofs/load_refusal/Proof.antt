@@ -1,9 +1,7 @@
 -- `image_load::load_refusal` meets its contract: the first step that refuses counts.
 use Prim.Native.Nat.{ℕ}
 use mathlib.Core.Path.{_≡_, sym, ap, ap₂, _∙_}
-use mathlib.Core.Bool.{Bool}
 use borrow.Author.Needs.{needs}
-use borrow.Author.Tests.{not-true, not-false}
 use Rattle.metric_rules.specs.declared.Space.{Space}
 use Rattle.metric_rules.specs.Distance.{validMetric}
 use Rattle.table_rules.specs.Refusals.{orElse}
@@ -12,6 +10,8 @@ use Rattle.image_rules.specs.Bytes.{validForm}
 use Rattle.image_rules.specs.Read.{orderIn, spaceIn}
 use Rattle.image_rules.specs.Load.{slotsPass}
 use Rattle.image_read.specs.InImage.{Whole}
+use Rattle.image_entries.specs.declared.Fault.{Fault}
+use Rattle.image_test.proofs.Checked.{slots-numbered}
 use Rattle.image_load.specs.Steps.{headerBy, headerRefusal, sizesRefusal, slotsBy, laterRefusal}
 use Rattle.image_load.proofs.Steps.{stop-first, header-passed, steps-whole}
 use Rattle.image_load.proofs.load_refusal.Statement.{statement}
@@ -60,26 +60,19 @@ returns-2 c =
 all-slots-requires : tie.Need-all-slots-requires
 all-slots-requires c κs = whole c
 
-slots-pass-requires : tie.Need-slots-pass-requires
-slots-pass-requires c κs = let all = c .all-slots .ensures in (whole (c .before), all .0, all .1, all .2)
+slots-fault-requires : tie.Need-slots-fault-requires
+slots-fault-requires c κs = let all = c .all-slots .ensures in (whole (c .before), all .0, all .1, all .2)
 
 -- with header and sizes passed, the slots decide
-slots-decide : (c : tie.After-slots-pass) → laterRefusal (c .before .before .before .before .before .before .before .args .rows) (c .before .before .before .before .before .before .before .args .image .now) ≡ slotsBy (c .slots-pass .result)
-unfolding laterRefusal
-slots-decide c =
+returns-3 : tie.Need-returns-3
+unfolding laterRefusal slotsBy
+returns-3 c =
     let a = c .before .before .before .before .before .before .before .args in
     let last : ℕ = slotsBy (slotsPass (a .image .now)) in
-    ap (λ (n : ℕ). orElse n (orElse (sizesRefusal (a .rows) (a .image .now)) last)) (header-zero (c .before .before .before .before))
+    sym (ap (λ (n : ℕ). orElse n (orElse (sizesRefusal (a .rows) (a .image .now)) last)) (header-zero (c .before .before .before .before))
     ∙ ap (λ (n : ℕ). orElse n last) (sizes-zero (c .before .before))
-    ∙ ap slotsBy (sym (c .slots-pass .ensures))
-
-returns-3 : tie.Need-returns-3
-unfolding slotsBy
-returns-3 c = sym (slots-decide (c .before) ∙ ap slotsBy (not-true (c .before .slots-pass .result) (c .if3 .taken)))
-
-returns-4 : tie.Need-returns-4
-unfolding slotsBy
-returns-4 c = sym (slots-decide (c .before) ∙ ap slotsBy (not-false (c .before .slots-pass .result) (c .if3 .left)))
+    ∙ sym (slots-numbered (a .image .now))
+    ∙ ap (λ (f : Fault). f .number) (sym (c .slots-fault .ensures)))
 
 pub load-refusal-spec : {M : Type 1} → statement M
 load-refusal-spec =
@@ -90,6 +83,5 @@ load-refusal-spec =
     sizes-refusal-requires
     returns-2
     all-slots-requires
-    slots-pass-requires
-    returns-3
-    returns-4)
+    slots-fault-requires
+    returns-3)

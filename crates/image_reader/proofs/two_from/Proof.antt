@@ -1,5 +1,5 @@
 -- `image_reader::two_from` meets its contract: a walk of its MIR, by hand. A reader is made in a local, and the local is lent to `next` twice; each time it comes back moved on.
--- What a loan takes and what it gives back is said once, in `loan` and `back`, by the lemmas of `walks`. All that the proof knows of `reader_at` and `next` is that each meets its contract.
+-- What a loan takes and what it gives back is said once, in `loan` and `back`, by the lemmas of `loan_proofs`. All that the proof knows of `reader_at` and `next` is that each meets its contract.
 use mathlib.Core.Path.{_≡_, refl, ap}
 use Prim.Native.Nat.{ℕ, _<_, _≤_, _^_, _+_}
 use native.Mathlib.Omega.{arith}

@@ -1,36 +1,37 @@
--- The buckets from k on decide what is left to decide, and `first` is the first slot of bucket k. The measure is how many buckets are left.
+-- The buckets from k on have the first fault, and `first` is the first slot of bucket k. The measure is how many buckets are left.
+--
 use borrow.Author.Needs.{needs}
-use borrow.Author.Tests.{not-true, not-false}
 use native.Mathlib.Omega.{arith}
 use mathlib.Core.Path.{_≡_, refl, sym, _∙_, ap, subst}
-use mathlib.Core.Bool.{Bool}
-use mathlib.Core.List.{List}
+use mathlib.Core.List.{List, map}
 use Prim.Native.Nat.{ℕ, _+_, _-_, _≤_, _<_}
 use lib.ListN.{length, getD, drop}
 use lib.Seq.{length-take-le, length-front}
-use Rattle.lists.specs.Lists.{countFrom, total, every}
-use Rattle.lists.proofs.Tests.{scan-fails, scan-passes, scan-ends}
+use Rattle.lists.specs.Lists.{countFrom, total}
 use Rattle.metric_rules.specs.Row.{Row}
 use Rattle.metric_rules.specs.Distance.{spaceOf}
 use Rattle.table_rules.specs.Geometry.{bucketsOf}
-use Rattle.image_rules.specs.Read.{orderIn, builtIn, slotsBefore, slotsIn, bucketIn}
+use Rattle.image_rules.specs.Read.{orderIn, builtIn, slotsBefore, slotsIn}
+use Rattle.image_entries.specs.declared.Fault.{Fault}
+use Rattle.image_entries.specs.Faults.{noFault, firstOf}
 use Rattle.image_entries.specs.Entries.{places}
-use Rattle.image_test.specs.Trees.{treeValid}
+use Rattle.image_entries.proofs.Faults.{fault-found, fault-passed, fault-none}
+use Rattle.image_test.specs.Trees.{bucketFault}
 use Rattle.image_test.proofs.Buckets.{buckets-length, buckets-more, bucket-asks, bucket-tests}
 use Rattle.image_test.proofs.Checked.{built-few}
 use Rattle.image_read.specs.declared.Slots.{Slots}
 use Rattle.image_read.specs.InImage.{InImage}
 use Rattle.image_read.proofs.Places.{whole-sizes, some-in, few-slots, bucket-inside, before-more}
-use Rattle.image_test.proofs.each_tree_valid.Statement.{statement}
-use Rattle.image_test.proofs.each_tree_valid.Tie as tie
+use Rattle.image_test.proofs.each_tree_fault.Statement.{statement}
+use Rattle.image_test.proofs.each_tree_fault.Tie as tie
 
-abbrev stands : List ℕ → Row → ℕ → Bool
-stands image row k = treeValid (spaceOf row) (bucketIn image k)
+abbrev faults : List ℕ → Row → ℕ → Fault
+faults image row = bucketFault (spaceOf row) image
 
 abbrev Inv-loop : tie.InvT-loop
 Inv-loop image all row entries₀ form buckets first₀ k₀ entries first k =
     (k ≤ buckets) × (length entries ≡ length entries₀) × (first ≡ slotsBefore image k)
-    × (every (stands image row) (drop k (bucketsOf (orderIn image))) ≡ every (stands image row) (bucketsOf (orderIn image)))
+    × (firstOf (map (faults image row) (drop k (bucketsOf (orderIn image)))) ≡ firstOf (map (faults image row) (bucketsOf (orderIn image))))
 
 abbrev μ-loop : tie.MeasureT-loop
 μ-loop image all row entries₀ form buckets first₀ k₀ entries first k = buckets - k
@@ -70,14 +71,14 @@ loop-holds c = (omega arith, refl, refl, refl)
 built-in-requires : tie.Need-built-in-requires Inv-loop μ-loop
 built-in-requires c κs = let s = c .before .before .before .before .before in whole-sizes (s .pre .0) (c .before .loop .k) (within s (c .before .loop .k) (omega arith))
 
-slice-relend-prefix-tree-valid : tie.Need-slice-relend-prefix-tree-valid Inv-loop μ-loop
-slice-relend-prefix-tree-valid c = room c
+slice-relend-prefix-tree-fault : tie.Need-slice-relend-prefix-tree-fault Inv-loop μ-loop
+slice-relend-prefix-tree-fault c = room c
 
-slice-aggregate-tree-valid : tie.Need-slice-aggregate-tree-valid Inv-loop μ-loop
-slice-aggregate-tree-valid c = sym (length-take-le _ _ (room (c .before)))
+slice-aggregate-tree-fault : tie.Need-slice-aggregate-tree-fault Inv-loop μ-loop
+slice-aggregate-tree-fault c = sym (length-take-le _ _ (room (c .before)))
 
-tree-valid-requires : tie.Need-tree-valid-requires Inv-loop μ-loop
-tree-valid-requires c κs =
+tree-fault-requires : tie.Need-tree-fault-requires Inv-loop μ-loop
+tree-fault-requires c κs =
     let s = c .before .before .before .before .before .before .before .before in
     let l = c .before .before .before .before .loop in
     let image = s .args .image .now in
@@ -89,63 +90,66 @@ tree-valid-requires c κs =
     (omega (arith, here-count (c .before), few s (l .k) (omega arith))) (l .entries) (built .result) (built .ensures ∙ sym (here-count (c .before))) (room (c .before)) (s .pre .3)
 
 -- the bucket's test as it was made
-tested : (c : tie.After-tree-valid Inv-loop μ-loop) → stands (c .before .before .before .before .before .before .before .before .before .args .image .now) (c .before .before .before .before .before .before .before .before .before .args .row .now) (getD (bucketsOf (orderIn (c .before .before .before .before .before .before .before .before .before .args .image .now))) (c .before .before .before .before .before .loop .k) 0) ≡ c .tree-valid .result
+tested : (c : tie.After-tree-fault Inv-loop μ-loop) → faults (c .before .before .before .before .before .before .before .before .before .args .image .now) (c .before .before .before .before .before .before .before .before .before .args .row .now) (getD (bucketsOf (orderIn (c .before .before .before .before .before .before .before .before .before .args .image .now))) (c .before .before .before .before .before .loop .k) 0) ≡ c .tree-fault .result
 tested c =
     let s = c .before .before .before .before .before .before .before .before .before in
     let l = c .before .before .before .before .before .loop in
     let d = c .before .before in
-    bucket-tests (s .args .image .now) (d .some-of .result) (l .k) (within s (l .k) (omega arith)) (here-first d) (here-count d) (spaceOf (s .args .row .now)) (c .tree-valid .result) (c .tree-valid .ensures)
+    bucket-tests (s .args .image .now) (d .some-of .result) (l .k) (within s (l .k) (omega arith)) (here-first d) (here-count d) (spaceOf (s .args .row .now)) (c .tree-fault .result) (c .tree-fault .ensures)
 
 same-length : tie.Need-same-length Inv-loop μ-loop
 same-length c =
-    let l = c .before .before .before .before .before .before .before .loop in
-    let d = c .before .before .tree-valid in
-    length-front (l .entries) (d .last .1 .1 .1 .0) (c .before .before .before .before .before .built-in .result) (d .kept .1 .1 .1 .0) ∙ l .inv .1
+    let l = c .before .before .before .before .before .before .before .before .loop in
+    let d = c .before .before .before .tree-fault in
+    length-front (l .entries) (d .last .1 .1 .1 .0) (c .before .before .before .before .before .before .built-in .result) (d .kept .1 .1 .1 .0) ∙ l .inv .1
 
 returns : tie.Need-returns Inv-loop μ-loop
 returns c =
-    let s = c .before .before .before .before .before .before .before .before .before .before .before in
-    let l = c .before .before .before .before .before .before .before .loop in
-    let d = c .before .before in
-    scan-fails (stands (s .args .image .now) (s .args .row .now)) 0 (bucketsOf (orderIn (s .args .image .now))) (l .k) (buckets-more (orderIn (s .args .image .now)) (l .k) (within s (l .k) (omega arith))) (l .inv .3)
-    (tested d ∙ not-true (d .tree-valid .result) (c .if1 .taken))
+    let s = c .before .before .before .before .before .before .before .before .before .before .before .before in
+    let l = c .before .before .before .before .before .before .before .before .loop in
+    let d = c .before .before .before in
+    let image = s .args .image .now in
+    sym (tested d)
+    ∙ fault-found (faults image (s .args .row .now)) 0 (bucketsOf (orderIn image)) (l .k) (buckets-more (orderIn image) (l .k) (within s (l .k) (omega arith))) (l .inv .3)
+    (λ z. c .if1 .taken (ap (λ (f : Fault). f .number) (sym (tested d)) ∙ z))
 
 add-first : tie.Need-add-first Inv-loop μ-loop
 add-first c =
-    let s = c .before .before .before .before .before .before .before .before .before .before .before in
-    let l = c .before .before .before .before .before .before .before .loop in
-    omega (arith, l .inv .2, c .before .before .before .before .before .built-in .ensures, inside s (l .k) (omega arith), few-slots (s .pre .1))
+    let s = c .before .before .before .before .before .before .before .before .before .before .before .before in
+    let l = c .before .before .before .before .before .before .before .before .loop in
+    omega (arith, l .inv .2, c .before .before .before .before .before .before .built-in .ensures, inside s (l .k) (omega arith), few-slots (s .pre .1))
 
 add-k : tie.Need-add-k Inv-loop μ-loop
-add-k c = let w = c .before .before .before .before .before .before .before .before .before .before .before .pre .0 in omega (arith, w .headed .order, w .order)
+add-k c = let w = c .before .before .before .before .before .before .before .before .before .before .before .before .pre .0 in omega (arith, w .headed .order, w .order)
 
 loop-again : tie.Need-loop-again Inv-loop μ-loop
 loop-again c =
-    let s = c .before .before .before .before .before .before .before .before .before .before .before in
-    let l = c .before .before .before .before .before .before .before .loop in
-    let b = c .before .before .before .before .before .built-in in
-    let d = c .before .before in
-    let t = d .tree-valid in
+    let s = c .before .before .before .before .before .before .before .before .before .before .before .before in
+    let l = c .before .before .before .before .before .before .before .before .loop in
+    let b = c .before .before .before .before .before .before .built-in in
+    let d = c .before .before .before in
+    let t = d .tree-fault in
     let image = s .args .image .now in (
       omega arith,
       length-front (l .entries) (t .last .1 .1 .1 .0) (b .result) (t .kept .1 .1 .1 .0) ∙ l .inv .1,
       omega (arith, before-more image (l .k), l .inv .2, b .ensures),
-      scan-passes (stands image (s .args .row .now)) 0 (bucketsOf (orderIn image)) (l .k) (buckets-more (orderIn image) (l .k) (within s (l .k) (omega arith))) (l .inv .3)
-          (tested d ∙ not-false (t .result) (c .if1 .left)),
+      fault-passed (faults image (s .args .row .now)) 0 (bucketsOf (orderIn image)) (l .k) (buckets-more (orderIn image) (l .k) (within s (l .k) (omega arith))) (l .inv .3)
+          (ap (λ (f : Fault). f .number) (tested d) ∙ c .if1 .left),
     )
 
 same-length-2 : tie.Need-same-length-2 Inv-loop μ-loop
 same-length-2 c = c .before .loop .inv .1
 
 returns-2 : tie.Need-returns-2 Inv-loop μ-loop
+unfolding noFault
 returns-2 c =
     let s = c .before .before .before .before .before in
     let image = s .args .image .now in
     let l = c .before .loop in
-    scan-ends (stands image (s .args .row .now)) (bucketsOf (orderIn image)) (l .k) (omega (arith, buckets-length (orderIn image), s .pre .0 .headed .order)) (l .inv .3)
+    fault-none (faults image (s .args .row .now)) (bucketsOf (orderIn image)) (l .k) (omega (arith, buckets-length (orderIn image), s .pre .0 .headed .order)) (l .inv .3)
 
-pub each-tree-valid-spec : {M : Type 1} → statement M
-each-tree-valid-spec =
+pub each-tree-fault-spec : {M : Type 1} → statement M
+each-tree-fault-spec =
     tie.close
     (tie.spec
     Inv-loop
@@ -155,9 +159,9 @@ each-tree-valid-spec =
     built-in-requires
     (λ c. search needs)
     (λ c κs. search needs)
-    slice-relend-prefix-tree-valid
-    slice-aggregate-tree-valid
-    tree-valid-requires
+    slice-relend-prefix-tree-fault
+    slice-aggregate-tree-fault
+    tree-fault-requires
     same-length
     returns
     add-first

@@ -1,6 +1,5 @@
--- `image_load::slots_pass` meets its contract: the slots one by one, and then tags and layouts, are all that is asked of them.
+-- `image_load::slots_fault` meets its contract: the fields of all slots, and where they pass the trees.
 use mathlib.Core.Path.{_≡_, sym, ap, _∙_}
-use mathlib.Core.Bool.{Bool, _&&_}
 use borrow.Author.Needs.{needs}
 use borrow.Author.Tests.{not-true, not-false}
 use Rattle.lists.specs.Lists.{every}
@@ -9,11 +8,11 @@ use Rattle.metric_rules.specs.Distance.{spaceOf}
 use Rattle.table_rules.specs.Geometry.{bucketsOf}
 use Rattle.image_rules.specs.Read.{orderIn, spaceIn}
 use Rattle.image_fields.specs.SlotsRead.{slotsRead}
-use Rattle.image_test.specs.Trees.{bucketRead, treesValid}
-use Rattle.image_test.proofs.Checked.{slots-pass-parts}
+use Rattle.image_test.specs.Trees.{bucketRead, treesFault}
+use Rattle.image_test.proofs.Checked.{fields-found, fields-passed}
 use Rattle.image_load.proofs.Loading.{header-space}
-use Rattle.image_load.proofs.slots_pass.Statement.{statement}
-use Rattle.image_load.proofs.slots_pass.Tie as tie
+use Rattle.image_load.proofs.slots_fault.Statement.{statement}
+use Rattle.image_load.proofs.slots_fault.Tie as tie
 
 -- the slots one by one, as they were tested
 read-tested : (c : tie.After-buckets-read)
@@ -23,12 +22,11 @@ read-tested c = sym (c .buckets-read .ensures)
 
 returns : tie.Need-returns
 returns c =
-    let image = c .before .before .before .args .image .now in
-    sym (slots-pass-parts image
-    ∙ ap (λ (x : Bool). x && treesValid (spaceIn image) image) (read-tested (c .before) ∙ not-true (c .before .buckets-read .result) (c .if1 .taken)))
+    let r = c .before in
+    fields-found (c .before .before .before .args .image .now) (r .buckets-read .result) (read-tested r) (not-true (r .buckets-read .result) (c .if1 .taken))
 
-trees-valid-requires : tie.Need-trees-valid-requires
-trees-valid-requires c κs =
+trees-fault-requires : tie.Need-trees-fault-requires
+trees-fault-requires c κs =
     let p = c .before .before .before .before .before .pre in
     let r = c .before .before .before in
     (p .0, p .1, p .2, p .3, read-tested r ∙ not-false (r .buckets-read .result) (c .before .before .if1 .left))
@@ -41,17 +39,16 @@ returns-2 c =
     let made = c .before .before .header-row in
     let space : spaceOf (made .result) ≡ spaceIn image =
     ap spaceOf (made .ensures) ∙ header-space _ _ ∙ s .pre .0 .headed .space in
-    c .trees-valid .ensures
-    ∙ ap (λ (s : Space). treesValid s image) space
-    ∙ sym (slots-pass-parts image
-    ∙ ap (λ (x : Bool). x && treesValid (spaceIn image) image) (read-tested r ∙ not-false (r .buckets-read .result) (c .before .before .before .if1 .left)))
+    c .trees-fault .ensures
+    ∙ ap (λ (s : Space). treesFault s image) space
+    ∙ fields-passed image (r .buckets-read .result) (read-tested r) (not-false (r .buckets-read .result) (c .before .before .before .if1 .left))
 
-pub slots-pass-spec : {M : Type 1} → statement M
-slots-pass-spec =
+pub slots-fault-spec : {M : Type 1} → statement M
+slots-fault-spec =
     tie.close
     (tie.spec
     (λ c κs. search needs)
     returns
     (λ c κs. search needs)
-    trees-valid-requires
+    trees-fault-requires
     returns-2)
