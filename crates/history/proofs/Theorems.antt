@@ -2,6 +2,7 @@
 use Rattle.metric_rules.proofs.Laws.{distance-metric}
 use Rattle.table_rules.proofs.Visits.{range-visits}
 use Rattle.table_rules.proofs.Keeping.{nearest-size}
+use Rattle.table_rules.specs.Table.{liveSlots}
 use Rattle.history.specs.Demands.{CountsVisits, KeepsEnough, AnswersAscend, AnyDistance, EachMetric, EveryList, EveryReport, WrittenLoads}
 use Rattle.history.proofs.AnyDistance.{tree-facts}
 use Rattle.history.proofs.RefinesHistory.{history-traces, history-matches, history-represents}
@@ -15,6 +16,7 @@ pub counts-visits : CountsVisits
 counts-visits = range-visits
 
 pub keeps-enough : KeepsEnough
+unfolding liveSlots
 keeps-enough = nearest-size
 
 pub answers-ascend : AnswersAscend

@@ -8,15 +8,15 @@ use Prim.Native.Nat.{ℕ, _^_, _≤_, _<_, min}
 use mathlib.Core.Path.{_≡_}
 use mathlib.Core.List.{List, map}
 use lib.ListN.{length}
-use Rattle.lists.specs.Lists.{total, select, All}
+use Rattle.lists.specs.Lists.{total, All}
 use Rattle.metric_rules.specs.declared.Profile.{Profile}
-use Rattle.metric_rules.specs.Row.{Row, queryRow, mayReport}
+use Rattle.metric_rules.specs.Row.{Row}
 use Rattle.metric_rules.specs.declared.Space.{Space}
 use Rattle.metric_rules.specs.Distance.{distance, Metric}
 use Rattle.search_rules.specs.Range.{Ascending}
 use Rattle.search_rules.specs.Reached.{reached}
 use Rattle.table_rules.specs.Geometry.{tableRows}
-use Rattle.table_rules.specs.Table.{Table, tableSpace, slotsOf}
+use Rattle.table_rules.specs.Table.{Table, tableSpace, slotsOf, liveSlots}
 use Rattle.table_rules.specs.Search.{bucketsDown, rangeAnswer, nearestAnswer}
 use Rattle.image_rules.specs.Read.{orderIn}
 use Rattle.call_rules.specs.Calls.{beginReply}
@@ -36,12 +36,11 @@ CountsVisits =
     (t : Table) (query : Profile) (radius : ℕ)
     → rangeAnswer t query radius .count ≡ total (map (λ k. length (reached (distance (tableSpace t)) query radius (slotsOf t k))) (bucketsDown t))
 
--- RULES 15.3: nearest replies with k items, or with all of the built slots that may be reported, those of mark 0, where these are fewer.
+-- RULES 15.3: nearest replies with k items, or with all of the built slots of mark 0 where these are fewer.
 -- Theorem: `keeps-enough`
 abbrev pub KeepsEnough : Type 0
 KeepsEnough =
-    (t : Table) (query : Profile) (k : ℕ)
-    → length (nearestAnswer t query k .entries) ≡ min k (total (map (λ b. length (select (mayReport (queryRow query k)) (slotsOf t b))) (bucketsDown t)))
+    (t : Table) (query : Profile) (k : ℕ) → length (nearestAnswer t query k .entries) ≡ min k (total (map (λ b. length (liveSlots t b)) (bucketsDown t)))
 
 -- "By distance, then tag" in plain numbers: whatever the table holds, foreign ones too, and whatever is in the model, each entry of an answer has a smaller
 -- distance than the next, or the same distance and no larger tag.
