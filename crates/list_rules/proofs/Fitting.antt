@@ -6,7 +6,7 @@ use mathlib.Core.Bool.{Bool, true, false, _&&_}
 use mathlib.Core.List.{List, [], _∷_}
 use native.Mathlib.Omega.{arith}
 use lib.Dec.{eqb}
-use lib.IntN.{ℤ, pos, negℤ}
+use lib.IntN.{pos}
 use mir.Syntax.{w32}
 use mir.Val.{SFits}
 use mir.Facts.{sfits-lit}
@@ -15,20 +15,11 @@ use Rattle.lists.proofs.Tests.{and-first, and-second}
 use Rattle.metric_rules.specs.Row.{IsProfile, measure, codeWord}
 use Rattle.metric_rules.proofs.Elements.{each-at}
 use Rattle.text_rules.specs.Text.{partsIn}
-use Rattle.text_rules.specs.Fields.{isTag, isNegative, unsigned, isMeasure, hundredths, measureIn}
+use Rattle.text_rules.specs.Fields.{isTag, isMeasure, measureIn}
 use Rattle.text_rules.proofs.Digits.{numeral-below}
-use Rattle.text_rules.proofs.Signs.{negative-fits, hundredths-below}
+use Rattle.text_rules.proofs.Signs.{measure-fits}
 use Rattle.list_rules.specs.Lines.{ListLine, comma, semicolon, field, isItemLine, itemTag, itemProfile, lineOf, linesFrom, linesOf, itemLines}
 use Rattle.list_rules.specs.Lines.ListLine.{anItem, malformed}
-
-measure-fits : (mark : ℕ) (text : List ℕ) → isMeasure mark text ≡ true → SFits w32 (measureIn mark text)
-unfolding measureIn isMeasure
-measure-fits mark text e = go (isNegative text) (hundredths-below mark (unsigned text) e)
-  where
-    go : (b : Bool) → hundredths mark (unsigned text) < 10 ^ 7
-        → SFits w32 (elim b as (λ _. ℤ) [ true ↦ negℤ (pos (hundredths mark (unsigned text))) | false ↦ pos (hundredths mark (unsigned text)) ])
-    go true h = negative-fits (hundredths mark (unsigned text)) (omega arith)
-    go false h = record { sfits = omega arith }
 
 -- a line's item as an add may be asked it
 abbrev pub LineFits : ListLine → Type 0

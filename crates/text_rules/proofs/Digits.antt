@@ -5,7 +5,7 @@ use mathlib.Core.Bool.{Bool, true, false, _&&_, _||_, false≢true}
 use mathlib.Core.List.{List, [], _∷_}
 use native.Mathlib.Omega.{arith}
 use native.Mathlib.Numerals.{add-one}
-use native.Mathlib.Nat.{pow-succ', pow-le-pow-right, mul-le-mul-right}
+use native.Mathlib.Nat.{pow-zero, pow-succ', pow-le-pow-right, mul-suc, mul-le-mul-left, mul-le-mul-right}
 use lib.Dec.{leb, ltb}
 use lib.ListN.{length, getD, drop, drop-of-length-le}
 use lib.Seq.{drop-cons}
@@ -118,19 +118,27 @@ module _ (base least most : ℕ) (text : List ℕ) where
       (and-first (leb least (length text)) (leb (length text) most)
       (and-first (leb least (length text) && leb (length text) most) (every (isDigit base) text) e))
 
--- a number below 10^i and w digits behind it
-after-below : (n i : ℕ) (text : List ℕ) → every (isDigit 10) text ≡ true → n < 10 ^ i → numeralAfter 10 n text < 10 ^ (i + length text)
+-- a number of i digits and w digits behind it
+after-below : (base n i : ℕ) (text : List ℕ) → every (isDigit base) text ≡ true → n < base ^ i → numeralAfter base n text < base ^ (i + length text)
 unfolding every numeralAfter
-after-below n i [] e h = subst (λ (k : ℕ). n < 10 ^ k) (omega arith) h
-after-below n i (b ∷ bs) e h =
-    let more : 10 * n + digitOf b < 10 ^ suc i = omega (arith, digit-below 10 b (and-first (isDigit 10 b) (every (isDigit 10) bs) e), pow-succ' 10 i) in
-    let all : numeralAfter 10 (10 * n + digitOf b) bs < 10 ^ (suc i + length bs) =
-    after-below (10 * n + digitOf b) (suc i) bs (and-second (isDigit 10 b) (every (isDigit 10) bs) e) more in
-    subst (λ (k : ℕ). numeralAfter 10 (10 * n + digitOf b) bs < 10 ^ k) (omega arith) all
+after-below base n i [] e h = subst (λ (k : ℕ). n < base ^ k) (omega arith) h
+after-below base n i (b ∷ bs) e h =
+    let more : base * n + digitOf b < base ^ suc i =
+    omega (arith, digit-below base b (and-first (isDigit base b) (every (isDigit base) bs) e), pow-succ' base i, mul-suc base n, mul-le-mul-left {m = suc n} {n = base ^ i} base h) in
+    let all : numeralAfter base (base * n + digitOf b) bs < base ^ (suc i + length bs) =
+    after-below base (base * n + digitOf b) (suc i) bs (and-second (isDigit base b) (every (isDigit base) bs) e) more in
+    subst (λ (k : ℕ). numeralAfter base (base * n + digitOf b) bs < base ^ k) (omega arith) all
+
+pub digits-below : (base : ℕ) (text : List ℕ) → every (isDigit base) text ≡ true → numeral base text < base ^ length text
+unfolding numeral
+digits-below base text e =
+    subst (λ (k : ℕ). numeralAfter base 0 text < base ^ k) (omega arith) (after-below base 0 0 text e (omega (arith, pow-zero base)))
 
 pub numeral-below : (least most : ℕ) (text : List ℕ) → isNumeral 10 least most text ≡ true → numeral 10 text < 10 ^ most
-unfolding numeral
 numeral-below least most text e =
-    let below : numeralAfter 10 0 text < 10 ^ (0 + length text) = after-below 0 0 text (numeral-digits 10 least most text e) (omega arith) in
     let short = numeral-longest 10 least most text e in
-    omega (arith, pow-le-pow-right {n = 10} (omega arith) {i = 0 + length text} {j = most} (omega arith))
+    omega (
+      arith,
+      digits-below 10 text (numeral-digits 10 least most text e),
+      pow-le-pow-right {n = 10} (omega arith) {i = length text} {j = most} (omega arith),
+    )

@@ -1,18 +1,18 @@
 -- The sign of a measure: what stands behind it, the value with it, and that a size of up to seven digits fits 32 bits with either sign.
-use Prim.Native.Nat.{ℕ, zero, suc, _+_, _^_, _<_}
+use Prim.Native.Nat.{ℕ, zero, suc, _^_, _<_}
 use mathlib.Core.Path.{_≡_, ap, sym, subst⁻¹, _∙_}
-use mathlib.Core.Bool.{true, false, _&&_}
+use mathlib.Core.Bool.{Bool, true, false, _&&_}
 use mathlib.Core.List.{List}
 use native.Mathlib.Omega.{arith}
 use lib.Dec.{eqb}
-use lib.IntN.{pos, negℤ, _-ℤ_, +ℤ-idl}
+use lib.IntN.{ℤ, pos, negℤ, _-ℤ_, +ℤ-idl}
 use lib.ListN.{drop}
 use mir.Syntax.{w32}
 use mir.Val.{SFits, toZ}
 use mir.Facts.{toZ-pos}
 use Rattle.lists.proofs.Tests.{and-first, and-second}
 use Rattle.text_rules.specs.Text.{partAt, partsIn, isNumeral}
-use Rattle.text_rules.specs.Fields.{isNegative, unsigned, hundredths, measureIn}
+use Rattle.text_rules.specs.Fields.{isNegative, unsigned, isMeasure, hundredths, measureIn}
 use Rattle.text_rules.proofs.Digits.{numeral-below}
 
 module _ (text : List ℕ) where
@@ -60,3 +60,13 @@ hundredths-below mark size e =
       numeral-below 1 5 (partAt mark size 0) (and-second (eqb (partsIn mark size) 2) whole first),
       numeral-below 2 2 (partAt mark size 1) (and-second (eqb (partsIn mark size) 2 && whole) rest e),
     )
+
+-- so a measure of the form fits, with either sign
+pub measure-fits : (mark : ℕ) (text : List ℕ) → isMeasure mark text ≡ true → SFits w32 (measureIn mark text)
+unfolding measureIn isMeasure
+measure-fits mark text e = go (isNegative text) (hundredths-below mark (unsigned text) e)
+  where
+    go : (b : Bool) → hundredths mark (unsigned text) < 10 ^ 7
+        → SFits w32 (elim b as (λ _. ℤ) [ true ↦ negℤ (pos (hundredths mark (unsigned text))) | false ↦ pos (hundredths mark (unsigned text)) ])
+    go true h = negative-fits (hundredths mark (unsigned text)) (omega arith)
+    go false h = record { sfits = omega arith }

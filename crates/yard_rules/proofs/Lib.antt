@@ -3,4 +3,6 @@ pub mod Example
 mod Worked
 pub mod Parts
 pub mod ReadBack
+pub mod Ended
+pub mod Fitting
 pub mod Ample

@@ -7,7 +7,8 @@ use lib.ListN.{length, take, drop}
 use lib.Seq.{take-all, take-add, drop-drop}
 use Rattle.yard_rules.specs.declared.Stage.{Stage}
 use Rattle.yard_rules.specs.declared.Stage.the-variants as stage
-use Rattle.yard_rules.specs.Conversation.{Areas, Yard, LineOutcome, lineOutcome, after, printed, linesIn, conversation}
+use Rattle.yard_rules.specs.Conversation.{Areas, Yard, after, printed, linesIn, conversation}
+use Rattle.yard_rules.proofs.Ended.{ended-prints}
 use Rattle.yard_lines.specs.Pieces.{Gathering, gathering, gatherings, whole, ended}
 use Rattle.yard_lines.proofs.Whole.{lines-of-pieces}
 use Rattle.yard_session.specs.Fed.{Midway, afterLines, begun, fed, fedText, lastOf, lastLine, endText, piecesText, stretch}
@@ -54,16 +55,8 @@ pieces-as-conversation a pieces =
     ∙ ap (printed y) (last-ended y (g .lines) (g .left) refl ∙ sym (one-piece (whole pieces)))
 
 -- after the end of the program nothing is printed, so no more has to be read
-ended-outcome : (a : Areas) (number : ℕ) (s : Stage) (line : List ℕ) → s ≡ stage.Ended → lineOutcome a number s line ≡ record { areas = a; stage = stage.Ended; text = [] }
-unfolding lineOutcome
-ended-outcome a number s line e = ap (λ (s : Stage). lineOutcome a number s line) e
-
 silent : (y : Yard) (lines : List (List ℕ)) → y .stage ≡ stage.Ended → printed y lines ≡ []
-unfolding printed after
-silent y [] e = refl
-silent y (line ∷ lines) e =
-    let outcome : lineOutcome (y .areas) (suc (y .lines)) (y .stage) line ≡ record { areas = y .areas; stage = stage.Ended; text = [] } = ended-outcome (y .areas) (suc (y .lines)) (y .stage) line e in
-    ap (λ (s : LineOutcome). s .text ++ printed (after y line) lines) outcome ∙ silent (after y line) lines (ap (λ (s : LineOutcome). s .stage) outcome)
+silent y lines e = ap (λ (s : Stage). printed (record { areas = y .areas; stage = s; lines = y .lines }) lines) e ∙ ended-prints (y .areas) (y .lines) lines
 
 pub ended-silent : (m : Midway) (pieces : List (List ℕ)) → m .yard .stage ≡ stage.Ended → piecesText m pieces ≡ []
 unfolding fed fedText lastLine endText
