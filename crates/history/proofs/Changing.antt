@@ -171,11 +171,15 @@ module _ {t : Table} {m : Model} (ok : Matches t m) where
       }
 
 -- an accepted call that begins a table begins the model's, and a refused one leaves what lay there
-pub begin-matches : (b : Begin) → IsBegin b → (t : Table) → beginShown b (beginReply b (length t)) .refusal ≡ 0 → Matches (tableBegun b t) (modelBegun b)
-unfolding beginShown modelBegun tableAfterFresh tableAfterLoad
-begin-matches (fresh order space) is t e =
+pub fresh-matches : (order : ℕ) (space : Space) (t : Table) → freshRefusal (length t) order space ≡ 0 → Matches (tableAfterFresh order space t) (modelBegun (fresh order space))
+unfolding tableAfterFresh modelBegun
+fresh-matches order space t e =
     subst (λ (n : ℕ). Matches (elim n as (λ _. Table) [ zero ↦ freshTable order space t | suc j ↦ t ]) (record { order = order; space = space; items = [] })) (sym e)
     (matches-fresh order space t e)
+
+pub begin-matches : (b : Begin) → IsBegin b → (t : Table) → beginShown b (beginReply b (length t)) .refusal ≡ 0 → Matches (tableBegun b t) (modelBegun b)
+unfolding beginShown modelBegun tableAfterLoad
+begin-matches (fresh order space) is t e = fresh-matches order space t e
 begin-matches (load image) is t e =
     subst
     (λ (n : ℕ). Matches (elim n as (λ _. Table) [ zero ↦ loadedTable image t | suc j ↦ t ])

@@ -1,5 +1,6 @@
--- The theorems of `specs/Demands`, and the definitions of the rules run on small herds.
+-- The theorems of `specs/Demands`, the laws of calls that the claims on conversations rest on (`LongAreas`), and the definitions of the rules run on small herds.
 pub mod Theorems
+pub mod LongAreas
 pub mod Computing
 pub mod Running
 pub mod Starred

@@ -49,7 +49,7 @@ module _ (t : Table) (work : List Row) (tag : ℕ) (p : Profile) (e : addRefusal
   unfolding workAfterAdd
   accepted-work = ap (λ (k : ℕ). elim k as (λ _. List Row) [ zero ↦ cleared zeroRow (workRows (orderOf t)) work | suc j ↦ work ]) e
 
-can-go-on : {t : Table} {m : Model} → Matches t m → (work : List Row) → workRows (orderOf t) ≤ length work → canChange m (length t) (length work) ≡ true
+pub can-go-on : {t : Table} {m : Model} → Matches t m → (work : List Row) → workRows (orderOf t) ≤ length work → canChange m (length t) (length work) ≡ true
 unfolding canChange
 can-go-on {t} {m} ok work roomy =
     and-pass (canRead m (length t)) (leb (workRows (m .order)) (length work)) (can-read m t ok)

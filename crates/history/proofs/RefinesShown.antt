@@ -66,7 +66,8 @@ tag-there m tag e = go (validTag tag) (withTag tag (m .items)) e
     go true [] e f = omega arith
     go true (i ∷ is) e f = omega (arith, ap length f)
 
-add-number : (n bucket distances : ℕ)
+-- a reply has its refusal's number
+pub add-number : (n bucket distances : ℕ)
     → (elim n as (λ _. Added) [
       | zero ↦ record { refusal = 0; bucket = bucket; distances = distances }
       | suc j ↦ record { refusal = suc j; bucket = 0; distances = 0 }
@@ -75,7 +76,7 @@ add-number : (n bucket distances : ℕ)
 add-number zero bucket distances = refl
 add-number (suc n) bucket distances = refl
 
-remove-number : (n distances : ℕ)
+pub remove-number : (n distances : ℕ)
     → (elim n as (λ _. Removed) [ zero ↦ record { refusal = 0; distances = distances } | suc j ↦ record { refusal = suc j; distances = 0 } ]) .refusal ≡ n
 remove-number zero distances = refl
 remove-number (suc n) distances = refl

@@ -5,4 +5,3 @@ pub mod Parts
 pub mod ReadBack
 pub mod Ended
 pub mod Fitting
-pub mod Ample

@@ -51,7 +51,7 @@ otherText number = replyLine questionMark (number ∷ [])
 unfoldable pub mostYardOrder : ℕ
 mostYardOrder = 8
 
--- RULES 4.3, 4.5, areas that are long enough for it: a header is then refused by 3 or 4 alone, and no later line for its areas (`proofs/Ample`)
+-- RULES 4.3, 4.5, areas that are long enough for it: no line is then refused for its areas (`EveryConversation` in `yard_claims`)
 pub record Ample (a : Areas) : Type 0 where
   pub table : tableRows mostYardOrder ≤ length (a .table)
   pub work : workRows mostYardOrder ≤ length (a .work)

@@ -1,0 +1,167 @@
+-- Calls lent the same areas one after the other, long enough for the model's order: each is refused as the model's own tests say, so never by 6, 23 or 24, and leaves
+-- areas that are long enough and a table that matches the model. At most 2^T items are live, so 2^T entries hold every reply.
+use Prim.Native.Nat.{ℕ, zero, suc, _^_, _-_, _≤_, _<_}
+use native.Mathlib.Omega.{arith}
+use mathlib.Core.Path.{_≡_, refl, sym, _∙_, ap, ap₂, subst}
+use mathlib.Core.Bool.{Bool, true, false}
+use mathlib.Core.Logic.{inl}
+use mathlib.Core.List.{List}
+use lib.Dec.{leb, eqb}
+use lib.ListN.{length, drop, replicate, length-append, length-replicate, length-drop, length-take, length-map}
+use borrow.Author.Tests.{le-leb}
+use Rattle.lists.specs.Lists.{select}
+use Rattle.metric_rules.specs.declared.Profile.{Profile}
+use Rattle.metric_rules.specs.declared.Space.{Space}
+use Rattle.metric_rules.specs.Row.{Row, IsProfile, zeroRow}
+use Rattle.metric_rules.specs.Validity.{validMeasures}
+use Rattle.tree_rules.proofs.Sorting.{sort-length}
+use Rattle.search_rules.specs.Range.{Entry, entryDistance, entryKey, ordered}
+use Rattle.search_rules.proofs.Selecting.{select-few}
+use Rattle.table_rules.specs.Refusals.{badMeasure, noCount, noRoom, shortArea, unless, when}
+use Rattle.table_rules.specs.Geometry.{room, workRows}
+use Rattle.table_rules.specs.Table.{Table, orderOf, builtOf, liveOf, liveTotal, cleared}
+use Rattle.table_rules.specs.Fresh.{freshRefusal, tableAfterFresh}
+use Rattle.table_rules.specs.Add.{addRefusal, added, addReply, tableAfterAdd, workAfterAdd}
+use Rattle.table_rules.specs.Remove.{removeRefusal, removed, removeReply, tableAfterRemove, workAfterRemove}
+use Rattle.table_rules.specs.Search.{Answer, rangeRefusal, nearestRefusal, zeroEntry, resultAfter}
+use Rattle.table_rules.proofs.Sizes.{sizes-total}
+use Rattle.call_rules.specs.Calls.Begin.{fresh}
+use Rattle.history.specs.Model.{Model, with, without, canChange, tagRefusal, itemRefusal, addRefusalOf, removeRefusalOf, afterUnless, scanned, modelRange, modelNearest, fits, questionRefusal, askRefusal, modelBegun}
+use Rattle.history.proofs.RefinesItems.{Matches, live-total}
+pub use Rattle.history.proofs.RefinesItems.{range-alike, nearest-alike}
+use Rattle.history.proofs.RefinesRefusals.{can-read, add-refusal, remove-refusal, range-refusal, nearest-refusal}
+use Rattle.history.proofs.RefinesReading.{can-go-on}
+use Rattle.history.proofs.RefinesShown.{add-number, remove-number}
+use Rattle.history.proofs.Changing.{fresh-matches, matches-added, matches-removed}
+
+-- a table that matches the model, and a work area and a result area that are long enough for its order
+pub record Served (t : Table) (work : List Row) (result : List Entry) (m : Model) : Type 0 where
+  pub matches : Matches t m
+  pub work-long : workRows (m .order) ≤ length work
+  pub result-long : room (m .order) ≤ length result
+
+-- no call makes an area shorter
+cleared-longer : (n : ℕ) (work : List Row) → length work ≤ length (cleared zeroRow n work)
+unfolding cleared
+cleared-longer n work = omega (arith, length-append (replicate n zeroRow) (drop n work), length-replicate n zeroRow, length-drop n work)
+
+result-longer : (n : ℕ) (area : List Entry) (a : Answer) → length area ≤ length (resultAfter n area a)
+unfolding resultAfter
+result-longer zero area a =
+    let left : ℕ = length area - length (a .entries) in
+    omega (arith, length-append (a .entries) (replicate left zeroEntry), length-replicate left zeroEntry)
+result-longer (suc n) area a = go (eqb (suc n) noRoom)
+  where
+    go : (b : Bool) → length area ≤ length {A = Entry} (elim b [ true ↦ replicate (length area) zeroEntry | false ↦ area ])
+    go true = omega (arith, length-replicate (length area) zeroEntry)
+    go false = omega arith
+
+-- a scan lists no more entries than the model has items
+scanned-length : (m : Model) (q : Profile) → length (scanned m q) ≡ length (m .items)
+unfolding scanned
+scanned-length m q = length-map (m .items) _
+
+range-few : (m : Model) (q : Profile) (r : ℕ) → length (modelRange m q r) ≤ length (m .items)
+unfolding modelRange ordered
+range-few m q r =
+    let within : Entry → Bool = λ e. leb (entryDistance e) r in
+    omega (arith, sort-length entryKey (select within (scanned m q)), select-few within (scanned m q), scanned-length m q)
+
+nearest-few : (m : Model) (q : Profile) (k : ℕ) → length (modelNearest m q k) ≤ length (m .items)
+unfolding modelNearest ordered
+nearest-few m q k = omega (arith, length-take k (ordered (scanned m q)), sort-length entryKey (scanned m q), scanned-length m q)
+
+-- an accepted fresh
+pub fresh-served : (order : ℕ) (space : Space) (t : Table) (work : List Row) (result : List Entry) → freshRefusal (length t) order space ≡ 0
+    → workRows order ≤ length work → room order ≤ length result → Served (tableAfterFresh order space t) work result (modelBegun (fresh order space))
+unfolding modelBegun
+fresh-served order space t work result e enough fit = record { matches = fresh-matches order space t e; work-long = enough; result-long = fit }
+
+module _ {t : Table} {work : List Row} {result : List Entry} {m : Model} (s : Served t work result m) where
+  -- add and remove
+  change-asked : (rest : ℕ) → unless (canChange m (length t) (length work)) shortArea rest ≡ rest
+  change-asked rest =
+      ap (λ (b : Bool). unless b shortArea rest)
+      (can-go-on (s .matches) work (subst (λ (order : ℕ). workRows order ≤ length work) (sym (s .matches .order)) (s .work-long)))
+
+  add-refused : (tag : ℕ) (p : Profile) → addRefusal t work tag p ≡ itemRefusal m tag p
+  unfolding addRefusalOf
+  add-refused tag p = add-refusal m t work (inl (s .matches)) tag p ∙ change-asked (itemRefusal m tag p)
+
+  remove-refused : (tag : ℕ) → removeRefusal t work tag ≡ tagRefusal m tag
+  unfolding removeRefusalOf
+  remove-refused tag = remove-refusal m t work (inl (s .matches)) tag ∙ change-asked (tagRefusal m tag)
+
+  pub add-told : (tag : ℕ) (p : Profile) → addReply t work tag p .refusal ≡ itemRefusal m tag p
+  unfolding addReply
+  add-told tag p = add-number (addRefusal t work tag p) _ _ ∙ add-refused tag p
+
+  pub remove-told : (tag : ℕ) → removeReply t work tag .refusal ≡ tagRefusal m tag
+  unfolding removeReply
+  remove-told tag = remove-number (removeRefusal t work tag) _ ∙ remove-refused tag
+
+  -- a change of table and model where the refusal, of either, is 0
+  changed-served : (n r k : ℕ) → n ≡ r → (changed : Table) (after : Model) → after .order ≡ m .order → (r ≡ 0 → Matches changed after)
+      → Served (elim n [ zero ↦ changed | suc j ↦ t ]) (elim n [ zero ↦ cleared zeroRow k work | suc j ↦ work ]) result (afterUnless r m after)
+  unfolding afterUnless
+  changed-served n r k e changed after same h = subst (λ (i : ℕ). Served (table i) (work-area i) result (afterUnless r m after)) (sym e) (go r h)
+    where
+      table : ℕ → Table
+      table i = elim i [ zero ↦ changed | suc j ↦ t ]
+
+      work-area : ℕ → List Row
+      work-area i = elim i [ zero ↦ cleared zeroRow k work | suc j ↦ work ]
+
+      go : (i : ℕ) → (i ≡ 0 → Matches changed after) → Served (table i) (work-area i) result (afterUnless i m after)
+      go zero f =
+          record {
+            matches = f refl;
+            work-long = omega (arith, ap workRows same, s .work-long, cleared-longer k work);
+            result-long = omega (arith, ap room same, s .result-long);
+          }
+      go (suc i) f = s
+
+  pub add-served : (tag : ℕ) (p : Profile) → tag < 2 ^ 64 → IsProfile p
+      → Served (tableAfterAdd t work tag p) (workAfterAdd t work tag p) result (afterUnless (itemRefusal m tag p) m (with (record { tag = tag; profile = p }) m))
+  unfolding tableAfterAdd workAfterAdd with
+  add-served tag p fit is =
+      changed-served (addRefusal t work tag p) (itemRefusal m tag p) (workRows (orderOf t)) (add-refused tag p) (added t tag p .table) _ refl
+      (λ e. matches-added (s .matches) tag p fit is e)
+
+  pub remove-served : (tag : ℕ)
+      → Served (tableAfterRemove t work tag) (workAfterRemove t work tag) result (afterUnless (tagRefusal m tag) m (without tag m))
+  unfolding tableAfterRemove workAfterRemove without
+  remove-served tag =
+      changed-served (removeRefusal t work tag) (tagRefusal m tag) (workRows (orderOf t)) (remove-refused tag) (removed t tag .table) _ refl
+      (λ e. matches-removed (s .matches) tag e)
+
+  -- the searches
+  few-fit : (es : List Entry) → length es ≤ length (m .items) → fits (length result) es ≡ 0
+  unfolding fits liveTotal
+  few-fit es few =
+      ap (λ (b : Bool). unless b noRoom 0)
+      (le-leb (length es) (length result)
+      (omega (
+        arith,
+        few,
+        live-total (s .matches),
+        sizes-total (orderOf t) (builtOf t) (liveOf t) (s .matches .invariant .sizes),
+        ap room (s .matches .order),
+        s .result-long,
+      )))
+
+  pub range-refused : (q : Profile) (r : ℕ) → rangeRefusal t result q r ≡ unless (validMeasures q) badMeasure 0
+  unfolding askRefusal questionRefusal
+  range-refused q r =
+      range-refusal m t (inl (s .matches)) q r result
+      ∙ ap₂ (λ (b : Bool) (n : ℕ). unless b shortArea (unless (validMeasures q) badMeasure n)) (can-read m t (s .matches)) (few-fit (modelRange m q r) (range-few m q r))
+
+  pub nearest-refused : (q : Profile) (k : ℕ) → nearestRefusal t result q k ≡ unless (validMeasures q) badMeasure (when (eqb k 0) noCount 0)
+  unfolding askRefusal questionRefusal
+  nearest-refused q k =
+      nearest-refusal m t (inl (s .matches)) q k result
+      ∙ ap₂ (λ (b : Bool) (n : ℕ). unless b shortArea (unless (validMeasures q) badMeasure (when (eqb k 0) noCount n)))
+      (can-read m t (s .matches)) (few-fit (modelNearest m q k) (nearest-few m q k))
+
+  pub search-served : (n : ℕ) (a : Answer) → Served t work (resultAfter n result a) m
+  search-served n a = record { matches = s .matches; work-long = s .work-long; result-long = omega (arith, s .result-long, result-longer n result a) }

@@ -1,0 +1,3 @@
+-- The theorems of `specs/Claims`.
+pub mod Theorems
+mod Serving

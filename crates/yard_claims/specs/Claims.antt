@@ -1,0 +1,96 @@
+-- What is claimed of whole conversations with `yard` (RULES 18): whatever is typed, all that it prints is what the reference model (RULES 16) prints that is told
+-- the lines alone, with the bucket and the distances that a reply reports. So a search answers as a scan of the items that the lines accepted before it left, and
+-- no line is answered by 6, 23 or 24: the model has no area and no table.
+-- Theorems: `every-conversation`, `no-area-refused` in proofs/Theorems
+use Prim.Native.Nat.{ℕ, zero, suc}
+use mathlib.Core.Path.{_≡_}
+use mathlib.Core.List.{List, [], _∷_, _++_}
+use lib.ListN.{length}
+use lib.Dec.{leb, eqb}
+use Rattle.lists.specs.Lists.{All}
+use Rattle.metric_rules.specs.declared.Profile.{Profile}
+use Rattle.metric_rules.specs.Validity.{validMeasures}
+use Rattle.metric_rules.specs.Distance.{validMetric}
+use Rattle.search_rules.specs.Range.{Entry}
+use Rattle.table_rules.specs.Refusals.{badMeasure, badOrder, badMetric, noCount, noRoom, shortArea, badTable, unless, when}
+use Rattle.call_rules.specs.Calls.Begin.{fresh}
+use Rattle.history.specs.Model.{Model, with, without, tagRefusal, itemRefusal, modelRange, modelNearest, afterUnless, modelBegun}
+use Rattle.yard_rules.specs.declared.Header.{Header}
+use Rattle.yard_rules.specs.declared.Header.the-variants as header
+use Rattle.yard_rules.specs.declared.Command.{Command}
+use Rattle.yard_rules.specs.declared.Command.the-variants as command
+use Rattle.yard_rules.specs.Line.{letterA, letterF, letterN, letterR, letterW, headerIn, commandIn, profileIn}
+use Rattle.yard_rules.specs.Reply.{replyLine, replyNumbers, entriesText}
+use Rattle.yard_rules.specs.Conversation.{Areas, Ample, mostYardOrder, yardSpace, otherText, linesIn, conversation}
+
+-- the numbers of a reply that the model does not know: the bucket that an add built, and the distances of any call
+pub record Counts : Type 0 where
+  pub bucket : ℕ
+  pub distances : ℕ
+
+-- RULES 14.4, the number by which the model refuses a line's call: add 1, 2, 20, 22; remove 1, 21; range 2; nearest 2, 5
+unfoldable pub lineRefusal : Model → Command → Profile → ℕ
+lineRefusal m (command.Add tag) p = itemRefusal m tag p
+lineRefusal m (command.Remove tag) p = tagRefusal m tag
+lineRefusal m (command.Within radius) p = unless (validMeasures p) badMeasure 0
+lineRefusal m (command.Nearest k) p = unless (validMeasures p) badMeasure (when (eqb k 0) noCount 0)
+lineRefusal m command.Other p = 0
+
+-- RULES 16.4, the model after a line: an accepted add puts its item in, an accepted removal strikes it out
+unfoldable pub modelAfter : Model → Command → Profile → Model
+modelAfter m (command.Add tag) p = afterUnless (lineRefusal m (command.Add tag) p) m (with (record { tag = tag; profile = p }) m)
+modelAfter m (command.Remove tag) p = afterUnless (lineRefusal m (command.Remove tag) p) m (without tag m)
+modelAfter m (command.Within radius) p = m
+modelAfter m (command.Nearest k) p = m
+modelAfter m command.Other p = m
+
+-- RULES 18.3, 18.4, a search's lines: the number of its entries and its distances, then each entry; or its refusal
+unfoldable pub searchLines : ℕ → ℕ → List Entry → ℕ → List ℕ
+searchLines letter zero entries distances = replyLine letter (0 ∷ length entries ∷ distances ∷ []) ++ entriesText entries
+searchLines letter (suc n) entries distances = replyLine letter (suc n ∷ [])
+
+-- RULES 18.3, 16.5, what the model prints for a line of this number: its refusal or 0, for a search its scan, and the counts of the reply
+unfoldable pub modelText : Model → ℕ → Command → Profile → Counts → List ℕ
+modelText m number (command.Add tag) p counts =
+    replyLine letterA (replyNumbers (lineRefusal m (command.Add tag) p) (counts .bucket ∷ counts .distances ∷ []))
+modelText m number (command.Remove tag) p counts = replyLine letterR (replyNumbers (lineRefusal m (command.Remove tag) p) (counts .distances ∷ []))
+modelText m number (command.Within radius) p counts =
+    searchLines letterW (lineRefusal m (command.Within radius) p) (modelRange m p radius) (counts .distances)
+modelText m number (command.Nearest k) p counts = searchLines letterN (lineRefusal m (command.Nearest k) p) (modelNearest m p k) (counts .distances)
+modelText m number command.Other p counts = otherText number
+
+-- some lines, numbered from `number` on, each on what those before it left; `counts 0` are the first line's, `counts 1` the next one's
+unfoldable pub modelPrinted : Model → ℕ → List (List ℕ) → (ℕ → Counts) → List ℕ
+modelPrinted m number [] counts = []
+modelPrinted m number (line ∷ lines) counts =
+    modelText m number (commandIn line) (profileIn line) (counts 0)
+    ++ modelPrinted (modelAfter m (commandIn line) (profileIn line)) (suc number) lines (λ i. counts (suc i))
+
+-- RULES 18.1, 18.2, the first line: 3 for an order above 8, then 4
+unfoldable pub firstRefusal : ℕ → ℕ → ℕ
+firstRefusal order metric = unless (leb order mostYardOrder) badOrder (unless (validMetric (yardSpace metric)) badMetric 0)
+
+-- accepted it prints nothing and the model begins, with line 2 next; else its number or `? 1` is all that is printed
+unfoldable pub modelOpened : Header → List (List ℕ) → (ℕ → Counts) → List ℕ
+modelOpened (header.Of order metric) lines counts =
+    elim (firstRefusal order metric) [
+      | zero ↦ modelPrinted (modelBegun (fresh order (yardSpace metric))) 2 lines counts
+      | suc n ↦ replyLine letterF (suc n ∷ [])
+    ]
+modelOpened header.Other lines counts = otherText 1
+
+unfoldable pub modelConversation : List (List ℕ) → (ℕ → Counts) → List ℕ
+modelConversation [] counts = []
+modelConversation (line ∷ lines) counts = modelOpened (headerIn line) lines counts
+
+-- In areas that are long enough for order 8, as the program's are, and whatever these hold before: for every input there are counts with which the model prints,
+-- byte for byte, what the conversation prints. A reply reads back as its numbers (`line-back`, `search-back` in yard_rules/proofs/ReadBack), so it is a claim on each line.
+-- Theorem: `every-conversation`
+abbrev pub EveryConversation : Type 0
+EveryConversation =
+    (a : Areas) → Ample a → (input : List ℕ) → (counts : ℕ → Counts) × (conversation a input ≡ modelConversation (linesIn input) counts)
+
+-- and none of the numbers that it prints for a line's refusal is 6, 23 or 24, in any model
+-- Theorem: `no-area-refused`
+abbrev pub NoAreaRefused : Type 0
+NoAreaRefused = (m : Model) (c : Command) (p : Profile) → All (λ n. lineRefusal m c p ≡ n → ⊥) (noRoom ∷ shortArea ∷ badTable ∷ [])
