@@ -11,10 +11,11 @@ use Rattle.table_rules.specs.Table.{Table, putBucket}
 use Rattle.table_rules.proofs.Buckets.{bucketsFrom, buckets-all, buckets-next, buckets-end}
 use Rattle.image_rules.specs.Read.{orderIn, builtIn, liveIn, slotsBefore, slotsIn, bucketIn}
 use Rattle.image_rules.proofs.Loaded.{length-bucket-in}
+use Rattle.image_read.specs.declared.Slots.{Slots}
+use Rattle.image_read.specs.InImage.{InImage}
 use Rattle.image_read.proofs.Places.{whole-sizes, some-in, bucket-inside, before-more, few-slots, built-within}
 use Rattle.table_buckets.specs.OfOrder.{OfOrder}
 use Rattle.table_buckets.proofs.Places.{lent-put}
-use Rattle.image_fill.specs.IsBucket.{IsBucket}
 use Rattle.image_fill.proofs.put_buckets.Statement.{statement}
 use Rattle.image_fill.proofs.put_buckets.Tie as tie
 
@@ -28,6 +29,13 @@ Inv-loop table₀ image all form order t first₀ k₀ table first k =
 
 abbrev μ-loop : tie.MeasureT-loop
 μ-loop table₀ image all form order t first₀ k₀ table first k = t + 1 - k
+
+-- from where a bucket's slots are in hand back to the loop, and to the start
+abbrev turn-of : tie.After-some-of Inv-loop μ-loop → tie.At-loop Inv-loop μ-loop
+turn-of c = c .before .before .before .before
+
+abbrev start-of : tie.After-some-of Inv-loop μ-loop → tie.Start Inv-loop μ-loop
+start-of c = turn-of c .before .before .before .before
 
 -- a bucket of the loop is one of the order, has room for its slots, and its slots are among all
 module _ (s : tie.Start Inv-loop μ-loop) (k : ℕ) (h : k ≤ s .args .header .order .t) where
@@ -52,41 +60,46 @@ built-in-requires c κs = let s = c .before .before .before .before .before in w
 cast-count : tie.Need-cast-count Inv-loop μ-loop
 cast-count c = omega (arith, c .built-in .ok)
 
+-- the slots of a bucket begin where those of the buckets before it end
+begins : (c : tie.After-some-of Inv-loop μ-loop) → c .some-of .result .first ≡ slotsBefore (start-of c .args .image .now) (turn-of c .loop .k)
+begins c =
+    let first : c .some-of .result .first ≡ turn-of c .loop .first = ap (λ (at : Slots). at .first) (c .some-of .ensures) in
+    first ∙ turn-of c .loop .inv .2
+
 put-bucket-requires : tie.Need-put-bucket-requires Inv-loop μ-loop
 put-bucket-requires c κs =
-    let s = c .before .before .before .before .before .before .before .before in
-    let l = c .before .before .before .before .loop in
+    let s = start-of c in
+    let l = turn-of c .loop in
     let image = s .args .image .now in
     let built = c .before .before .built-in in
     let low : l .k ≤ s .args .header .order .t = omega arith in (
       l .inv .3,
       low,
-      subst (IsBucket image (l .k)) (sym (c .some-of .ensures))
-          (record {
-            inside = some-in (s .pre .2) (l .first) (built .result) (omega (arith, inside s (l .k) low, l .inv .2, built .ensures));
-            among = within s (l .k) low;
-            first = l .inv .2;
-            count = built .ensures;
-            room = roomy s (l .k) low;
-          }),
+      record {
+        inside = subst (InImage image) (sym (c .some-of .ensures)) (some-in (s .pre .2) (l .first) (built .result) (omega (arith, inside s (l .k) low, l .inv .2, built .ensures)));
+        among = within s (l .k) low;
+        first = begins c;
+        count = ap (λ (at : Slots). at .count) (c .some-of .ensures) ∙ built .ensures;
+        room = roomy s (l .k) low;
+      },
     )
 
 add-first : tie.Need-add-first Inv-loop μ-loop
 add-first c =
-    let s = c .before .before .before .before .before .before .before .before .before .before in
-    let l = c .before .before .before .before .before .before .loop in
+    let s = start-of (c .before .before) in
+    let l = turn-of (c .before .before) .loop in
     omega (arith, inside s (l .k) (omega arith), few-slots (s .pre .2), l .inv .2, c .before .before .before .before .built-in .ensures)
 
 add-k : tie.Need-add-k Inv-loop μ-loop
-add-k c = let w = c .before .before .before .before .before .before .before .before .before .before .pre .1 in omega (arith, w .headed .order, w .order)
+add-k c = let w = start-of (c .before .before) .pre .1 in omega (arith, w .headed .order, w .order)
 
 loop-less : tie.Need-loop-less Inv-loop μ-loop
 loop-less c = omega arith
 
 loop-again : tie.Need-loop-again Inv-loop μ-loop
 loop-again c =
-    let s = c .before .before .before .before .before .before .before .before .before .before in
-    let l = c .before .before .before .before .before .before .loop in
+    let s = start-of (c .before .before) in
+    let l = turn-of (c .before .before) .loop in
     let image = s .args .image .now in
     let t = s .args .header .order .t in
     let stored = c .before .put-bucket in
