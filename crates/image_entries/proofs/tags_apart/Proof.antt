@@ -61,26 +61,33 @@ mul-if1-2 c = omega arith
 index-1-if1-2 : tie.Need-index-1-if1-2 Inv-loop μ-loop
 index-1-if1-2 c = omega arith
 
+-- from the loop back to the start, and to the entries in order
+abbrev start-of : tie.At-loop Inv-loop μ-loop → tie.Start Inv-loop μ-loop
+start-of c = c .before .before .before .before
+
+abbrev sorted-at : tie.At-loop Inv-loop μ-loop → tie.After-sort-entries Inv-loop μ-loop
+sorted-at c = c .before .before
+
+sorted : (c : tie.At-loop Inv-loop μ-loop) → sorted-at c .sort-entries .last .0 ≡ ordered (start-of c .args .entries .now)
+sorted c = sorted-is (start-of c .args .entries .now) (sorted-at c .sort-entries .last .0) (start-of c .pre) (sorted-at c .sort-entries .ensures)
+
 returns : tie.Need-returns Inv-loop μ-loop
-returns c = let es : List Entry = c .before .before .before .before .before .before .before .before .args .entries .now in
-    let s : List Entry = c .before .before .before .before .before .before .sort-entries .last .0 in
-    let l = c .before .before .before .before .loop in
-    let sorted : s ≡ ordered es = sorted-is es s (c .before .before .before .before .before .before .before .before .pre) (c .before .before .before .before .before .before .sort-entries .ensures) in
-    (sym (sorted-equal es s (c .before .before .before .before .before .before .before .before .pre) sorted (l .i) (omega arith) (l .inv .1) (c .if1 .taken)), sorted)
+returns c = let l = c .before .before .before .before in
+    let es : List Entry = start-of l .args .entries .now in
+    let s : List Entry = sorted-at l .sort-entries .last .0 in
+    (sym (sorted-equal es s (start-of l .pre) (sorted l) (l .loop .i) (omega arith) (l .loop .inv .1) (c .if1 .taken)), sorted l)
 
 loop-again : tie.Need-loop-again Inv-loop μ-loop
-loop-again c = let es : List Entry = c .before .before .before .before .before .before .before .before .args .entries .now in
-    let s : List Entry = c .before .before .before .before .before .before .sort-entries .last .0 in
-    let l = c .before .before .before .before .loop in
-    let sorted : s ≡ ordered es = sorted-is es s (c .before .before .before .before .before .before .before .before .pre) (c .before .before .before .before .before .before .sort-entries .ensures) in
-    (omega arith, sorted-apart es s (c .before .before .before .before .before .before .before .before .pre) sorted (l .i) (omega arith) (l .inv .1) (c .if1 .left))
+loop-again c = let l = c .before .before .before .before in
+    let es : List Entry = start-of l .args .entries .now in
+    let s : List Entry = sorted-at l .sort-entries .last .0 in
+    (omega arith, sorted-apart es s (start-of l .pre) (sorted l) (l .loop .i) (omega arith) (l .loop .inv .1) (c .if1 .left))
 
 returns-2 : tie.Need-returns-2 Inv-loop μ-loop
-returns-2 c = let es : List Entry = c .before .before .before .before .before .args .entries .now in
-    let s : List Entry = c .before .before .before .sort-entries .last .0 in
-    let l = c .before .loop in
-    let sorted : s ≡ ordered es = sorted-is es s (c .before .before .before .before .before .pre) (c .before .before .before .sort-entries .ensures) in
-    (sym (same-tags es s sorted ∙ sym (l .inv .1) ∙ scan-last (map entryTag s) (l .i) (omega (arith, length-map s entryTag))), sorted)
+returns-2 c = let l = c .before in
+    let es : List Entry = start-of l .args .entries .now in
+    let s : List Entry = sorted-at l .sort-entries .last .0 in
+    (sym (same-tags es s (sorted l) ∙ sym (l .loop .inv .1) ∙ scan-last (map entryTag s) (l .loop .i) (omega (arith, length-map s entryTag))), sorted l)
 
 pub tags-apart-spec : {M : Type 1} → statement M
 tags-apart-spec =

@@ -28,6 +28,13 @@ Inv-loop image all form t first₀ k₀ first k =
 abbrev μ-loop : tie.MeasureT-loop
 μ-loop image all form t first₀ k₀ first k = t + 1 - k
 
+-- from a bucket's test back to the loop, and from the loop to the start
+abbrev loop-at : tie.After-slots-read Inv-loop μ-loop → tie.At-loop Inv-loop μ-loop
+loop-at c = c .before .before .before .before .before
+
+abbrev start-of : tie.At-loop Inv-loop μ-loop → tie.Start Inv-loop μ-loop
+start-of c = c .before .before .before
+
 -- a bucket of the loop is one of the order
 within : (s : tie.Start Inv-loop μ-loop) (k : ℕ) → k ≤ s .args .header .order .t → k ≤ orderIn (s .args .image .now)
 within s k h = omega (arith, s .pre .0 .headed .order)
@@ -66,10 +73,10 @@ slots-read-requires c κs =
     (some-in (s .pre .1) (l .first) (built .result) (omega (arith, inside s (l .first) (l .k) (omega arith) (l .inv .1), built .ensures)))
 
 -- the bucket's test as it was made
-tested : (c : tie.After-slots-read Inv-loop μ-loop) → passes (c .before .before .before .before .before .before .before .before .args .image .now) (c .before .before .before .before .before .loop .k) ≡ c .slots-read .result
+tested : (c : tie.After-slots-read Inv-loop μ-loop) → passes (start-of (loop-at c) .args .image .now) (loop-at c .loop .k) ≡ c .slots-read .result
 tested c =
-    let image = c .before .before .before .before .before .before .before .before .args .image .now in
-    let l = c .before .before .before .before .before .loop in
+    let image = start-of (loop-at c) .args .image .now in
+    let l = loop-at c .loop in
     let some = c .before .before .some-of in
     sym (c .slots-read .ensures
     ∙ ap₂ slotsRead
@@ -78,29 +85,29 @@ tested c =
 
 returns : tie.Need-returns Inv-loop μ-loop
 returns c =
-    let s = c .before .before .before .before .before .before .before .before .before in
+    let s = start-of (loop-at (c .before)) in
     let image = s .args .image .now in
-    let l = c .before .before .before .before .before .before .loop in
+    let l = loop-at (c .before) .loop in
     bucket-fails (passes image) (s .args .header .order .t) (l .k) (omega arith) (l .inv .2) (tested (c .before) ∙ not-true (c .before .slots-read .result) (c .if1 .taken))
     ∙ ap (λ (n : ℕ). every (passes image) (bucketsOf n)) (s .pre .0 .headed .order)
 
 add-first : tie.Need-add-first Inv-loop μ-loop
 add-first c =
-    let s = c .before .before .before .before .before .before .before .before .before in
-    let l = c .before .before .before .before .before .before .loop in
+    let s = start-of (loop-at (c .before)) in
+    let l = loop-at (c .before) .loop in
     omega (arith, inside s (l .first) (l .k) (omega arith) (l .inv .1), few-slots (s .pre .1), c .before .before .before .before .built-in .ensures)
 
 add-k : tie.Need-add-k Inv-loop μ-loop
-add-k c = let w = c .before .before .before .before .before .before .before .before .before .pre .0 in omega (arith, w .headed .order, w .order)
+add-k c = let w = start-of (loop-at (c .before)) .pre .0 in omega (arith, w .headed .order, w .order)
 
 loop-less : tie.Need-loop-less Inv-loop μ-loop
 loop-less c = omega arith
 
 loop-again : tie.Need-loop-again Inv-loop μ-loop
 loop-again c =
-    let s = c .before .before .before .before .before .before .before .before .before in
+    let s = start-of (loop-at (c .before)) in
     let image = s .args .image .now in
-    let l = c .before .before .before .before .before .before .loop in (
+    let l = loop-at (c .before) .loop in (
       omega arith,
       omega (arith, before-more image (l .k), l .inv .1, c .before .before .before .before .built-in .ensures),
       bucket-passes (passes image) (s .args .header .order .t) (l .k) (omega arith) (l .inv .2) (tested (c .before) ∙ not-false (c .before .slots-read .result) (c .if1 .left)),

@@ -35,26 +35,33 @@ live-in-requires c κs = sizes-below (c .before .before .before .before .pre .1)
 size-passes-requires : tie.Need-size-passes-requires Inv-loop μ-loop
 size-passes-requires c κs = omega (arith, c .before .before .before .before .before .pre .0)
 
+-- from a bucket's test back to the loop, and from the loop to the start
+abbrev loop-at : tie.After-size-passes Inv-loop μ-loop → tie.At-loop Inv-loop μ-loop
+loop-at c = c .before .before .before .before
+
+abbrev start-of : tie.At-loop Inv-loop μ-loop → tie.Start Inv-loop μ-loop
+start-of c = c .before .before
+
 -- the bucket's test as it was made
-tested : (c : tie.After-size-passes Inv-loop μ-loop) → passes (c .before .before .before .before .before .before .args .image .now) (c .before .before .before .before .loop .k) ≡ c .size-passes .result
-tested c = sym (c .size-passes .ensures ∙ ap₂ (sizePasses (c .before .before .before .before .loop .k)) (c .before .before .built-in .ensures) (c .before .live-in .ensures))
+tested : (c : tie.After-size-passes Inv-loop μ-loop) → passes (start-of (loop-at c) .args .image .now) (loop-at c .loop .k) ≡ c .size-passes .result
+tested c = sym (c .size-passes .ensures ∙ ap₂ (sizePasses (loop-at c .loop .k)) (c .before .before .built-in .ensures) (c .before .live-in .ensures))
 
 returns : tie.Need-returns Inv-loop μ-loop
 returns c =
-    let a = c .before .before .before .before .before .before .before .args in
-    let l = c .before .before .before .before .before .loop in
+    let a = start-of (loop-at (c .before)) .args in
+    let l = loop-at (c .before) .loop in
     bucket-fails (passes (a .image .now)) (a .t) (l .k) (omega arith) (l .inv .1) (tested (c .before) ∙ not-true (c .before .size-passes .result) (c .if1 .taken))
 
 add-k : tie.Need-add-k Inv-loop μ-loop
-add-k c = omega (arith, c .before .before .before .before .before .before .before .pre .0)
+add-k c = omega (arith, start-of (loop-at (c .before)) .pre .0)
 
 loop-less : tie.Need-loop-less Inv-loop μ-loop
 loop-less c = omega arith
 
 loop-again : tie.Need-loop-again Inv-loop μ-loop
 loop-again c =
-    let a = c .before .before .before .before .before .before .before .args in
-    let l = c .before .before .before .before .before .loop in
+    let a = start-of (loop-at (c .before)) .args in
+    let l = loop-at (c .before) .loop in
     (omega arith, bucket-passes (passes (a .image .now)) (a .t) (l .k) (omega arith) (l .inv .1) (tested (c .before) ∙ not-false (c .before .size-passes .result) (c .if1 .left)))
 
 returns-2 : tie.Need-returns-2 Inv-loop μ-loop

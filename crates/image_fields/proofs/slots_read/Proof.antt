@@ -37,25 +37,32 @@ loop-holds c = (omega arith, omega arith, refl, refl)
 slot-in-requires : tie.Need-slot-in-requires Inv-loop μ-loop
 slot-in-requires c κs = (c .before .before .before .pre, omega arith)
 
+-- from a slot's test back to the loop, and from the loop to the start
+abbrev loop-at : tie.After-slot-passes Inv-loop μ-loop → tie.At-loop Inv-loop μ-loop
+loop-at c = c .before .before .before
+
+abbrev start-of : tie.At-loop Inv-loop μ-loop → tie.Start Inv-loop μ-loop
+start-of c = c .before .before
+
 -- the slot in hand, and its test
 module _ (c : tie.After-slot-passes Inv-loop μ-loop) where
-  here : getD (slotsAt (c .before .before .before .before .before .args .image .now) (c .before .before .before .before .before .args .at)) (c .before .before .before .loop .i) [] ≡ c .before .slot-in .result
+  here : getD (slotsAt (start-of (loop-at c) .args .image .now) (start-of (loop-at c) .args .at)) (loop-at c .loop .i) [] ≡ c .before .slot-in .result
   here =
-      let a = c .before .before .before .before .before .args in
-      let l = c .before .before .before .loop in
+      let a = start-of (loop-at c) .args in
+      let l = loop-at c .loop in
       slots-at (a .image .now) (a .at) (l .i) [] (omega arith) ∙ sym (c .before .slot-in .ensures)
 
-  tested : fieldsPass (getD (slotsAt (c .before .before .before .before .before .args .image .now) (c .before .before .before .before .before .args .at)) (c .before .before .before .loop .i) []) ≡ c .slot-passes .result
+  tested : fieldsPass (getD (slotsAt (start-of (loop-at c) .args .image .now) (start-of (loop-at c) .args .at)) (loop-at c .loop .i) []) ≡ c .slot-passes .result
   tested = ap fieldsPass here ∙ sym (c .slot-passes .ensures)
 
-  long : length (slotsAt (c .before .before .before .before .before .args .image .now) (c .before .before .before .before .before .args .at)) ≡ c .before .before .before .before .before .args .at .count
-  long = slots-length (c .before .before .before .before .before .args .image .now) (c .before .before .before .before .before .args .at)
+  long : length (slotsAt (start-of (loop-at c) .args .image .now) (start-of (loop-at c) .args .at)) ≡ start-of (loop-at c) .args .at .count
+  long = slots-length (start-of (loop-at c) .args .image .now) (start-of (loop-at c) .args .at)
 
 returns : tie.Need-returns Inv-loop μ-loop
 unfolding slotsRead
 returns c =
-    let a = c .before .before .before .before .before .before .args in
-    let l = c .before .before .before .before .loop in
+    let a = start-of (loop-at (c .before)) .args in
+    let l = loop-at (c .before) .loop in
     let rows = slotsAt (a .image .now) (a .at) in
     ap (λ (b : Bool). b && eqb (length (select isLive rows)) (a .live))
     (scan-fails fieldsPass [] rows (l .i) (omega (arith, long (c .before))) (l .inv .2)
@@ -63,7 +70,8 @@ returns c =
 
 -- the mark of a slot that passes
 mark : (c : tie.After-mark-of Inv-loop μ-loop)
-    → (c .mark-of .result ≡ markOf (getD (slotsAt (c .before .before .before .before .before .before .before .args .image .now) (c .before .before .before .before .before .before .before .args .at)) (c .before .before .before .before .before .loop .i) [])) × (c .mark-of .result ≤ 1)
+    → let l = loop-at (c .before .before) in
+    (c .mark-of .result ≡ markOf (getD (slotsAt (start-of l .args .image .now) (start-of l .args .at)) (l .loop .i) [])) × (c .mark-of .result ≤ 1)
 mark c =
     let e = c .mark-of .ensures ∙ ap markOf (sym (here (c .before .before))) in
     let pass = tested (c .before .before) ∙ not-false (c .before .before .slot-passes .result) (c .before .if1 .left) in
@@ -76,7 +84,7 @@ cast-found : tie.Need-cast-found Inv-loop μ-loop
 cast-found c = omega arith
 
 add-found : tie.Need-add-found Inv-loop μ-loop
-add-found c = let p = c .before .before .before .before .before .before .before .pre in omega (arith, few-slots p, p .within)
+add-found c = let p = start-of (loop-at (c .before .before)) .pre in omega (arith, few-slots p, p .within)
 
 add-i : tie.Need-add-i Inv-loop μ-loop
 add-i c = omega arith
@@ -86,8 +94,8 @@ loop-less c = omega arith
 
 loop-again : tie.Need-loop-again Inv-loop μ-loop
 loop-again c =
-    let a = c .before .before .before .before .before .before .before .args in
-    let l = c .before .before .before .before .before .loop in
+    let a = start-of (loop-at (c .before .before)) .args in
+    let l = loop-at (c .before .before) .loop in
     let rows = slotsAt (a .image .now) (a .at) in
     let low : l .i < length rows = omega (arith, long (c .before .before)) in
     let m = mark c in

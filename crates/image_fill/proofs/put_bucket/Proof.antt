@@ -42,34 +42,40 @@ fill-room-requires c κs =
     let b = s .pre .2 in
     (b .inside, omega (arith, part s _ _ (c .before .before .first-slot .ensures) (c .before .room .ensures), b .count, b .room))
 
+-- from where the room is filled back to the start
+abbrev start-of : tie.After-fill-room → tie.Start
+start-of c = c .before .before .before .before .before
+
 -- the slots are few
 cast-put-sizes : tie.Need-cast-put-sizes
 cast-put-sizes c =
-    let s = c .before .before .before .before .before .before .before .before .before in
+    let s = start-of (c .before .before .before .before) in
     let b = s .pre .2 in
     omega (arith, b .count, b .room, room-fits (s .args .k) (omega (arith, s .pre .0 .most, s .pre .1)))
 
 live-in-requires : tie.Need-live-in-requires
-live-in-requires c κs = let b = c .before .before .before .before .before .before .before .before .before .pre .2 in slots-sizes (b .inside) _ (b .among)
+live-in-requires c κs = let b = start-of (c .before .before .before .before) .pre .2 in slots-sizes (b .inside) _ (b .among)
 
 put-sizes-requires : tie.Need-put-sizes-requires
 put-sizes-requires c κs =
-    let s = c .before .before .before .before .before .before .before .before .before .before in
-    let f = c .before .before .before .before .before .fill-room in
-    let first : ℕ = c .before .before .before .before .before .before .before .before .first-slot .result in
-    let size : ℕ = c .before .before .before .before .before .before .before .room .result in
+    let d = c .before .before .before .before .before in
+    let s = start-of d in
+    let f = d .fill-room in
+    let first : ℕ = d .before .before .before .first-slot .result in
+    let size : ℕ = d .before .before .room .result in
     omega (arith, same-len-mid first (first + size - first) (s .args .table .now) (f .last .0) (f .kept .0), sizes-inside (s .pre .0) (s .args .k) (s .pre .1))
 
 returns : tie.Need-returns
 returns c =
-    let s = c .before .before .before .before .before .before .before .before .before .before .before .before in
+    let d = c .before .before .before .before .before .before .before in
+    let s = start-of d in
     let b = s .pre .2 in
     let k = s .args .k in
     let t = s .args .table .now in
     let image = s .args .image .now in
-    let first = c .before .before .before .before .before .before .before .before .before .before .first-slot in
-    let size = c .before .before .before .before .before .before .before .before .before .room in
-    let f = c .before .before .before .before .before .before .before .fill-room in
+    let first = d .before .before .before .first-slot in
+    let size = d .before .before .room in
+    let f = d .fill-room in
     let slots = bucketIn image k in
     let here : slotsAt image (s .args .at) ≡ slots = bucket-slots image (s .args .at) k (b .first) (b .count) in
     let long : length slots ≡ s .args .at .count = ap length (sym here) ∙ slots-length image (s .args .at) in

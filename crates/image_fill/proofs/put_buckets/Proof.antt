@@ -31,11 +31,11 @@ abbrev μ-loop : tie.MeasureT-loop
 μ-loop table₀ image all form order t first₀ k₀ table first k = t + 1 - k
 
 -- from where a bucket's slots are in hand back to the loop, and to the start
-abbrev turn-of : tie.After-some-of Inv-loop μ-loop → tie.At-loop Inv-loop μ-loop
-turn-of c = c .before .before .before .before
+abbrev loop-at : tie.After-some-of Inv-loop μ-loop → tie.At-loop Inv-loop μ-loop
+loop-at c = c .before .before .before .before
 
 abbrev start-of : tie.After-some-of Inv-loop μ-loop → tie.Start Inv-loop μ-loop
-start-of c = turn-of c .before .before .before .before
+start-of c = loop-at c .before .before .before .before
 
 -- a bucket of the loop is one of the order, has room for its slots, and its slots are among all
 module _ (s : tie.Start Inv-loop μ-loop) (k : ℕ) (h : k ≤ s .args .header .order .t) where
@@ -61,15 +61,15 @@ cast-count : tie.Need-cast-count Inv-loop μ-loop
 cast-count c = omega (arith, c .built-in .ok)
 
 -- the slots of a bucket begin where those of the buckets before it end
-begins : (c : tie.After-some-of Inv-loop μ-loop) → c .some-of .result .first ≡ slotsBefore (start-of c .args .image .now) (turn-of c .loop .k)
+begins : (c : tie.After-some-of Inv-loop μ-loop) → c .some-of .result .first ≡ slotsBefore (start-of c .args .image .now) (loop-at c .loop .k)
 begins c =
-    let first : c .some-of .result .first ≡ turn-of c .loop .first = ap (λ (at : Slots). at .first) (c .some-of .ensures) in
-    first ∙ turn-of c .loop .inv .2
+    let first : c .some-of .result .first ≡ loop-at c .loop .first = ap (λ (at : Slots). at .first) (c .some-of .ensures) in
+    first ∙ loop-at c .loop .inv .2
 
 put-bucket-requires : tie.Need-put-bucket-requires Inv-loop μ-loop
 put-bucket-requires c κs =
     let s = start-of c in
-    let l = turn-of c .loop in
+    let l = loop-at c .loop in
     let image = s .args .image .now in
     let built = c .before .before .built-in in
     let low : l .k ≤ s .args .header .order .t = omega arith in (
@@ -87,7 +87,7 @@ put-bucket-requires c κs =
 add-first : tie.Need-add-first Inv-loop μ-loop
 add-first c =
     let s = start-of (c .before .before) in
-    let l = turn-of (c .before .before) .loop in
+    let l = loop-at (c .before .before) .loop in
     omega (arith, inside s (l .k) (omega arith), few-slots (s .pre .2), l .inv .2, c .before .before .before .before .built-in .ensures)
 
 add-k : tie.Need-add-k Inv-loop μ-loop
@@ -99,7 +99,7 @@ loop-less c = omega arith
 loop-again : tie.Need-loop-again Inv-loop μ-loop
 loop-again c =
     let s = start-of (c .before .before) in
-    let l = turn-of (c .before .before) .loop in
+    let l = loop-at (c .before .before) .loop in
     let image = s .args .image .now in
     let t = s .args .header .order .t in
     let stored = c .before .put-bucket in

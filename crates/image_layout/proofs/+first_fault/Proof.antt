@@ -34,17 +34,29 @@ first-fault-below t =
 abbrev first-fault-callees : ℕ → first-fault-lts.Claims
 first-fault-callees t = (arrange-reads.Asked, arrange-reads.Learnt, first-in-place-reads.Asked, first-in-place-reads.Learnt, first-fault-below t, first-fault.Post)
 
+-- the walk once the part is arranged, and from there back to the start; once the left half is tested, and from there back to the arranged part
+abbrev Arranged : ℕ → Type 0
+Arranged t = first-fault-lts.After-arrange (first-fault-callees t) (first-fault-at t) first-fault.Post
+
+abbrev start-of : (t : ℕ) → Arranged t → first-fault-lts.Start (first-fault-callees t) (first-fault-at t) first-fault.Post
+start-of t c = c .before .before .before .before
+
+abbrev LeftTested : ℕ → Type 0
+LeftTested t = first-fault-lts.After-first-fault (first-fault-callees t) (first-fault-at t) first-fault.Post
+
+abbrev arranged-at : (t : ℕ) → LeftTested t → Arranged t
+arranged-at t c = c .before .before .before .before .before .before
+
 not-zero : (n : ℕ) → (n ≡ 0 → ⊥) → 1 ≤ n
 not-zero n f = omega arith
 
 -- the part once it is arranged
 prepared :
-    (t : ℕ) (c : first-fault-lts.After-arrange (first-fault-callees t) (first-fault-at t) first-fault.Post)
-    → Prepared (slotIn (c .before .before .before .before .args .image .now) (c .before .before .before .before .args .at))
-    (distance (spaceOf (c .before .before .before .before .args .header .now))) (c .before .before .before .before .args .at .count)
-    (c .before .before .before .before .args .entries .now) (c .arrange .last .1 .1 .1 .0) (c .before .before .before .before .args .place)
+    (t : ℕ) (c : Arranged t)
+    → let a = start-of t c .args in
+    Prepared (slotIn (a .image .now) (a .at)) (distance (spaceOf (a .header .now))) (a .at .count) (a .entries .now) (c .arrange .last .1 .1 .1 .0) (a .place)
 prepared t c =
-    let s = c .before .before .before .before in
+    let s = start-of t c in
     record {
       some = not-zero (length (s .args .entries .now)) (c .before .before .if1 .left);
       kept = c .arrange .kept .1 .1 .1 .0;
@@ -65,7 +77,7 @@ first-fault-arrange-requires t c κs =
 
 first-fault-first-in-place-requires : (t : ℕ) → first-fault-lts.Need-first-in-place-requires (first-fault-callees t) (first-fault-at t) first-fault.Post
 first-fault-first-in-place-requires t c κs =
-    let s = c .before .before .before .before .before .before in
+    let s = start-of t (c .before .before) in
     let p = prepared t (c .before .before) in
     (s .pre .1 .0, omega (arith, p .some, p .fits), omega (arith, p .some, p .kept))
 
@@ -74,7 +86,7 @@ first-fault-same-length t c = prepared t (c .before .before .before .before) .ke
 
 first-fault-returns-2 : (t : ℕ) → first-fault-lts.Need-returns-2 (first-fault-callees t) (first-fault-at t) first-fault.Post
 first-fault-returns-2 t c =
-    let s = c .before .before .before .before .before .before .before .before in
+    let s = start-of t (c .before .before .before .before) in
     let p = prepared t (c .before .before .before .before) in
     let q = c .before .first-in-place in
     fault-first p (λ i h. slot-width (s .args .image .now) (s .args .at) i) (s .pre .1 .3) (q .result) (q .ensures) (not-true (q .result) (c .if2 .taken))
@@ -92,78 +104,82 @@ first-fault-part-first-fault-end : (t : ℕ) → first-fault-lts.Need-part-first
 first-fault-part-first-fault-end t c = omega (arith, prepared t (c .before .before .before .before) .some, prepared t (c .before .before .before .before) .kept)
 
 first-fault-add-first-fault : (t : ℕ) → first-fault-lts.Need-add-first-fault (first-fault-callees t) (first-fault-at t) first-fault.Post
-first-fault-add-first-fault t c = omega (arith, c .before .before .before .before .before .before .before .before .before .pre .1 .1, prepared t (c .before .before .before .before .before) .some)
+first-fault-add-first-fault t c = omega (arith, prepared t (c .before .before .before .before .before) .fits, prepared t (c .before .before .before .before .before) .some)
 
 first-fault-first-fault-requires : (t : ℕ) → first-fault-lts.Need-first-fault-requires (first-fault-callees t) (first-fault-at t) first-fault.Post
 first-fault-first-fault-requires t c κs =
-    let s = c .before .before .before .before .before .before .before .before .before in
+    let s = start-of t (c .before .before .before .before .before) in
     let p = prepared t (c .before .before .before .before .before) in
     (omega (arith, s .pre .0, left-lent-length p, p .some), (s .pre .1 .0, omega (arith, left-lent-length p, p .some, p .fits), left-sound p, s .pre .1 .3))
 
 first-fault-add-if3 : (t : ℕ) → first-fault-lts.Need-add-if3 (first-fault-callees t) (first-fault-at t) first-fault.Post
-first-fault-add-if3 t c = omega (arith, prepared t (c .before .before .before .before .before .before .before) .fits, prepared t (c .before .before .before .before .before .before .before) .some)
+first-fault-add-if3 t c = let p = prepared t (arranged-at t (c .before)) in omega (arith, p .fits, p .some)
 
 first-fault-same-length-2 : (t : ℕ) → first-fault-lts.Need-same-length-2 (first-fault-callees t) (first-fault-at t) first-fault.Post
 first-fault-same-length-2 t c =
-    let p = prepared t (c .before .before .before .before .before .before .before .before) in
+    let p = prepared t (arranged-at t (c .before .before)) in
     let b = c .before .before .first-fault in
     back-length p (b .last .1 .1 .1 .0) (b .kept .1 .1 .1 .0)
 
 first-fault-returns-3 : (t : ℕ) → first-fault-lts.Need-returns-3 (first-fault-callees t) (first-fault-at t) first-fault.Post
 first-fault-returns-3 t c =
-    let s = c .before .before .before .before .before .before .before .before .before .before .before .before in
-    let p = prepared t (c .before .before .before .before .before .before .before .before) in
-    let q = c .before .before .before .before .before .first-in-place in
-    let b = c .before .before .first-fault in
-    fault-in-left p (λ i h. slot-width (s .args .image .now) (s .args .at) i) (s .pre .1 .3) (q .result) (q .ensures) (not-false (q .result) (c .before .before .before .before .if2 .left)) (b .result) (b .ensures) (c .if3 .taken)
+    let l = c .before .before in
+    let s = start-of t (arranged-at t l) in
+    let p = prepared t (arranged-at t l) in
+    let q = l .before .before .before .first-in-place in
+    let b = l .first-fault in
+    fault-in-left p (λ i h. slot-width (s .args .image .now) (s .args .at) i) (s .pre .1 .3) (q .result) (q .ensures) (not-false (q .result) (l .before .before .if2 .left)) (b .result) (b .ensures) (c .if3 .taken)
 
 first-fault-mul-first-fault : (t : ℕ) → first-fault-lts.Need-mul-first-fault (first-fault-callees t) (first-fault-at t) first-fault.Post
 first-fault-mul-first-fault t c = omega arith
 
 first-fault-sub-first-fault-2 : (t : ℕ) → first-fault-lts.Need-sub-first-fault-2 (first-fault-callees t) (first-fault-at t) first-fault.Post
 first-fault-sub-first-fault-2 t c =
-    let p = prepared t (c .before .before .before .before .before .before .before .before) in
+    let p = prepared t (arranged-at t (c .before .before)) in
     let b = c .before .before .first-fault in
     omega (arith, back-length p (b .last .1 .1 .1 .0) (b .kept .1 .1 .1 .0), p .some)
 
 first-fault-part-first-fault-start-2 : (t : ℕ) → first-fault-lts.Need-part-first-fault-start-2 (first-fault-callees t) (first-fault-at t) first-fault.Post
 first-fault-part-first-fault-start-2 t c =
-    let p = prepared t (c .before .before .before .before .before .before .before .before) in
+    let p = prepared t (arranged-at t (c .before .before)) in
     let b = c .before .before .first-fault in
     omega (arith, back-length p (b .last .1 .1 .1 .0) (b .kept .1 .1 .1 .0), p .some)
 
 first-fault-part-first-fault-end-2 : (t : ℕ) → first-fault-lts.Need-part-first-fault-end-2 (first-fault-callees t) (first-fault-at t) first-fault.Post
 first-fault-part-first-fault-end-2 t c =
-    let p = prepared t (c .before .before .before .before .before .before .before .before) in
+    let p = prepared t (arranged-at t (c .before .before)) in
     let b = c .before .before .first-fault in
     omega (arith, back-length p (b .last .1 .1 .1 .0) (b .kept .1 .1 .1 .0), p .some)
 
 first-fault-add-first-fault-2 : (t : ℕ) → first-fault-lts.Need-add-first-fault-2 (first-fault-callees t) (first-fault-at t) first-fault.Post
-first-fault-add-first-fault-2 t c = omega (arith, prepared t (c .before .before .before .before .before .before .before .before .before) .fits, prepared t (c .before .before .before .before .before .before .before .before .before) .some)
+first-fault-add-first-fault-2 t c = let p = prepared t (arranged-at t (c .before .before .before)) in omega (arith, p .fits, p .some)
 
 first-fault-first-fault-requires-2 : (t : ℕ) → first-fault-lts.Need-first-fault-requires-2 (first-fault-callees t) (first-fault-at t) first-fault.Post
 first-fault-first-fault-requires-2 t c κs =
-    let s = c .before .before .before .before .before .before .before .before .before .before .before .before .before in
-    let p = prepared t (c .before .before .before .before .before .before .before .before .before) in
-    let b = c .before .before .before .first-fault in
+    let l = c .before .before .before in
+    let s = start-of t (arranged-at t l) in
+    let p = prepared t (arranged-at t l) in
+    let b = l .first-fault in
     let n = right-lent-length p (b .last .1 .1 .1 .0) (b .kept .1 .1 .1 .0) in
     (omega (arith, s .pre .0, n, p .some), (s .pre .1 .0, omega (arith, n, p .some, p .fits), right-sound p (b .last .1 .1 .1 .0) (b .kept .1 .1 .1 .0), s .pre .1 .3))
 
 first-fault-same-length-3 : (t : ℕ) → first-fault-lts.Need-same-length-3 (first-fault-callees t) (first-fault-at t) first-fault.Post
 first-fault-same-length-3 t c =
-    let p = prepared t (c .before .before .before .before .before .before .before .before .before .before .before) in
-    let b = c .before .before .before .before .before .first-fault in
+    let l = c .before .before .before .before .before in
+    let p = prepared t (arranged-at t l) in
+    let b = l .first-fault in
     let d = c .before .first-fault2 in
     done-length p (b .last .1 .1 .1 .0) (b .kept .1 .1 .1 .0) (d .last .1 .1 .1 .0) (d .kept .1 .1 .1 .0)
 
 first-fault-returns-4 : (t : ℕ) → first-fault-lts.Need-returns-4 (first-fault-callees t) (first-fault-at t) first-fault.Post
 first-fault-returns-4 t c =
-    let s = c .before .before .before .before .before .before .before .before .before .before .before .before .before .before .before in
-    let p = prepared t (c .before .before .before .before .before .before .before .before .before .before .before) in
-    let q = c .before .before .before .before .before .before .before .before .first-in-place in
-    let b = c .before .before .before .before .before .first-fault in
+    let l = c .before .before .before .before .before in
+    let s = start-of t (arranged-at t l) in
+    let p = prepared t (arranged-at t l) in
+    let q = l .before .before .before .first-in-place in
+    let b = l .first-fault in
     let d = c .before .first-fault2 in
-    fault-in-right p (λ i h. slot-width (s .args .image .now) (s .args .at) i) (s .pre .1 .3) (q .result) (q .ensures) (not-false (q .result) (c .before .before .before .before .before .before .before .if2 .left)) (b .result) (b .ensures) (c .before .before .before .if3 .left)
+    fault-in-right p (λ i h. slot-width (s .args .image .now) (s .args .at) i) (s .pre .1 .3) (q .result) (q .ensures) (not-false (q .result) (l .before .before .if2 .left)) (b .result) (b .ensures) (c .before .before .before .if3 .left)
     (b .last .1 .1 .1 .0) (b .kept .1 .1 .1 .0) (d .result) (d .ensures)
 
 pub +first-fault-spec : {M : Type 1} → statement M

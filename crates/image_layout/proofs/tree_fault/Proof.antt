@@ -2,6 +2,7 @@
 use borrow.Author.Tests.{not-true, not-false}
 use native.Mathlib.Omega.{arith}
 use mathlib.Core.Path.{_≡_, sym, _∙_, ap, subst}
+use mathlib.Core.Bool.{true}
 use mathlib.Core.List.{List, map}
 use Prim.Native.Nat.{ℕ, _+_, _≤_}
 use lib.ListN.{length}
@@ -22,23 +23,30 @@ tags-apart-requires : tie.Need-tags-apart-requires
 tags-apart-requires c κs = let a = c .before .before .before .before .before .args in
     subst (All Fresh) (sym (c .before .before .enter-slots .ensures)) (entries-fresh (slotIn (a .image .now) (a .at)) (a .at .count))
 
+-- from where the tags are tested back to the start, and from where the layout is tested back to the tags
+abbrev start-of : tie.After-tags-apart → tie.Start
+start-of c = c .before .before .before .before .before .before
+
+abbrev tags-at : tie.After-first-fault → tie.After-tags-apart
+tags-at c = c .before .before .before .before
+
 -- the tags, as they were tested
-apart : (c : tie.After-tags-apart) → c .tags-apart .result ≡ distinct (map entryTag (slotEntries (slotIn (c .before .before .before .before .before .before .args .image .now) (c .before .before .before .before .before .before .args .at)) (c .before .before .before .before .before .before .args .at .count)))
+apart : (c : tie.After-tags-apart) → c .tags-apart .result ≡ distinct (map entryTag (slotEntries (slotIn (start-of c .args .image .now) (start-of c .args .at)) (start-of c .args .at .count)))
 apart c = c .tags-apart .ensures .0 ∙ ap (λ (es : List Entry). distinct (map entryTag es)) (c .before .before .before .enter-slots .ensures)
 
 returns : tie.Need-returns
 unfolding slotsAt
-returns c = let s = c .before .before .before .before .before .before .before .before in
+returns c = let b = c .before .before in
+    let s = start-of b in
     let a = s .args in
-    let b = c .before .before in
     tag-fault (slotIn (a .image .now) (a .at)) (a .at .count) (s .pre .1) (spaceOf (a .header .now)) (a .at .first) (b .tags-apart .result) (apart b) (not-true (b .tags-apart .result) (c .if1 .taken))
 
 first-fault-requires : tie.Need-first-fault-requires
-first-fault-requires c κs = let s = c .before .before .before .before .before .before .before .before .before in
+first-fault-requires c κs = let b = c .before .before .before in
+    let s = start-of b in
     let a = s .args in
     let slot : ℕ → Row = slotIn (a .image .now) (a .at) in
-    let e = c .before .before .before .before .before .before .enter-slots in
-    let b = c .before .before .before in
+    let e = b .before .before .before .enter-slots in
     let es : b .tags-apart .last .0 ≡ ordered (slotEntries slot (a .at .count)) = b .tags-apart .ensures .1 ∙ ap ordered (e .ensures) in (
       s .pre .0,
       subst (λ (l : List Entry). 0 + length l ≤ a .at .count) (sym es) (omega (arith, entries-length slot (a .at .count) (s .pre .1))),
@@ -46,38 +54,46 @@ first-fault-requires c κs = let s = c .before .before .before .before .before .
       bucket-determined slot (a .at .count) (s .pre .1) (spaceOf (a .header .now)) (a .at .first) (b .tags-apart .result) (apart b) (not-false (b .tags-apart .result) (c .before .if1 .left)),
     )
 
+-- no tag occurs twice
+tags-differ : (c : tie.After-first-fault) → tags-at c .tags-apart .result ≡ true
+tags-differ c = not-false (tags-at c .tags-apart .result) (c .before .before .if1 .left)
+
 -- the first slot that differs, as it was found
-found : (c : tie.After-first-fault) → c .first-fault .result ≡ partFault (slotIn (c .before .before .before .before .before .before .before .before .before .before .args .image .now) (c .before .before .before .before .before .before .before .before .before .before .args .at)) (distance (spaceOf (c .before .before .before .before .before .before .before .before .before .before .args .header .now))) 0 (ordered (slotEntries (slotIn (c .before .before .before .before .before .before .before .before .before .before .args .image .now) (c .before .before .before .before .before .before .before .before .before .before .args .at)) (c .before .before .before .before .before .before .before .before .before .before .args .at .count)))
+found : (c : tie.After-first-fault)
+    → let a = start-of (tags-at c) .args in
+    let slot = slotIn (a .image .now) (a .at) in
+    c .first-fault .result ≡ partFault slot (distance (spaceOf (a .header .now))) 0 (ordered (slotEntries slot (a .at .count)))
 found c =
-    let a = c .before .before .before .before .before .before .before .before .before .before .args in
-    c .first-fault .ensures ∙ ap (partFault (slotIn (a .image .now) (a .at)) (distance (spaceOf (a .header .now))) 0) (c .before .before .before .before .tags-apart .ensures .1 ∙ ap ordered (c .before .before .before .before .before .before .before .enter-slots .ensures))
+    let b = tags-at c in
+    let a = start-of b .args in
+    c .first-fault .ensures ∙ ap (partFault (slotIn (a .image .now) (a .at)) (distance (spaceOf (a .header .now))) 0) (b .tags-apart .ensures .1 ∙ ap ordered (b .before .before .before .enter-slots .ensures))
 
 add-slot : tie.Need-add-t15
 add-slot c =
-    let s = c .before .before .before .before .before .before .before .before .before .before .before .before .before .before in
-    let a = s .args in
-    let b = c .before .before .before .before .before .before .before .before in
     let f = c .before .before .before .before in
+    let b = tags-at f in
+    let s = start-of b in
+    let a = s .args in
     let most : f .first-fault .result ≤ a .at .count =
-    fault-within (slotIn (a .image .now) (a .at)) (a .at .count) (s .pre .1) (spaceOf (a .header .now)) (a .at .first) (b .tags-apart .result) (apart b) (not-false (b .tags-apart .result) (c .before .before .before .before .before .before .if1 .left)) (f .first-fault .result) (found f) in
+    fault-within (slotIn (a .image .now) (a .at)) (a .at .count) (s .pre .1) (spaceOf (a .header .now)) (a .at .first) (b .tags-apart .result) (apart b) (tags-differ f) (f .first-fault .result) (found f) in
     omega (arith, most, s .pre .0 .within, few-slots (s .pre .0))
 
 returns-2 : tie.Need-returns-2
 unfolding slotsAt
-returns-2 c = let s = c .before .before .before .before .before .before .before .before .before .before .before .before .before .before in
+returns-2 c = let f = c .before .before .before .before in
+    let b = tags-at f in
+    let s = start-of b in
     let a = s .args in
-    let b = c .before .before .before .before .before .before .before .before in
-    let f = c .before .before .before .before in
-    layout-fault (slotIn (a .image .now) (a .at)) (a .at .count) (s .pre .1) (spaceOf (a .header .now)) (a .at .first) (b .tags-apart .result) (apart b) (not-false (b .tags-apart .result) (c .before .before .before .before .before .before .if1 .left)) (f .first-fault .result) (found f)
+    layout-fault (slotIn (a .image .now) (a .at)) (a .at .count) (s .pre .1) (spaceOf (a .header .now)) (a .at .first) (b .tags-apart .result) (apart b) (tags-differ f) (f .first-fault .result) (found f)
     (c .before .if2 .taken)
 
 returns-3 : tie.Need-returns-3
 unfolding slotsAt noFault
-returns-3 c = let s = c .before .before .before .before .before .before .before .before .before .before .before .before .before in
+returns-3 c = let f = c .before .before .before in
+    let b = tags-at f in
+    let s = start-of b in
     let a = s .args in
-    let b = c .before .before .before .before .before .before .before in
-    let f = c .before .before .before in
-    layout-none (slotIn (a .image .now) (a .at)) (a .at .count) (s .pre .1) (spaceOf (a .header .now)) (a .at .first) (b .tags-apart .result) (apart b) (not-false (b .tags-apart .result) (c .before .before .before .before .before .if1 .left)) (f .first-fault .result) (found f)
+    layout-none (slotIn (a .image .now) (a .at)) (a .at .count) (s .pre .1) (spaceOf (a .header .now)) (a .at .first) (b .tags-apart .result) (apart b) (tags-differ f) (f .first-fault .result) (found f)
     (c .if2 .left)
 
 pub tree-fault-spec : {M : Type 1} → statement M

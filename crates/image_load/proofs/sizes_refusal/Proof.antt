@@ -2,6 +2,7 @@
 use Prim.Native.Nat.{ℕ, _+_, _≤_}
 use mathlib.Core.Path.{_≡_, refl, sym, ap, ap₂, _∙_}
 use mathlib.Core.Bool.{Bool, true}
+use mathlib.Core.List.{List}
 use native.Mathlib.Omega.{arith}
 use borrow.Author.Needs.{needs}
 use borrow.Author.Tests.{leb-true, le-leb, lt-leb, eq-eqb, ne-eqb, not-true, not-false}
@@ -18,70 +19,76 @@ use Rattle.image_load.specs.Steps.{sizesBy, sizesRefusal}
 use Rattle.image_load.proofs.sizes_refusal.Statement.{statement}
 use Rattle.image_load.proofs.sizes_refusal.Tie as tie
 
+-- from the test of the pairs back to the start, and from the length that is due back to that test
+abbrev start-of : tie.After-has-bytes → tie.Start
+start-of c = c .before .before .before .before .before
+
+abbrev pairs-at : tie.After-image-length → tie.After-has-bytes
+pairs-at c = c .before .before .before .before .before
+
+abbrev image-of : tie.After-has-bytes → List ℕ
+image-of c = start-of c .args .image .now
+
 -- the pairs, as they were tested
 module _ (c : tie.After-has-bytes) where
-  end-known : c .before .sizes-end .result ≡ sizesEnd (formIn (c .before .before .before .before .before .args .image .now)) (orderIn (c .before .before .before .before .before .args .image .now))
-  end-known = let p = c .before .before .before .before .before .pre .0 in c .before .sizes-end .ensures ∙ ap₂ sizesEnd (p .form) (p .order)
+  end-known : c .before .sizes-end .result ≡ sizesEnd (formIn (image-of c)) (orderIn (image-of c))
+  end-known = let p = start-of c .pre .0 in c .before .sizes-end .ensures ∙ ap₂ sizesEnd (p .form) (p .order)
 
-  pairs-tested : leb (sizesEnd (formIn (c .before .before .before .before .before .args .image .now)) (orderIn (c .before .before .before .before .before .args .image .now))) (length (c .before .before .before .before .before .args .image .now)) ≡ c .has-bytes .result
+  pairs-tested : leb (sizesEnd (formIn (image-of c)) (orderIn (image-of c))) (length (image-of c)) ≡ c .has-bytes .result
   pairs-tested =
-      let image = c .before .before .before .before .before .args .image .now in
+      let image = image-of c in
       let z : 0 + c .before .sizes-end .result ≡ sizesEnd (formIn image) (orderIn image) = omega (arith, end-known) in
       sym (c .has-bytes .ensures ∙ ap (λ (n : ℕ). leb n (length image)) z)
 
-pairs-known : (c : tie.Else1) → leb (sizesEnd (formIn (c .before .before .before .before .before .before .args .image .now)) (orderIn (c .before .before .before .before .before .before .args .image .now))) (length (c .before .before .before .before .before .before .args .image .now)) ≡ true
+pairs-known : (c : tie.Else1) → let image = image-of (c .before) in leb (sizesEnd (formIn image) (orderIn image)) (length image) ≡ true
 pairs-known c = pairs-tested (c .before) ∙ not-false (c .before .has-bytes .result) (c .if1 .left)
 
 -- the image has them
-has-sizes : (c : tie.Else1) (n : ℕ) → n ≡ orderIn (c .before .before .before .before .before .before .args .image .now) → HasSizes (c .before .before .before .before .before .before .args .image .now) (c .before .before .before .before .before .before .args .header .form) n
-has-sizes c n e = let s = c .before .before .before .before .before .before in record { formed = s .pre .0 .form; long = rw e (leb-true _ _ (pairs-known c)) }
+has-sizes : (c : tie.Else1) (n : ℕ) → n ≡ orderIn (image-of (c .before)) → HasSizes (image-of (c .before)) (start-of (c .before) .args .header .form) n
+has-sizes c n e = record { formed = start-of (c .before) .pre .0 .form; long = rw e (leb-true _ _ (pairs-known c)) }
 
 -- the sizes
-sizes-tested : (c : tie.After-sizes-pass)
-    → sizesPass (orderIn (c .before .before .before .before .before .before .before .args .image .now)) (builtIn (c .before .before .before .before .before .before .before .args .image .now)) (liveIn (c .before .before .before .before .before .before .before .args .image .now)) ≡ c .sizes-pass .result
+sizes-tested : (c : tie.After-sizes-pass) → let image = image-of (c .before .before) in sizesPass (orderIn image) (builtIn image) (liveIn image) ≡ c .sizes-pass .result
 sizes-tested c =
-    let s = c .before .before .before .before .before .before .before in
-    let image = s .args .image .now in
-    sym (c .sizes-pass .ensures ∙ ap (λ (t : ℕ). sizesPass t (builtIn image) (liveIn image)) (s .pre .0 .order))
+    let image = image-of (c .before .before) in
+    sym (c .sizes-pass .ensures ∙ ap (λ (t : ℕ). sizesPass t (builtIn image) (liveIn image)) (start-of (c .before .before) .pre .0 .order))
 
-sizes-known : (c : tie.Else2)
-    → sizesPass (orderIn (c .before .before .before .before .before .before .before .before .args .image .now)) (builtIn (c .before .before .before .before .before .before .before .before .args .image .now)) (liveIn (c .before .before .before .before .before .before .before .before .args .image .now)) ≡ true
+sizes-known : (c : tie.Else2) → let image = image-of (c .before .before .before) in sizesPass (orderIn image) (builtIn image) (liveIn image) ≡ true
 sizes-known c = sizes-tested (c .before) ∙ not-false (c .before .sizes-pass .result) (c .if2 .left)
 
 -- the whole length
-length-known : (c : tie.After-image-length)
-    → c .image-length .result ≡ imageLength (formIn (c .before .before .before .before .before .before .before .before .before .before .args .image .now)) (orderIn (c .before .before .before .before .before .before .before .before .before .before .args .image .now)) (slotsIn (c .before .before .before .before .before .before .before .before .before .before .args .image .now))
+length-known : (c : tie.After-image-length) → let image = image-of (pairs-at c) in c .image-length .result ≡ imageLength (formIn image) (orderIn image) (slotsIn image)
 length-known c =
-    let p = c .before .before .before .before .before .before .before .before .before .before .pre .0 in
+    let p = start-of (pairs-at c) .pre .0 in
     let slots = c .before .slots-in in
     c .image-length .ensures ∙ ap₂ (λ (f o : ℕ). imageLength f o (slots .result)) (p .form) (p .order) ∙ ap (imageLength _ _) (slots .ensures)
 
 -- the rows
-rows-known : (c : tie.After-table-rows) → c .table-rows .result ≡ tableRows (orderIn (c .before .before .before .before .before .before .before .before .before .before .before .before .args .image .now))
-rows-known c = c .table-rows .ensures ∙ ap tableRows (c .before .before .before .before .before .before .before .before .before .before .before .before .pre .0 .order)
+rows-known : (c : tie.After-table-rows) → c .table-rows .result ≡ tableRows (orderIn (image-of (pairs-at (c .before .before))))
+rows-known c = c .table-rows .ensures ∙ ap tableRows (start-of (pairs-at (c .before .before)) .pre .0 .order)
 
 returns : tie.Need-returns
 unfolding sizesRefusal sizesBy
 returns c = rw (pairs-tested (c .before) ∙ not-true (c .before .has-bytes .result) (c .if1 .taken)) refl
 
 sizes-pass-requires : tie.Need-sizes-pass-requires
-sizes-pass-requires c κs = let s = c .before .before .before .before .before .before in (omega (arith, s .pre .1, s .pre .0 .order), has-sizes c _ (s .pre .0 .order))
+sizes-pass-requires c κs = let s = start-of (c .before) in (omega (arith, s .pre .1, s .pre .0 .order), has-sizes c _ (s .pre .0 .order))
 
 returns-2 : tie.Need-returns-2
 unfolding sizesRefusal sizesBy
 returns-2 c = rw (pairs-known (c .before .before), sizes-tested (c .before) ∙ not-true (c .before .sizes-pass .result) (c .if2 .taken)) refl
 
 slots-in-requires : tie.Need-slots-in-requires
-slots-in-requires c κs = let s = c .before .before .before .before .before .before .before .before in (s .pre .0, s .pre .1, has-sizes (c .before .before) _ refl)
+slots-in-requires c κs = let s = start-of (c .before .before .before) in (s .pre .0, s .pre .1, has-sizes (c .before .before) _ refl)
 
 image-length-requires : tie.Need-image-length-requires
 image-length-requires c κs =
-    let s = c .before .before .before .before .before .before .before .before .before in omega (arith, c .slots-in .ensures, slots-few (s .args .image .now) (s .pre .1) (sizes-known (c .before)))
+    let s = start-of (c .before .before .before .before) in omega (arith, c .slots-in .ensures, slots-few (s .args .image .now) (s .pre .1) (sizes-known (c .before)))
 
 returns-3 : tie.Need-returns-3
 unfolding sizesRefusal sizesBy
 returns-3 c =
-    let image = c .before .before .before .before .before .before .before .before .before .before .before .args .image .now in
+    let image = image-of (pairs-at (c .before)) in
     rw (
       pairs-known (c .before .before .before .before .before),
       sizes-known (c .before .before .before),
@@ -90,19 +97,18 @@ returns-3 c =
     refl
 
 table-rows-requires : tie.Need-table-rows-requires
-table-rows-requires c κs = let s = c .before .before .before .before .before .before .before .before .before .before .before in omega (arith, s .pre .1, s .pre .0 .order)
+table-rows-requires c κs = let s = start-of (pairs-at (c .before)) in omega (arith, s .pre .1, s .pre .0 .order)
 
 -- the length is right
-long-known : (c : tie.Else3)
-    → eqb (length (c .before .before .before .before .before .before .before .before .before .before .before .args .image .now)) (imageLength (formIn (c .before .before .before .before .before .before .before .before .before .before .before .args .image .now)) (orderIn (c .before .before .before .before .before .before .before .before .before .before .before .args .image .now)) (slotsIn (c .before .before .before .before .before .before .before .before .before .before .before .args .image .now))) ≡ true
+long-known : (c : tie.Else3) → let image = image-of (pairs-at (c .before)) in eqb (length image) (imageLength (formIn image) (orderIn image) (slotsIn image)) ≡ true
 long-known c =
-    let image = c .before .before .before .before .before .before .before .before .before .before .before .args .image .now in
+    let image = image-of (pairs-at (c .before)) in
     eq-eqb (length image) (imageLength (formIn image) (orderIn image) (slotsIn image)) (omega (arith, length-known (c .before), c .if3 .left))
 
 returns-4 : tie.Need-returns-4
 unfolding sizesRefusal sizesBy
 returns-4 c =
-    let s = c .before .before .before .before .before .before .before .before .before .before .before .before .before in
+    let s = start-of (pairs-at (c .before .before .before)) in
     rw (
       pairs-known (c .before .before .before .before .before .before .before),
       sizes-known (c .before .before .before .before .before),
@@ -114,7 +120,7 @@ returns-4 c =
 returns-5 : tie.Need-returns-5
 unfolding sizesRefusal sizesBy
 returns-5 c =
-    let s = c .before .before .before .before .before .before .before .before .before .before .before .before .before in
+    let s = start-of (pairs-at (c .before .before .before)) in
     rw (
       pairs-known (c .before .before .before .before .before .before .before),
       sizes-known (c .before .before .before .before .before),

@@ -47,18 +47,25 @@ module _ (s : tie.Start Inv-loop μ-loop) (k : ℕ) (h : k < s .args .header .or
   inside : slotsBefore (s .args .image .now) k + builtIn (s .args .image .now) k ≤ slotsIn (s .args .image .now)
   inside = bucket-inside (s .args .image .now) k within
 
+-- from where a bucket's slots are in hand back to the loop, and from the loop to the start
+abbrev loop-at : tie.After-some-of Inv-loop μ-loop → tie.At-loop Inv-loop μ-loop
+loop-at c = c .before .before .before
+
+abbrev start-of : tie.At-loop Inv-loop μ-loop → tie.Start Inv-loop μ-loop
+start-of c = c .before .before .before .before
+
 -- the slots in hand are the bucket's
 module _ (c : tie.After-some-of Inv-loop μ-loop) where
-  here-first : c .some-of .result .first ≡ slotsBefore (c .before .before .before .before .before .before .before .args .image .now) (c .before .before .before .loop .k)
-  here-first = ap (λ (at : Slots). at .first) (c .some-of .ensures) ∙ c .before .before .before .loop .inv .2
+  here-first : c .some-of .result .first ≡ slotsBefore (start-of (loop-at c) .args .image .now) (loop-at c .loop .k)
+  here-first = ap (λ (at : Slots). at .first) (c .some-of .ensures) ∙ loop-at c .loop .inv .2
 
-  here-count : c .some-of .result .count ≡ builtIn (c .before .before .before .before .before .before .before .args .image .now) (c .before .before .before .loop .k)
+  here-count : c .some-of .result .count ≡ builtIn (start-of (loop-at c) .args .image .now) (loop-at c .loop .k)
   here-count = ap (λ (at : Slots). at .count) (c .some-of .ensures) ∙ c .before .built-in .ensures
 
-  room : c .before .built-in .result ≤ length (c .before .before .before .loop .entries)
+  room : c .before .built-in .result ≤ length (loop-at c .loop .entries)
   room =
-      let s = c .before .before .before .before .before .before .before in
-      let l = c .before .before .before .loop in
+      let s = start-of (loop-at c) in
+      let l = loop-at c .loop in
       omega (arith, l .inv .1, s .pre .2, c .before .built-in .ensures, few s (l .k) (omega arith))
 
 add-buckets : tie.Need-add-buckets Inv-loop μ-loop
@@ -79,8 +86,8 @@ slice-aggregate-tree-fault c = sym (length-take-le _ _ (room (c .before)))
 
 tree-fault-requires : tie.Need-tree-fault-requires Inv-loop μ-loop
 tree-fault-requires c κs =
-    let s = c .before .before .before .before .before .before .before .before in
-    let l = c .before .before .before .before .loop in
+    let s = start-of (loop-at (c .before)) in
+    let l = loop-at (c .before) .loop in
     let image = s .args .image .now in
     let some = c .before .some-of in
     let built = c .before .before .built-in in
@@ -90,23 +97,28 @@ tree-fault-requires c κs =
     (omega (arith, here-count (c .before), few s (l .k) (omega arith))) (l .entries) (built .result) (built .ensures ∙ sym (here-count (c .before))) (room (c .before)) (s .pre .3)
 
 -- the bucket's test as it was made
-tested : (c : tie.After-tree-fault Inv-loop μ-loop) → faults (c .before .before .before .before .before .before .before .before .before .args .image .now) (c .before .before .before .before .before .before .before .before .before .args .row .now) (getD (bucketsOf (orderIn (c .before .before .before .before .before .before .before .before .before .args .image .now))) (c .before .before .before .before .before .loop .k) 0) ≡ c .tree-fault .result
+tested : (c : tie.After-tree-fault Inv-loop μ-loop)
+    → let l = loop-at (c .before .before) in
+    let image = start-of l .args .image .now in
+    faults image (start-of l .args .row .now) (getD (bucketsOf (orderIn image)) (l .loop .k) 0) ≡ c .tree-fault .result
 tested c =
-    let s = c .before .before .before .before .before .before .before .before .before in
-    let l = c .before .before .before .before .before .loop in
     let d = c .before .before in
+    let s = start-of (loop-at d) in
+    let l = loop-at d .loop in
     bucket-tests (s .args .image .now) (d .some-of .result) (l .k) (within s (l .k) (omega arith)) (here-first d) (here-count d) (spaceOf (s .args .row .now)) (c .tree-fault .result) (c .tree-fault .ensures)
 
 same-length : tie.Need-same-length Inv-loop μ-loop
 same-length c =
-    let l = c .before .before .before .before .before .before .before .before .loop in
+    let e = c .before .before .before .before .before in
+    let l = loop-at e .loop in
     let d = c .before .before .before .tree-fault in
-    length-front (l .entries) (d .last .1 .1 .1 .0) (c .before .before .before .before .before .before .built-in .result) (d .kept .1 .1 .1 .0) ∙ l .inv .1
+    length-front (l .entries) (d .last .1 .1 .1 .0) (e .before .built-in .result) (d .kept .1 .1 .1 .0) ∙ l .inv .1
 
 returns : tie.Need-returns Inv-loop μ-loop
 returns c =
-    let s = c .before .before .before .before .before .before .before .before .before .before .before .before in
-    let l = c .before .before .before .before .before .before .before .before .loop in
+    let e = c .before .before .before .before .before in
+    let s = start-of (loop-at e) in
+    let l = loop-at e .loop in
     let d = c .before .before .before in
     let image = s .args .image .now in
     sym (tested d)
@@ -115,18 +127,20 @@ returns c =
 
 add-first : tie.Need-add-first Inv-loop μ-loop
 add-first c =
-    let s = c .before .before .before .before .before .before .before .before .before .before .before .before in
-    let l = c .before .before .before .before .before .before .before .before .loop in
-    omega (arith, l .inv .2, c .before .before .before .before .before .before .built-in .ensures, inside s (l .k) (omega arith), few-slots (s .pre .1))
+    let e = c .before .before .before .before .before in
+    let s = start-of (loop-at e) in
+    let l = loop-at e .loop in
+    omega (arith, l .inv .2, e .before .built-in .ensures, inside s (l .k) (omega arith), few-slots (s .pre .1))
 
 add-k : tie.Need-add-k Inv-loop μ-loop
-add-k c = let w = c .before .before .before .before .before .before .before .before .before .before .before .before .pre .0 in omega (arith, w .headed .order, w .order)
+add-k c = let w = start-of (loop-at (c .before .before .before .before .before)) .pre .0 in omega (arith, w .headed .order, w .order)
 
 loop-again : tie.Need-loop-again Inv-loop μ-loop
 loop-again c =
-    let s = c .before .before .before .before .before .before .before .before .before .before .before .before in
-    let l = c .before .before .before .before .before .before .before .before .loop in
-    let b = c .before .before .before .before .before .before .built-in in
+    let e = c .before .before .before .before .before in
+    let s = start-of (loop-at e) in
+    let l = loop-at e .loop in
+    let b = e .before .built-in in
     let d = c .before .before .before in
     let t = d .tree-fault in
     let image = s .args .image .now in (

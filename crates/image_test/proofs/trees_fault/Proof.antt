@@ -35,10 +35,14 @@ live-apart-requires c κs =
     let b = c .before .before .before .before .each-tree-fault in
     all-asks (s .args .image .now) (w .order) (w .sizes) (s .pre .4) (s .args .all) (s .pre .1) (s .pre .2) (s .pre .3) (b .last .1 .1 .1 .1 .0) (b .kept .1 .1 .1 .1 .0)
 
+-- from the test of the live tags back to the start
+abbrev start-of : tie.After-live-apart → tie.Start
+start-of c = c .before .before .before .before .before .before .before .before
+
 -- what is left, as it was tested
-left : (c : tie.After-live-apart) → treesFault (spaceOf (c .before .before .before .before .before .before .before .before .args .row .now)) (c .before .before .before .before .before .before .before .before .args .image .now) ≡ faultUnless (c .live-apart .result) 0
+left : (c : tie.After-live-apart) → treesFault (spaceOf (start-of c .args .row .now)) (start-of c .args .image .now) ≡ faultUnless (c .live-apart .result) 0
 left c =
-    let s = c .before .before .before .before .before .before .before .before in
+    let s = start-of c in
     let b = c .before .before .before .before .before .each-tree-fault in
     trees-left (spaceOf (s .args .row .now)) (s .args .image .now) (s .args .all) (b .result) (b .ensures) (c .before .before .if1 .left) (s .pre .2) (s .pre .3) (c .live-apart .result) (c .live-apart .ensures)
 

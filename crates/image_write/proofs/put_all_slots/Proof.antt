@@ -24,6 +24,10 @@ abbrev μ-loop : tie.MeasureT-loop
 wide : (c : tie.After-record-bytes Inv-loop μ-loop) → c .record-bytes .result ≡ recordBytes writtenForm
 wide c = c .record-bytes .ensures ∙ ap recordBytes (c .before .written .ensures)
 
+-- from where a bucket's slots are stored back to where they are in hand
+abbrev slots-at : tie.After-slice-known3 Inv-loop μ-loop → tie.After-slots-of Inv-loop μ-loop
+slots-at c = c .before .before .before .before .before .before .before .before
+
 -- where the slots of bucket k go
 here : (c : tie.After-slots-of Inv-loop μ-loop)
     → (c .before .before .loop .tag-at + length (tagsOf (c .slots-of .result .now)) ≤ c .before .before .loop .record-at)
@@ -41,7 +45,7 @@ room c =
 
 loop-again : tie.Need-loop-again Inv-loop μ-loop
 loop-again c =
-    let d = c .before .before .before .before .before .before .before .before in
+    let d = slots-at c in
     let l = d .before .before .loop in
     let p = d .before .before .before .before .before .before .pre in
     let tags = c .before .before .before .before .before .before .put-tags in
@@ -61,11 +65,11 @@ put-all-slots-spec =
     (λ c κs. let p = c .before .before .before .before .before .pre in slots-asked (p .1) _ _ (p .0) (omega arith))
     (λ c κs. omega (arith, here (c .before)))
     (λ c κs. omega (arith, here (c .before .before .before .before .before) .1, c .before .before .before .put-tags .kept .0))
-    (λ c. omega (arith, room (c .before .before .before .before .before .before .before .before)))
-    (λ c. omega (arith, room (c .before .before .before .before .before .before .before .before)))
-    (λ c. omega (arith, room (c .before .before .before .before .before .before .before .before)))
-    (λ c. omega (arith, room (c .before .before .before .before .before .before .before .before)))
-    (λ c. let p = c .before .before .before .before .before .before .before .before .before .before .before .before .before .before .pre in omega (arith, p .1 .framed .order, p .0))
+    (λ c. omega (arith, room (slots-at c)))
+    (λ c. omega (arith, room (slots-at c)))
+    (λ c. omega (arith, room (slots-at c)))
+    (λ c. omega (arith, room (slots-at c)))
+    (λ c. let p = slots-at c .before .before .before .before .before .before .pre in omega (arith, p .1 .framed .order, p .0))
     (λ c. omega arith)
     loop-again
     (λ c. c .before .loop .inv .same)

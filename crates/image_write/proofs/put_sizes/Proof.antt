@@ -37,22 +37,29 @@ loop-holds c = (omega arith, refl, refl)
 built-of-requires : tie.Need-built-of-requires Inv-loop μ-loop
 built-of-requires c κs = let p = c .before .before .before .before .pre in sizes-in (p .0) (p .1) (omega arith)
 
+-- from where a pair's place is known back to the loop, and from the loop to the start
+abbrev loop-at : tie.After-sizes-at Inv-loop μ-loop → tie.At-loop Inv-loop μ-loop
+loop-at c = c .before .before .before .before
+
+abbrev start-of : tie.At-loop Inv-loop μ-loop → tie.Start Inv-loop μ-loop
+start-of c = c .before .before .before
+
 -- the place of the pair of bucket k
-place : (c : tie.After-sizes-at Inv-loop μ-loop) → c .sizes-at .result ≡ headerBytes writtenForm + 4 * c .before .before .before .before .loop .k
+place : (c : tie.After-sizes-at Inv-loop μ-loop) → c .sizes-at .result ≡ headerBytes writtenForm + 4 * loop-at c .loop .k
 unfolding pairBytes sizeBytes
 place c =
-    c .sizes-at .ensures ∙ ap (λ (form : ℕ). headerBytes form + 4 * c .before .before .before .before .loop .k) (c .before .before .before .before .before .written .ensures)
+    c .sizes-at .ensures ∙ ap (λ (form : ℕ). headerBytes form + 4 * loop-at c .loop .k) (loop-at c .before .written .ensures)
 
 live-of-requires : tie.Need-live-of-requires Inv-loop μ-loop
-live-of-requires c κs = let p = c .before .before .before .before .before .before .before .pre in sizes-in (p .0) (p .1) (omega arith)
+live-of-requires c κs = let p = start-of (loop-at c) .pre in sizes-in (p .0) (p .1) (omega arith)
 
 put-pair-requires : tie.Need-put-pair-requires Inv-loop μ-loop
 unfolding sizesEnd pairBytes sizeBytes
-put-pair-requires c κs = omega (arith, c .before .before .before .before .before .before .before .before .pre .2, c .before .before .before .before .before .loop .inv, place (c .before))
+put-pair-requires c κs = omega (arith, start-of (loop-at (c .before)) .pre .2, loop-at (c .before) .loop .inv, place (c .before))
 
 add-k : tie.Need-add-k Inv-loop μ-loop
 add-k c =
-    let p = c .before .before .before .before .before .before .before .before .before .before .before .pre in
+    let p = start-of (loop-at (c .before .before .before .before)) .pre in
     omega (arith, p .1 .framed .order, p .0)
 
 loop-less : tie.Need-loop-less Inv-loop μ-loop
@@ -61,8 +68,8 @@ loop-less c = omega arith
 loop-again : tie.Need-loop-again Inv-loop μ-loop
 unfolding pair sizeBytes
 loop-again c =
-    let a = c .before .before .before .before .before .before .before .before .before .before .before .args in
-    let l = c .before .before .before .before .before .before .before .before .loop in
+    let a = start-of (loop-at (c .before .before .before .before)) .args in
+    let l = loop-at (c .before .before .before .before) .loop in
     let t = a .table .now in
     let stored = c .before .before .put-pair in (
       omega arith,

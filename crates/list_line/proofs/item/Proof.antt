@@ -23,27 +23,36 @@ returns c =
 returns-2 : tie.Need-returns-2
 unfolding numberIn
 returns-2 c =
-    let parts = first-part _ _ (c .before .before .before .before .before .before .before .before .before .part-end .result) (c .before .before .before .before .before .before .before .before .before .part-end .ensures) in
-    let tag = a-number _ _ (c .before .before .before .before .before .before .before .number .ensures) (c .before .before .before .before .before .tag .given .1) in
-    not-of-the-form _ (c .malformed2 .ensures) (measures-wrong _ parts (tag .0) (sym (c .before .before .before .measures .ensures .found) ∙ not-true _ (c .before .if1 .taken)))
+    let m = c .before .before .before in
+    let t = m .before .before in
+    let p = t .before .before .before .before .part-end in
+    let parts = first-part _ _ (p .result) (p .ensures) in
+    let tag = a-number _ _ (t .before .before .number .ensures) (t .tag .given .1) in
+    not-of-the-form _ (c .malformed2 .ensures) (measures-wrong _ parts (tag .0) (sym (m .measures .ensures .found) ∙ not-true _ (c .before .if1 .taken)))
 
 returns-3 : tie.Need-returns-3
 unfolding numberIn
 returns-3 c =
-    let parts = first-part _ _ (c .before .before .before .before .before .before .before .before .before .before .before .part-end .result) (c .before .before .before .before .before .before .before .before .before .before .before .part-end .ensures) in
-    let tag = a-number _ _ (c .before .before .before .before .before .before .before .before .before .number .ensures) (c .before .before .before .before .before .before .before .tag .given .1) in
-    let four = sym (c .before .before .before .before .before .measures .ensures .found) ∙ not-false _ (c .before .before .before .if1 .left) in
-    let more = some-behind _ _ (c .before .before .before .before .before .measures .result .end) (c .before .if2 .taken) in
-    not-of-the-form _ (c .malformed3 .ensures) (too-many _ parts (tag .0) four (left-over (c .before .before .before .before .before .measures .ensures) four) more)
+    let m = c .before .before .before .before .before in
+    let t = m .before .before in
+    let p = t .before .before .before .before .part-end in
+    let parts = first-part _ _ (p .result) (p .ensures) in
+    let tag = a-number _ _ (t .before .before .number .ensures) (t .tag .given .1) in
+    let four = sym (m .measures .ensures .found) ∙ not-false _ (c .before .before .before .if1 .left) in
+    let more = some-behind _ _ (m .measures .result .end) (c .before .if2 .taken) in
+    not-of-the-form _ (c .malformed3 .ensures) (too-many _ parts (tag .0) four (left-over (m .measures .ensures) four) more)
 
 returns-4 : tie.Need-returns-4
 unfolding numberIn
 returns-4 c =
-    let parts = first-part _ _ (c .before .before .before .before .before .before .before .before .before .before .before .part-end .result) (c .before .before .before .before .before .before .before .before .before .before .before .part-end .ensures) in
-    let tag = a-number _ _ (c .before .before .before .before .before .before .before .before .before .number .ensures) (c .before .before .before .before .before .before .before .tag .given .1) in
-    let four = sym (c .before .before .before .before .before .measures .ensures .found) ∙ not-false _ (c .before .before .before .if1 .left) in
-    let none = none-behind _ _ (c .before .before .before .before .before .measures .result .end) (c .before .if2 .left) in
-    of-the-form _ parts (just-four _ parts (tag .0) four (left-over (c .before .before .before .before .before .measures .ensures) four) (ap length none)) (tag .1) (c .before .before .before .before .before .measures .ensures .values four)
+    let m = c .before .before .before .before .before in
+    let t = m .before .before in
+    let p = t .before .before .before .before .part-end in
+    let parts = first-part _ _ (p .result) (p .ensures) in
+    let tag = a-number _ _ (t .before .before .number .ensures) (t .tag .given .1) in
+    let four = sym (m .measures .ensures .found) ∙ not-false _ (c .before .before .before .if1 .left) in
+    let none = none-behind _ _ (m .measures .result .end) (c .before .if2 .left) in
+    of-the-form _ parts (just-four _ parts (tag .0) four (left-over (m .measures .ensures) four) (ap length none)) (tag .1) (m .measures .ensures .values four)
 
 pub item-spec : {M : Type 1} → statement M
 item-spec =

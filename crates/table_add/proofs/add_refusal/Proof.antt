@@ -35,6 +35,13 @@ good-tag c = sym (c .before .valid-tag .ensures) ∙ not-false (c .before .valid
 good-measures : (c : tie.Else3) → validMeasures (c .before .before .before .before .before .before .args .profile) ≡ true
 good-measures c = sym (c .before .valid-measures .ensures) ∙ not-false (c .before .valid-measures .result) (c .if3 .left)
 
+-- from where the last test's numbers are known back to where the item's own tests have passed, and to the start
+abbrev valid-at : tie.After-live-total → tie.Else3
+valid-at c = c .before .before .before .before
+
+abbrev start-of : tie.After-live-total → tie.Start
+start-of c = valid-at c .before .before .before .before .before .before
+
 returns : tie.Need-returns
 returns c =
     let a = c .before .before .args in
@@ -73,38 +80,35 @@ live-total-requires c κs =
 -- the last test compares the definition's numbers
 full-known :
     (c : tie.After-live-total)
-    → let t = c .before .before .before .before .before .before .before .before .before .before .args .table .now in
+    → let t = start-of c .args .table .now in
     leb (room (orderOf t)) (liveTotal t) ≡ leb (c .before .work-rows .result) (c .live-total .result)
 full-known c =
     let o = c .before .before .order-in in
-    full-test (c .before .before .before .before .before .before .before .before .before .before .args .table .now) (o .result .t) (c .before .work-rows .result)
+    full-test (start-of c .args .table .now) (o .result .t) (c .before .work-rows .result)
     (c .live-total .result) (o .ensures) (c .before .work-rows .ensures) (c .live-total .ensures)
 
 returns-4 : tie.Need-returns-4
 returns-4 c =
-    let a = c .before .before .before .before .before .before .before .before .before .before .before .args in
-    refused-live (a .table .now) (a .work .now) (a .tag) (a .profile) (past-first (c .before .before .before .before .before .before .before .before .before))
-    (good-tag (c .before .before .before .before .before .before .before)) (good-measures (c .before .before .before .before .before))
+    let a = start-of (c .before) .args in
+    let v = valid-at (c .before) in
+    refused-live (a .table .now) (a .work .now) (a .tag) (a .profile) (past-first (v .before .before .before .before)) (good-tag (v .before .before)) (good-measures v)
     (sym (c .before .before .before .before .is-live-tag .ensures) ∙ c .if4 .taken)
 
-new : (c : tie.Else4)
-    → isLiveTag (c .before .before .before .before .before .before .before .before .before .before .before .args .table .now)
-    (c .before .before .before .before .before .before .before .before .before .before .before .args .tag)
-    ≡ false
+new : (c : tie.Else4) → isLiveTag (start-of (c .before) .args .table .now) (start-of (c .before) .args .tag) ≡ false
 new c = sym (c .before .before .before .before .is-live-tag .ensures) ∙ c .if4 .left
 
 returns-5 : tie.Need-returns-5
 returns-5 c =
-    let at = c .before .before .before .before .before .before .before in
-    let a = at .before .before .before .before .before .args in
-    refused-full (a .table .now) (a .work .now) (a .tag) (a .profile) (past-first (at .before .before .before)) (good-tag (at .before)) (good-measures (c .before .before .before .before .before .before)) (new (c .before))
+    let a = start-of (c .before .before) .args in
+    let v = valid-at (c .before .before) in
+    refused-full (a .table .now) (a .work .now) (a .tag) (a .profile) (past-first (v .before .before .before .before)) (good-tag (v .before .before)) (good-measures v) (new (c .before))
     (full-known (c .before .before) ∙ c .if5 .taken)
 
 returns-6 : tie.Need-returns-6
 returns-6 c =
-    let at = c .before .before .before .before .before .before .before in
-    let a = at .before .before .before .before .before .args in
-    not-refused (a .table .now) (a .work .now) (a .tag) (a .profile) (past-first (at .before .before .before)) (good-tag (at .before)) (good-measures (c .before .before .before .before .before .before)) (new (c .before))
+    let a = start-of (c .before .before) .args in
+    let v = valid-at (c .before .before) in
+    not-refused (a .table .now) (a .work .now) (a .tag) (a .profile) (past-first (v .before .before .before .before)) (good-tag (v .before .before)) (good-measures v) (new (c .before))
     (full-known (c .before .before) ∙ c .if5 .left)
 
 pub add-refusal-spec : {M : Type 1} → statement M

@@ -44,9 +44,20 @@ returns-3 c =
     let stop = refused-none (a .table .now) (a .result .now) (a .query) (a .k) passes valid (c .before .if3 .taken) in
     (c .refused3 .ensures ∙ stop .0, stop .1)
 
--- past the tests the table passes
-passed : (c : tie.Else3) → Passed (c .before .before .before .before .before .args .table .now)
-passed c = read-passed _ (sym (c .before .before .before .before .read-refusal .ensures) ∙ c .before .before .before .if1 .left)
+-- from the last test of the call's numbers back to the start
+abbrev start-of : tie.Else3 → tie.Start
+start-of c = c .before .before .before .before .before
+
+-- the tests that are passed, as equations
+passes : (c : tie.Else3) → readRefusal (start-of c .args .table .now) ≡ 0
+passes c = sym (c .before .before .before .before .read-refusal .ensures) ∙ c .before .before .before .if1 .left
+
+valid : (c : tie.Else3) → validMeasures (start-of c .args .query) ≡ true
+valid c = sym (c .before .before .valid-measures .ensures) ∙ not-false _ (c .before .if2 .left)
+
+-- so the table passes
+passed : (c : tie.Else3) → Passed (start-of c .args .table .now)
+passed c = read-passed _ (passes c)
 
 some-rows : {t : Table} → Passed t → 0 < length t
 unfolding tableRows firstSlot
@@ -58,13 +69,6 @@ order-in-requires c κs = some-rows (passed c)
 reply-fits-requires : tie.Need-reply-fits-requires
 reply-fits-requires c κs = let order = c .before .before .before in (order .order-in .ensures, passed (order .before))
 
--- the tests that are passed, as equations
-passes : (c : tie.Else3) → readRefusal (c .before .before .before .before .before .args .table .now) ≡ 0
-passes c = sym (c .before .before .before .before .read-refusal .ensures) ∙ c .before .before .before .if1 .left
-
-valid : (c : tie.Else3) → validMeasures (c .before .before .before .before .before .args .query) ≡ true
-valid c = sym (c .before .before .valid-measures .ensures) ∙ not-false _ (c .before .if2 .left)
-
 returns-4 : tie.Need-returns-4
 unfolding rowAt headerRow
 returns-4 c =
@@ -72,7 +76,7 @@ returns-4 c =
     let asked = test .before .before .before in
     let order = asked .before .before in
     let e = order .before in
-    let a = e .before .before .before .before .before .args in
+    let a = start-of e .args in
     let more = leb-false (min (kAsked (asked .asked-of .result)) (reportedBelow (reportsAsked (asked .asked-of .result)) (a .table .now) (suc (order .order-in .result .t)))) (length (a .result .now))
     (sym (test .before .reply-fits .ensures) ∙ not-true _ (test .if4 .taken)) in
     let stop = refused-short (a .table .now) (a .result .now) (a .query) (a .k) (passes e) (valid e) (e .if3 .left) (order .order-in .result .t) (order .order-in .ensures) (asked .asked-of .result) (asked .asked-of .ensures) more in
@@ -81,12 +85,12 @@ returns-4 c =
 -- past the last test the area has room for what will be kept
 fits : (c : tie.Else4) → (let asked = c .before .before .before in
     let order = asked .before .before in
-    let a = order .before .before .before .before .before .before .args in
+    let a = start-of (order .before) .args in
     min (kAsked (asked .asked-of .result)) (reportedBelow (reportsAsked (asked .asked-of .result)) (a .table .now) (suc (order .order-in .result .t))) ≤ length (a .result .now))
 fits c =
     let asked = c .before .before .before in
     let order = asked .before .before in
-    let a = order .before .before .before .before .before .before .args in
+    let a = start-of (order .before) .args in
     leb-true (min (kAsked (asked .asked-of .result)) (reportedBelow (reportsAsked (asked .asked-of .result)) (a .table .now) (suc (order .order-in .result .t)))) (length (a .result .now))
     (sym (c .before .reply-fits .ensures) ∙ not-false _ (c .if4 .left))
 
@@ -96,7 +100,7 @@ nearest-buckets-requires c κs =
     let asked = test .before .before .before in
     let order = asked .before .before in
     let e = order .before in
-    let a = e .before .before .before .before .before .args in
+    let a = start-of e .args in
     let number : kAsked (asked .asked-of .result) ≡ a .k = ap kAsked (asked .asked-of .ensures) ∙ threshold-of-row 0 (a .query) (a .k) 0 in
     (order .order-in .ensures, passed e, omega (arith, number, e .if3 .left), fits test)
 
@@ -115,7 +119,7 @@ module _ (c : tie.After-nearest-buckets) where
   e = order .before
 
   abbrev s : tie.Start
-  s = e .before .before .before .before .before
+  s = start-of e
 
   same : length (c .nearest-buckets .last .1 .1 .0) ≡ length (s .args .result .now)
   same = c .nearest-buckets .kept .1 .1 .0

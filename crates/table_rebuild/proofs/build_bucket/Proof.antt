@@ -29,7 +29,10 @@ unfolding workRows
 few c =
     (le-trans (c .pre .2) (rooms-grow (c .pre .1)), le-trans (c .pre .2) (room-most (c .args .k) (le-trans (c .pre .1) (c .pre .0 .most))))
 
--- from where the bucket is filled back to where its room is known, and to the start
+-- from the end back to where the bucket is filled, and from there to where its room is known, and to the start
+abbrev filled-at : tie.After-work2 → tie.After-fill
+filled-at c = c .before .before .before .before .before .before .before .before
+
 abbrev room-at : tie.After-fill → tie.After-room
 room-at c = c .before .before .before .before .before
 
@@ -87,14 +90,14 @@ clear-requires c κs =
 
 cast-result : tie.Need-cast-result
 cast-result c =
-    let filled = c .before .before .before .before .before .before .before .before in
+    let filled = filled-at c in
     let s = start-of filled in
     omega (arith, filled .fill .ensures .1 .1, cost-bound 12 (s .args .n) (few s .1), few s)
 
 returns : tie.Need-returns
 unfolding tableSpace rowAt headerRow
 returns c =
-    let filled = c .before .before .before .before .before .before .before .before in
+    let filled = filled-at c in
     let s = start-of filled in
     let f = filled .fill in
     let first = room-at filled .before .first-slot in

@@ -23,18 +23,26 @@ returns-2 c =
     let parts = two-sliced _ _ (c .before .before .before .before .before .two-parts .result) (c .before .before .before .before .before .two-parts .ensures) (omega arith) in
     two-by _ parts (no-word _ _ (c .before .before .word .ensures) (c .enum-told .given .1)) refl refl refl
 
+-- from where the order is known back to the parting
+abbrev parted-at : tie.After-order → tie.After-two-parts
+parted-at c = c .before .before .before .before .before
+
 returns-3 : tie.Need-returns-3
 unfolding wordIn
 returns-3 c =
-    let parts = two-sliced _ _ (c .before .before .before .before .before .before .before .before .before .before .two-parts .result) (c .before .before .before .before .before .before .before .before .before .before .two-parts .ensures) (omega arith) in
-    let order = a-word _ _ (c .before .before .before .before .before .before .before .word .ensures) (c .before .before .before .before .before .order .given .1) in
+    let o = c .before .before .before .before .before in
+    let p = parted-at o .two-parts in
+    let parts = two-sliced _ _ (p .result) (p .ensures) (omega arith) in
+    let order = a-word _ _ (o .before .before .word .ensures) (o .order .given .1) in
     two-by _ parts (order .0) (no-word _ _ (c .before .before .word2 .ensures) (c .enum-told2 .given .1)) (order .1) refl
 
 returns-4 : tie.Need-returns-4
 unfolding wordIn
 returns-4 c =
-    let parts = two-sliced _ _ (c .before .before .before .before .before .before .before .before .before .before .before .two-parts .result) (c .before .before .before .before .before .before .before .before .before .before .before .two-parts .ensures) (omega arith) in
-    let order = a-word _ _ (c .before .before .before .before .before .before .before .before .word .ensures) (c .before .before .before .before .before .before .order .given .1) in
+    let o = c .before .before .before .before .before .before in
+    let p = parted-at o .two-parts in
+    let parts = two-sliced _ _ (p .result) (p .ensures) (omega arith) in
+    let order = a-word _ _ (o .before .before .word .ensures) (o .order .given .1) in
     let metric = a-word _ _ (c .before .before .before .word2 .ensures) (c .before .metric .given .1) in
     two-by _ parts (order .0) (metric .0) (order .1) (metric .1)
 

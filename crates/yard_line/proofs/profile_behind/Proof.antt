@@ -15,11 +15,13 @@ returns-2 c = code-missing (c .before .before .before .before .before .measures 
 
 returns-3 : tie.Need-returns-3
 returns-3 c =
-    more-behind (c .before .before .before .before .before .before .before .before .measures .ensures) (sym (c .before .before .before .before .before .before .before .before .measures .ensures .found) ∙ not-false _ (c .before .before .before .before .before .before .if1 .left)) (omega arith) (c .before .before .part-end .ensures) (c .no-profile3 .ensures) (omega (arith, c .before .if3 .taken))
+    let m = c .before .before .before .before .before .before .before .before .measures .ensures in
+    more-behind m (sym (m .found) ∙ not-false _ (c .before .before .before .before .before .before .if1 .left)) (omega arith) (c .before .before .part-end .ensures) (c .no-profile3 .ensures) (omega (arith, c .before .if3 .taken))
 
 returns-4 : tie.Need-returns-4
 returns-4 c =
-    last-field (c .before .before .before .before .before .before .before .before .before .before .before .before .measures .ensures) (sym (c .before .before .before .before .before .before .before .before .before .before .before .before .measures .ensures .found) ∙ not-false _ (c .before .before .before .before .before .before .before .before .before .before .if1 .left)) (omega arith) (c .before .before .before .before .before .before .part-end .ensures) (omega (arith, c .before .before .before .before .before .if3 .left)) (c .before .before .code .ensures)
+    let m = c .before .before .before .before .before .before .before .before .before .before .before .before .measures .ensures in
+    last-field m (sym (m .found) ∙ not-false _ (c .before .before .before .before .before .before .before .before .before .before .if1 .left)) (omega arith) (c .before .before .before .before .before .before .part-end .ensures) (omega (arith, c .before .before .before .before .before .if3 .left)) (c .before .before .code .ensures)
 
 pub profile-behind-spec : {M : Type 1} → statement M
 profile-behind-spec =
