@@ -1,5 +1,6 @@
-/* Adds a small herd, asks both questions, removes one, saves and loads an image, and reads a list of two more.
- * It writes what the Rust example rust/vpindex/examples/herd.rs writes; herd.expected has it. */
+/* Adds a small herd, asks both questions, once more where kilos weigh more, removes one, saves and loads an image, and
+ * reads a list of two more. It writes what the Rust example rust/vpindex/examples/herd.rs writes; herd.expected has it.
+ */
 #include <inttypes.h>
 #include <stdio.h>
 
@@ -23,20 +24,24 @@ static const char list[] = VPINDEX_LIST_HEADER
     "036000000000101;412,50;129,00;185,00;0,95\n";
 
 static uint32_t table[VPINDEX_TABLE_ROWS(ORDER)][VPINDEX_ROW_WORDS];
+static uint32_t weighted[VPINDEX_TABLE_ROWS(ORDER)][VPINDEX_ROW_WORDS];
 static uint32_t loaded[VPINDEX_TABLE_ROWS(ORDER)][VPINDEX_ROW_WORDS];
 static uint32_t work[VPINDEX_WORK_ROWS(ORDER)][VPINDEX_ROW_WORDS];
 static uint64_t result[VPINDEX_RESULT_ENTRIES(ORDER)][VPINDEX_ENTRY_WORDS];
 static uint8_t image[VPINDEX_IMAGE_BYTES(ORDER)];
 
+static vpindex_added add_item(uint32_t (*to)[VPINDEX_ROW_WORDS], size_t i) {
+    vpindex_profile profile = {{0}, {0, 0}};
+    for (size_t j = 0; j < 4; j++) {
+        profile.measures[j] = items[i].measures[j];
+    }
+    uint64_t tag = VPINDEX_TAG(36, items[i].national);
+    return vpindex_add(to, VPINDEX_TABLE_ROWS(ORDER), work, VPINDEX_WORK_ROWS(ORDER), tag, profile);
+}
+
 static uint32_t add_items(void) {
     for (size_t i = 0; i < ITEMS; i++) {
-        vpindex_profile profile = {{0}, {0, 0}};
-        for (size_t j = 0; j < 4; j++) {
-            profile.measures[j] = items[i].measures[j];
-        }
-        uint64_t tag = VPINDEX_TAG(36, items[i].national);
-        vpindex_added added =
-            vpindex_add(table, VPINDEX_TABLE_ROWS(ORDER), work, VPINDEX_WORK_ROWS(ORDER), tag, profile);
+        vpindex_added added = add_item(table, i);
         if (added.refusal != VPINDEX_ACCEPTED) {
             return added.refusal;
         }
@@ -51,6 +56,17 @@ static void print(const char *question, vpindex_searched searched) {
     for (uint32_t i = 0; i < searched.found; i++) {
         printf("  %015" PRIu64 " %" PRIu64 "\n", result[i][0], result[i][1]);
     }
+}
+
+/* kilos ten times, the daily gain not at all */
+static uint32_t make_weighted(void) {
+    const vpindex_weights weights = {{10, 1, 1, 0}};
+    uint32_t refusal =
+        vpindex_fresh(weighted, VPINDEX_TABLE_ROWS(ORDER), ORDER, VPINDEX_SUM_OF_DIFFERENCES, weights);
+    for (size_t i = 0; i < ITEMS && refusal == VPINDEX_ACCEPTED; i++) {
+        refusal = add_item(weighted, i).refusal;
+    }
+    return refusal;
 }
 
 static void remove_twice(uint64_t national) {
@@ -78,12 +94,16 @@ int main(void) {
     const size_t room = VPINDEX_RESULT_ENTRIES(ORDER);
     const vpindex_profile query = {{41000, 12900, 18400, 100}, {0, 0}};
 
-    if (vpindex_fresh(table, rows, ORDER, VPINDEX_SUM_OF_DIFFERENCES) != VPINDEX_ACCEPTED ||
+    if (vpindex_fresh(table, rows, ORDER, VPINDEX_SUM_OF_DIFFERENCES, VPINDEX_WEIGHTS_ONE) != VPINDEX_ACCEPTED ||
         add_items() != VPINDEX_ACCEPTED) {
         return 1;
     }
     print("range 500", vpindex_range(table, rows, result, room, query, 500));
     print("nearest 3", vpindex_nearest(table, rows, result, room, query, 3));
+    if (make_weighted() != VPINDEX_ACCEPTED) {
+        return 1;
+    }
+    print("nearest 3, kilos weigh more", vpindex_nearest(weighted, rows, result, room, query, 3));
     remove_twice(104);
 
     vpindex_written written = vpindex_write(table, rows, image, sizeof image);

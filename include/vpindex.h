@@ -35,9 +35,10 @@ extern "C" {
 /* ---- Limits ---------------------------------------------------------------------------------------------------- */
 
 #define VPINDEX_MAX_ORDER 12             /* a table of order T holds at most 2^T items, T being 0 to 12 */
-#define VPINDEX_SUM_OF_DIFFERENCES 0     /* metric 0: the sum of the absolute differences of the four measures */
+#define VPINDEX_SUM_OF_DIFFERENCES 0     /* metric 0: the sum of the weighted differences of the four measures */
 #define VPINDEX_DIFFERING_BITS 1         /* metric 1: the number of bits in which the two codes differ */
-#define VPINDEX_LARGEST_DIFFERENCE 2     /* metric 2: the largest of the absolute differences of the four measures */
+#define VPINDEX_LARGEST_DIFFERENCE 2     /* metric 2: the largest of the weighted differences of the four measures */
+#define VPINDEX_MAX_WEIGHT 100           /* a measure's absolute difference is multiplied by its weight, 0 to 100 */
 #define VPINDEX_MAX_MEASURE 1000000      /* a measure is -1,000,000 to 1,000,000 hundredths */
 #define VPINDEX_MIN_TAG VPINDEX_TAG(1, 0)
 #define VPINDEX_MAX_NATIONAL UINT64_C(274877906943)  /* the largest national number: 38 bits, as ISO 11784 stores it */
@@ -53,7 +54,8 @@ extern "C" {
 
 /* The order that these sizes are given for must be at most VPINDEX_MAX_ORDER. */
 
-/* The table: row 0 has the order and the metric, then a row for each bucket has its two sizes, then come the slots. */
+/* The table: row 0 has the order, the metric and the weights, then a row for each bucket has its two sizes, then come
+ * the slots. */
 #define VPINDEX_TABLE_ROWS(order) ((size_t)(order) + 1 + ((size_t)2 << (order)))
 
 /* The work area, lent to vpindex_add, vpindex_remove and vpindex_read_list. */
@@ -63,7 +65,7 @@ extern "C" {
 #define VPINDEX_RESULT_ENTRIES(order) ((size_t)1 << (order))
 
 /* As many bytes as any image of this order can have: every slot of every bucket built. */
-#define VPINDEX_IMAGE_BYTES(order) (4 + 4 * ((size_t)(order) + 1) + 48 * (((size_t)2 << (order)) - 1))
+#define VPINDEX_IMAGE_BYTES(order) (8 + 4 * ((size_t)(order) + 1) + 48 * (((size_t)2 << (order)) - 1))
 
 /* The first line of a herd list; vpindex_read_list says what follows it. */
 #define VPINDEX_LIST_HEADER "tag;kg;hip;girth;gain\n"
@@ -84,14 +86,15 @@ extern "C" {
 #define VPINDEX_NO_COUNT 5               /* nearest with k = 0 */
 #define VPINDEX_NO_ROOM 6                /* result area shorter than the reply, or image area than the image */
 #define VPINDEX_BAD_LENGTH 7             /* the image's length is wrong */
-#define VPINDEX_BAD_IMAGE 8              /* an image sound in its sizes, but its fields or trees break a rule */
+#define VPINDEX_BAD_IMAGE 8              /* an image of no known form, or its fields or trees break a rule */
+#define VPINDEX_BAD_WEIGHT 32            /* a weight above 100 */
 
 /* by the state */
 #define VPINDEX_ALREADY_LIVE 20          /* the tag is in the table */
 #define VPINDEX_NOT_LIVE 21              /* the tag is not in the table */
 #define VPINDEX_FULL 22                  /* the table has 2^T items */
 #define VPINDEX_SHORT_AREA 23            /* table or work area shorter than the order needs, or a table of no rows */
-#define VPINDEX_BAD_TABLE 24             /* sizes, order, metric or marks of a table, or an image's sizes, are wrong */
+#define VPINDEX_BAD_TABLE 24             /* a table's order, metric, weights, sizes or marks, or an image's sizes */
 
 /* by the list */
 #define VPINDEX_BAD_LIST_HEADER 30       /* the list does not begin with VPINDEX_LIST_HEADER */
@@ -103,6 +106,13 @@ typedef struct {
     int32_t measures[4];                 /* in hundredths, each -1,000,000 to 1,000,000 */
     uint64_t code[2];                    /* any value */
 } vpindex_profile;
+
+typedef struct {
+    uint32_t each[4];                    /* of the four measures in their order, each 0 to VPINDEX_MAX_WEIGHT */
+} vpindex_weights;
+
+/* Every measure counts as it is. */
+static const vpindex_weights VPINDEX_WEIGHTS_ONE = {{1, 1, 1, 1}};
 
 typedef struct {
     uint32_t refusal;
@@ -142,51 +152,58 @@ typedef struct {
 /* ---- Calls -------------------------------------------------------------------------------------------------------
  * Lengths are in elements: rows, entries, bytes. Rows and bytes past what a call needs keep their content. */
 
-/* Makes the table empty, of this order and metric; it may have held anything.
- * Returns 0 or a refusal: BAD_ORDER, BAD_METRIC, SHORT_AREA (fewer than VPINDEX_TABLE_ROWS(order) rows). */
-uint32_t vpindex_fresh(uint32_t (*table)[VPINDEX_ROW_WORDS], size_t table_rows, uint32_t order, uint32_t metric);
+/* Makes the table empty, of this order and metric; it may have held anything. By metrics 0 and 2 the difference of
+ * each measure is multiplied by its weight; metric 1 has no use for the weights, which are kept all the same. A
+ * weighted difference above 4,294,967,295 is taken as that, and so is a sum of them.
+ * Returns 0 or a refusal: BAD_ORDER, BAD_METRIC, BAD_WEIGHT (by any metric), SHORT_AREA (fewer than
+ * VPINDEX_TABLE_ROWS(order) rows). */
+uint32_t vpindex_fresh(uint32_t (*table)[VPINDEX_ROW_WORDS], size_t table_rows, uint32_t order, uint32_t metric,
+                       vpindex_weights weights);
 
 /* Makes the table the one that the image was written from; it may have held anything. The image is checked whole before
- * the first row is written, so a refused load changes nothing.
- * Returns 0 or a refusal: BAD_LENGTH (under 4 bytes), BAD_ORDER, BAD_METRIC, BAD_IMAGE (bytes 2 and 3 not zero),
- * BAD_LENGTH (sizes cut short), BAD_TABLE (sizes), BAD_LENGTH (not the length that the sizes give), SHORT_AREA,
- * BAD_IMAGE (tags, measures, marks or trees). */
+ * the first row is written, so a refused load changes nothing. Bytes 2 and 3 of an image are the number of its form.
+ * Form 1 has the four weights next, a byte each; form 0, from before there were weights, loads with weights 1.
+ * Returns 0 or a refusal: BAD_LENGTH (under 4 bytes), BAD_ORDER, BAD_METRIC, BAD_IMAGE (form above 1), in form 1
+ * BAD_LENGTH (weights cut short) and BAD_WEIGHT, BAD_LENGTH (sizes cut short), BAD_TABLE (sizes), BAD_LENGTH (not the
+ * length that the sizes give), SHORT_AREA, BAD_IMAGE (tags, measures, marks or trees). */
 uint32_t vpindex_load(uint32_t (*table)[VPINDEX_ROW_WORDS], size_t table_rows, const uint8_t *image,
                       size_t image_bytes);
 
 /* Adds an item. The work area's first VPINDEX_WORK_ROWS(order) rows are zero after an accepted call.
- * Refusals: SHORT_AREA (no rows), BAD_TABLE (order, metric), SHORT_AREA (table, work), BAD_TABLE (sizes, marks),
- * BAD_TAG, BAD_MEASURE, ALREADY_LIVE, FULL. */
+ * Refusals: SHORT_AREA (no rows), BAD_TABLE (order, metric), SHORT_AREA (table, work), BAD_TABLE (weights, sizes,
+ * marks), BAD_TAG, BAD_MEASURE, ALREADY_LIVE, FULL. */
 vpindex_added vpindex_add(uint32_t (*table)[VPINDEX_ROW_WORDS], size_t table_rows, uint32_t (*work)[VPINDEX_ROW_WORDS],
                           size_t work_rows, uint64_t tag, vpindex_profile profile);
 
 /* Removes the item with this tag. The work area's first VPINDEX_WORK_ROWS(order) rows are zero after an accepted call.
- * Refusals: SHORT_AREA (no rows), BAD_TABLE (order, metric), SHORT_AREA (table, work), BAD_TABLE (sizes, marks),
- * BAD_TAG, NOT_LIVE. */
+ * Refusals: SHORT_AREA (no rows), BAD_TABLE (order, metric), SHORT_AREA (table, work), BAD_TABLE (weights, sizes,
+ * marks), BAD_TAG, NOT_LIVE. */
 vpindex_removed vpindex_remove(uint32_t (*table)[VPINDEX_ROW_WORDS], size_t table_rows,
                                uint32_t (*work)[VPINDEX_ROW_WORDS], size_t work_rows, uint64_t tag);
 
 /* Gives the profile of the item with this tag. No area is changed.
- * Refusals: SHORT_AREA (no rows), BAD_TABLE (order, metric), SHORT_AREA, BAD_TABLE (sizes), BAD_TAG, NOT_LIVE. */
+ * Refusals: SHORT_AREA (no rows), BAD_TABLE (order, metric), SHORT_AREA, BAD_TABLE (weights, sizes), BAD_TAG,
+ * NOT_LIVE. */
 vpindex_looked_up vpindex_look_up(VPINDEX_READ uint32_t (*table)[VPINDEX_ROW_WORDS], size_t table_rows, uint64_t tag);
 
 /* Finds all items whose distance from the query is at most the radius. The result area gets an entry for each, tag then
  * distance, by distance and then tag, and zeros after them to its end.
- * Refusals: SHORT_AREA (no rows), BAD_TABLE (order, metric), SHORT_AREA, BAD_TABLE (sizes), BAD_MEASURE, NO_ROOM. */
+ * Refusals: SHORT_AREA (no rows), BAD_TABLE (order, metric), SHORT_AREA, BAD_TABLE (weights, sizes), BAD_MEASURE,
+ * NO_ROOM. */
 vpindex_searched vpindex_range(VPINDEX_READ uint32_t (*table)[VPINDEX_ROW_WORDS], size_t table_rows,
                                uint64_t (*result)[VPINDEX_ENTRY_WORDS], size_t result_entries, vpindex_profile query,
                                uint32_t radius);
 
 /* Finds the k items nearest to the query, or all where there are fewer; of items at the same distance the lower tag
  * goes first. The result area as in vpindex_range.
- * Refusals: SHORT_AREA (no rows), BAD_TABLE (order, metric), SHORT_AREA, BAD_TABLE (sizes), BAD_MEASURE, NO_COUNT,
- * NO_ROOM. */
+ * Refusals: SHORT_AREA (no rows), BAD_TABLE (order, metric), SHORT_AREA, BAD_TABLE (weights, sizes), BAD_MEASURE,
+ * NO_COUNT, NO_ROOM. */
 vpindex_searched vpindex_nearest(VPINDEX_READ uint32_t (*table)[VPINDEX_ROW_WORDS], size_t table_rows,
                                  uint64_t (*result)[VPINDEX_ENTRY_WORDS], size_t result_entries, vpindex_profile query,
                                  uint32_t k);
 
-/* Writes the table's image, which vpindex_load reads.
- * Refusals: SHORT_AREA (no rows), BAD_TABLE (order, metric), SHORT_AREA, BAD_TABLE (sizes), NO_ROOM. */
+/* Writes the table's image, of form 1, which vpindex_load reads.
+ * Refusals: SHORT_AREA (no rows), BAD_TABLE (order, metric), SHORT_AREA, BAD_TABLE (weights, sizes), NO_ROOM. */
 vpindex_written vpindex_write(VPINDEX_READ uint32_t (*table)[VPINDEX_ROW_WORDS], size_t table_rows, uint8_t *image,
                               size_t image_bytes);
 

@@ -1,21 +1,31 @@
 #!/usr/bin/env python3
 """What load replies to a damaged image, worked out apart from the code by docs/RULES.md (12).
 
-Writes crates/image_runs/src/bytes.rt (a sound image, with one byte behind it) and crates/image_runs/stdout (what the program must print).
+Writes crates/image_runs/src/bytes.rt (a sound image of each form, with one byte behind it) and crates/image_runs/stdout (what the program must print).
 With --check it writes nothing and fails where a file differs from what it would write.
 
-Every bucket of the image is in use, two of them with dead slots. Nationals, measures and codes are such that one bit makes tags alike within a bucket
+Every bucket of the images is in use, two of them with dead slots. Nationals, measures and codes are such that one bit makes tags alike within a bucket
 and across buckets, that items lie equally far from the first of bucket 2, that measures stand at both limits, and that the trees are the same by
-every metric: the bits are flipped in the image of each.
+every metric and by the weights of both forms: the bits are flipped in the image of form 1 by each metric and in the image of form 0. One bit makes a weight
+101, and one measure has weight 0.
 """
 import struct
 import sys
+from collections import namedtuple
 from pathlib import Path
 
 CRATE = Path(__file__).resolve().parent.parent / "crates" / "image_runs"
 COUNTRY = 36 * 10**12
 ORDER, ROWS = 2, 11
 LIVE, DEAD = 0, 1
+LAST_FORM, MOST_WEIGHT, MOST_DISTANCE = 1, 100, 2**32 - 1
+
+# What a distance depends on, and the weights that leave every measure as it is.
+Space = namedtuple("Space", "metric weights")
+ONES = (1, 1, 1, 1)
+
+# Of the image of form 1; in the measures of the second and third no two items of a bucket differ.
+WEIGHTS = (1, 100, 0, 1)
 
 # Of each bucket its slots: national, measures, code, threshold, mark.
 BUCKETS = [
@@ -30,13 +40,14 @@ BUCKETS = [
 ]
 
 
-def image_of(order, metric, buckets):
-    """The bytes as the writer gives them: header, sizes, tags, records."""
+def image_of(order, metric, buckets, weights=None):
+    """The bytes: order, metric, form, in form 1 the weights as the writer gives them, sizes, tags, records."""
     slots = [s for b in buckets for s in b]
     sizes = [struct.pack("<HH", len(b), sum(s[4] == LIVE for s in b)) for b in buckets]
     tags = [struct.pack("<Q", COUNTRY + s[0]) for s in slots]
     records = [struct.pack("<4i2Q2I", *s[1], *s[2], s[3], s[4]) for s in slots]
-    return b"".join([bytes([order, metric, 0, 0]), *sizes, *tags, *records])
+    form = bytes([0, 0]) if weights is None else bytes([1, 0, *weights])
+    return b"".join([bytes([order, metric]), form, *sizes, *tags, *records])
 
 
 class Slot:
@@ -50,35 +61,34 @@ class Slot:
         return is_tag and all(abs(m) <= 10**6 for m in self.measures) and self.mark in (LIVE, DEAD)
 
 
-def distance(metric, a, b):
-    if metric == 0:
-        return min(sum(abs(x - y) for x, y in zip(a.measures, b.measures)), 2**32 - 1)
-    if metric == 1:
+def distance(space, a, b):
+    if space.metric == 1:
         return sum(bin(x ^ y).count("1") for x, y in zip(a.code, b.code))
-    return max(abs(x - y) for x, y in zip(a.measures, b.measures))
+    weighted = [min(w * abs(x - y), MOST_DISTANCE) for w, x, y in zip(space.weights, a.measures, b.measures)]
+    return min(sum(weighted), MOST_DISTANCE) if space.metric == 0 else max(weighted)
 
 
-def layout(metric, slots):
+def layout(space, slots):
     """The slots in the tree's order, each with its threshold."""
     if not slots:
         return []
     first = min(slots, key=lambda s: (s.tag, s.place))
-    rest = sorted((s for s in slots if s is not first), key=lambda s: (distance(metric, first, s), s.tag, s.place))
+    rest = sorted((s for s in slots if s is not first), key=lambda s: (distance(space, first, s), s.tag, s.place))
     left, right = rest[: len(slots) // 2], rest[len(slots) // 2 :]
-    threshold = distance(metric, first, left[-1]) if left else 0
-    return [(first, threshold)] + layout(metric, left) + layout(metric, right)
+    threshold = distance(space, first, left[-1]) if left else 0
+    return [(first, threshold)] + layout(space, left) + layout(space, right)
 
 
 def distinct(tags):
     return len(set(tags)) == len(tags)
 
 
-def bucket_stands(metric, live, slots):
+def bucket_stands(space, live, slots):
     return (
         all(s.is_valid() for s in slots)
         and sum(s.mark == LIVE for s in slots) == live
         and distinct([s.tag for s in slots])
-        and layout(metric, slots) == [(s, s.threshold) for s in slots]
+        and layout(space, slots) == [(s, s.threshold) for s in slots]
     )
 
 
@@ -110,12 +120,19 @@ def load(rows, image):
         return 3
     if metric > 2:
         return 4
-    if image[2] or image[3]:
+    form = int.from_bytes(image[2:4], "little")
+    if form > LAST_FORM:
         return 8
-    end = 4 + 4 * (order + 1)
+    front = 4 if form == 0 else 8
+    if len(image) < front:
+        return 7
+    weights = ONES if form == 0 else tuple(image[4:8])
+    if max(weights) > MOST_WEIGHT:
+        return 32
+    end = front + 4 * (order + 1)
     if len(image) < end:
         return 7
-    sizes = [struct.unpack("<HH", image[4 + 4 * k : 8 + 4 * k]) for k in range(order + 1)]
+    sizes = [struct.unpack("<HH", image[front + 4 * k : front + 4 * k + 4]) for k in range(order + 1)]
     if not sizes_stand(order, sizes):
         return 24
     if len(image) != end + 48 * sum(built for built, _ in sizes):
@@ -123,47 +140,63 @@ def load(rows, image):
     if rows < order + 1 + 2 ** (order + 1):
         return 23
     buckets = list(buckets_of(sizes, image[end:]))
-    stand = all(bucket_stands(metric, live, slots) for (_, live), slots in zip(sizes, buckets))
+    stand = all(bucket_stands(Space(metric, weights), live, slots) for (_, live), slots in zip(sizes, buckets))
     return 0 if stand and distinct([s.tag for b in buckets for s in b if s.mark == LIVE]) else 8
 
 
 def reply(rows, image):
-    """The refusal; and of an accepted image that its bytes come back, since a table has one image only."""
+    """The refusal; and of an accepted image that its bytes come back, since a table has one image of form 1 only, or those of its translation to form 1."""
     refusal = load(rows, image)
-    return f" {refusal}" if refusal else " 0="
+    return f" {refusal}" if refusal else " 0=" if image[2] else " 0+"
 
 
 def flipped(image, at, bit):
     return image[:at] + bytes([image[at] ^ 1 << bit]) + image[at + 1 :]
 
 
-def output(image):
+def cut_lines(image):
     longer = image + bytes(1)
-    lines = [f"{n}" + reply(ROWS - 1, longer[:n]) + reply(ROWS, longer[:n]) for n in range(len(longer) + 1)]
-    for metric in (0, 1, 2):
-        whole = image_of(ORDER, metric, BUCKETS)
-        lines += [f"{at}" + "".join(reply(ROWS, flipped(whole, at, bit)) for bit in range(8)) for at in range(len(whole))]
-    return "\n".join(lines) + "\n"
+    return [f"{n}" + reply(ROWS - 1, longer[:n]) + reply(ROWS, longer[:n]) for n in range(len(longer) + 1)]
 
 
-def source(image):
-    lines = [
-        "// A sound image, and behind it one byte that is no part of it, as tools/image_runs.py writes them.",
-        f"pub const LENGTH: usize = {len(image)};",
+def flip_lines(image):
+    return [f"{at}" + "".join(reply(ROWS, flipped(image, at, bit)) for bit in range(8)) for at in range(len(image))]
+
+
+def output():
+    newest = [image_of(ORDER, metric, BUCKETS, WEIGHTS) for metric in (0, 1, 2)]
+    older = image_of(ORDER, 0, BUCKETS)
+    lines = cut_lines(newest[0]) + [line for image in newest for line in flip_lines(image)]
+    return "\n".join(lines + cut_lines(older) + flip_lines(older)) + "\n"
+
+
+def constants(name, image):
+    """The image with a byte behind it, its length, and the number of lengths from 0 to one more than that."""
+    return [
+        f"pub const {name}LENGTH: usize = {len(image)};",
         "",
-        "// The lengths from 0 to one more than the image's.",
-        f"pub const CUTS: usize = {len(image) + 2};",
+        f"pub const {name}CUTS: usize = {len(image) + 2};",
         "",
-        f"pub const IMAGE: [u8; {len(image) + 1}] = [",
+        f"pub const {name}IMAGE: [u8; {len(image) + 1}] = [",
         *(f"    {b}," for b in image + bytes(1)),
         "];",
+    ]
+
+
+def source():
+    lines = [
+        "// A sound image, and behind it one byte that is no part of it, as tools/image_runs.py writes them: its length, the lengths from 0 to one more",
+        "// than that, and the bytes. First of form 1.",
+        *constants("", image_of(ORDER, 0, BUCKETS, WEIGHTS)),
+        "",
+        "// Of form 0, with the same slots.",
+        *constants("OLDER_", image_of(ORDER, 0, BUCKETS)),
     ]
     return "\n".join(lines) + "\n"
 
 
 def main():
-    image = image_of(ORDER, 0, BUCKETS)
-    files = {CRATE / "src" / "bytes.rt": source(image), CRATE / "stdout": output(image)}
+    files = {CRATE / "src" / "bytes.rt": source(), CRATE / "stdout": output()}
     for path, text in files.items():
         if "--check" not in sys.argv[1:]:
             path.parent.mkdir(parents=True, exist_ok=True)

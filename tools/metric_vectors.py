@@ -17,6 +17,10 @@ NATIONALS, LAST_NATIONAL = 10**12, 2**38 - 1
 STEPS = (0, 1, 5, 11)
 METRICS = (0, 1, 2)
 NO_METRIC = 2**32 - 1  # no call takes it; the distance reads it as 2
+MOST_DISTANCE = 2**32 - 1
+ONES = (1, 1, 1, 1)
+# With the first a difference of 2^31 is the least that saturates, and of 2^31 - 1 the largest that does not.
+WEIGHTS = ((2, 1, 1, 1), (3, 0, 100, 1), (100, 100, 100, 100))
 
 
 def valid_tag(tag):
@@ -28,12 +32,11 @@ def valid_measures(measures):
     return all(-LIMIT <= m <= LIMIT for m in measures)
 
 
-def distance(metric, p, q):
-    if metric == 0:
-        return min(sum(abs(a - b) for a, b in zip(p[0], q[0])), 4_294_967_295)
+def distance(metric, weights, p, q):
     if metric == 1:
         return sum(bin(a ^ b).count("1") for a, b in zip(p[1], q[1]))
-    return max(abs(a - b) for a, b in zip(p[0], q[0]))
+    weighted = [min(w * abs(a - b), MOST_DISTANCE) for w, a, b in zip(weights, p[0], q[0])]
+    return min(sum(weighted), MOST_DISTANCE) if metric == 0 else max(weighted)
 
 
 def row(tag, profile, threshold, mark):
@@ -119,7 +122,8 @@ def output(items, tag_list):
     for i, (_, p, _, _) in enumerate(items):
         for step in STEPS:
             q = items[(i + step) % len(items)][1]
-            found = [distance(m, p, q) for m in (*METRICS, NO_METRIC, *METRICS)]
+            found = [distance(m, ONES, p, q) for m in (*METRICS, NO_METRIC, *METRICS)]
+            found += [distance(m, weights, p, q) for weights in WEIGHTS for m in METRICS]
             lines.append(" ".join(map(str, found)))
     lines += [f"{t} {valid_tag(t):d}" for t in tag_list]
     return "\n".join(lines) + "\n"

@@ -5,6 +5,7 @@ Writes crates/table_runs/src/steps.rt (the steps) and crates/table_runs/stdout (
 With --check it writes nothing and fails where a file differs from what it would write.
 
 A step is an operation and two numbers: fresh (order, metric), add or remove (first national, how many), range with the largest radius, nearest (k).
+The program makes every table with the same weights. Nothing that it prints depends on them.
 """
 import sys
 from pathlib import Path

@@ -17,7 +17,7 @@ from types import SimpleNamespace
 
 sys.dont_write_bytecode = True
 import table_runs
-from image_runs import distance, layout
+from image_runs import ONES, Space, distance, layout
 
 ROOT = Path(__file__).resolve().parent.parent
 STORED = ROOT / "tests" / "yard"
@@ -40,15 +40,15 @@ COMMANDS = [
 
 
 class Table(table_runs.Table):
-    """Buckets with their slots, so that searches walk the trees and count what they visit."""
+    """Buckets with their slots, so that searches walk the trees and count what they visit. Every weight is 1."""
 
     def fresh(self, order, metric):
-        self.metric, self.items = metric, {}
+        self.space, self.items = Space(metric, ONES), {}
         return super().fresh(order, metric)
 
     def build(self, emptied, k, tags):
         distances = super().build(emptied, k, tags)
-        self.buckets[k].slots = layout(self.metric, [self.items[tag] for tag in tags])
+        self.buckets[k].slots = layout(self.space, [self.items[tag] for tag in tags])
         return distances
 
     def trees(self):
@@ -64,7 +64,7 @@ class Table(table_runs.Table):
             if not slots:
                 return
             (item, threshold), half = slots[0], 1 + len(slots) // 2
-            d = distance(self.metric, item, query)
+            d = distance(self.space, item, query)
             count += 1
             if item.tag in live and d <= radius:
                 found.append((d, item.tag))
@@ -91,7 +91,7 @@ class Table(table_runs.Table):
             if not slots:
                 return
             (item, threshold), half = slots[0], 1 + len(slots) // 2
-            d = distance(self.metric, item, query)
+            d = distance(self.space, item, query)
             count += 1
             if item.tag in live:
                 kept.append((d, item.tag))

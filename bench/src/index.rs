@@ -1,11 +1,19 @@
 //! What is measured: an index, by the archive's calls or in plain Rust.
 
+use std::hint::black_box;
+
 use vpindex::ffi;
 
 use crate::items::Profile;
 
 /// A distance and a tag.
 pub type Hit = (u32, u64);
+
+/// What both kinds weigh by: every measure as it is. The calls read the weights from the table, so the plain programs
+/// are kept from knowing them beforehand.
+pub fn weights() -> [u32; 4] {
+    black_box([1; 4])
+}
 
 /// The calls, each of which must be accepted. Changes and searches give the number of distances.
 pub trait Index {
@@ -50,8 +58,8 @@ impl Index for Archive {
     fn new(order: u32, metric: u32) -> Archive {
         let n = 1 << order;
         let mut table = vec![[0; ffi::ROW_WORDS]; order as usize + 1 + 2 * n];
-        assert_eq!(ffi::fresh(&mut table, order, metric), 0);
-        let image = vec![0; 4 + 4 * (order as usize + 1) + 48 * (2 * n - 1)];
+        assert_eq!(ffi::fresh(&mut table, order, metric, ffi::Weights { each: weights() }), 0);
+        let image = vec![0; 8 + 4 * (order as usize + 1) + 48 * (2 * n - 1)];
         Archive { table, work: vec![[0; ffi::ROW_WORDS]; n], result: vec![[0; 2]; n], found: 0, image, length: 0 }
     }
 

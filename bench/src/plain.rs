@@ -1,7 +1,7 @@
 //! The same method in plain Rust, as one would write it who owns the table: buckets of slots, built, searched and
 //! shrunk by the same rules, with no check of what it wrote itself. And the scans.
 
-use crate::index::{Hit, Index};
+use crate::index::{Hit, Index, weights};
 use crate::items::Profile;
 
 #[derive(Clone, Copy, Default)]
@@ -18,39 +18,53 @@ struct Bucket {
     slots: Vec<Slot>,
 }
 
+/// What a distance depends on.
+#[derive(Clone, Copy)]
+pub struct Space {
+    metric: u32,
+    weights: [u32; 4],
+}
+
 pub struct Plain {
     order: usize,
-    metric: u32,
+    space: Space,
     buckets: Vec<Bucket>,
     hits: Vec<Hit>,
     image: Vec<u8>,
 }
 
-fn distance(metric: u32, a: &Profile, b: &Profile) -> u32 {
-    let differences = (0..4).map(|i| a.measures[i].abs_diff(b.measures[i]));
-    match metric {
-        0 => differences.map(u64::from).sum::<u64>().min(u32::MAX as u64) as u32,
+impl Space {
+    pub fn new(metric: u32) -> Space {
+        Space { metric, weights: weights() }
+    }
+}
+
+// A sum of four differences of 32 bits, each by a weight up to 100, fits 64 bits.
+fn distance(space: &Space, a: &Profile, b: &Profile) -> u32 {
+    let weighted = (0..4).map(|i| a.measures[i].abs_diff(b.measures[i]) as u64 * space.weights[i] as u64);
+    match space.metric {
+        0 => weighted.sum::<u64>().min(u32::MAX as u64) as u32,
         1 => (a.code[0] ^ b.code[0]).count_ones() + (a.code[1] ^ b.code[1]).count_ones(),
-        _ => differences.fold(0, u32::max),
+        _ => weighted.fold(0, u64::max).min(u32::MAX as u64) as u32,
     }
 }
 
 // The tree of these items, in place: the smallest tag first, the rest by distance from it and tag, each half likewise.
 // The threshold has the distance on the way. Gives the number of distances.
-fn build(metric: u32, part: &mut [Slot]) -> u32 {
+fn build(space: &Space, part: &mut [Slot]) -> u32 {
     let Some(least) = (0..part.len()).min_by_key(|&i| part[i].tag) else { return 0 };
     part.swap(0, least);
     let half = part.len() / 2;
     let (first, rest) = part.split_first_mut().expect("not empty");
     for slot in rest.iter_mut() {
-        slot.threshold = distance(metric, &first.profile, &slot.profile);
+        slot.threshold = distance(space, &first.profile, &slot.profile);
     }
     rest.sort_unstable_by_key(|slot| (slot.threshold, slot.tag));
     first.threshold = if half == 0 { 0 } else { rest[half - 1].threshold };
     first.mark = 0;
     let n = rest.len() as u32;
     let (left, right) = rest.split_at_mut(half);
-    n + build(metric, left) + build(metric, right)
+    n + build(space, left) + build(space, right)
 }
 
 impl Plain {
@@ -66,7 +80,7 @@ impl Plain {
     }
 
     fn put(&mut self, k: usize, mut items: Vec<Slot>) -> u32 {
-        let distances = build(self.metric, &mut items);
+        let distances = build(&self.space, &mut items);
         self.buckets[k] = Bucket { live: items.len(), slots: items };
         distances
     }
@@ -103,7 +117,13 @@ impl Plain {
 impl Index for Plain {
     fn new(order: u32, metric: u32) -> Plain {
         let order = order as usize;
-        Plain { order, metric, buckets: vec![Bucket::default(); order + 1], hits: vec![], image: vec![] }
+        Plain {
+            order,
+            space: Space::new(metric),
+            buckets: vec![Bucket::default(); order + 1],
+            hits: vec![],
+            image: vec![],
+        }
     }
 
     fn add(&mut self, tag: u64, profile: &Profile) -> u32 {
@@ -135,7 +155,7 @@ impl Index for Plain {
         hits.clear();
         let mut count = 0;
         for bucket in self.buckets.iter().rev() {
-            tree_range(self.metric, &bucket.slots, query, radius, &mut hits, &mut count);
+            tree_range(&self.space, &bucket.slots, query, radius, &mut hits, &mut count);
         }
         hits.sort_unstable();
         self.hits = hits;
@@ -147,7 +167,7 @@ impl Index for Plain {
         hits.clear();
         let mut count = 0;
         for bucket in self.buckets.iter().rev() {
-            tree_nearest(self.metric, &bucket.slots, query, k, &mut hits, &mut count);
+            tree_nearest(&self.space, &bucket.slots, query, k, &mut hits, &mut count);
         }
         self.hits = hits;
         count
@@ -160,7 +180,8 @@ impl Index for Plain {
     fn write(&mut self) {
         let image = &mut self.image;
         image.clear();
-        image.extend([self.order as u8, self.metric as u8, 0, 0]);
+        image.extend([self.order as u8, self.space.metric as u8, 1, 0]);
+        image.extend(self.space.weights.map(|weight| weight as u8));
         for bucket in &self.buckets {
             image.extend((bucket.slots.len() as u16).to_le_bytes());
             image.extend((bucket.live as u16).to_le_bytes());
@@ -182,7 +203,7 @@ impl Index for Plain {
 
     // Reads the slots and builds every bucket again, to see that the image has the same trees.
     fn load(&mut self, image: &[u8]) {
-        let mut at = 4;
+        let mut at = 8;
         let mut take = |n: usize| {
             at += n;
             &image[at - n..at]
@@ -201,16 +222,16 @@ impl Index for Plain {
         }
         for bucket in &self.buckets {
             let mut again = bucket.slots.clone();
-            build(self.metric, &mut again);
+            build(&self.space, &mut again);
             let same = |(a, b): (&Slot, &Slot)| a.tag == b.tag && a.threshold == b.threshold;
             assert!(again.iter().zip(&bucket.slots).all(same));
         }
     }
 }
 
-fn tree_range(metric: u32, slots: &[Slot], query: &Profile, radius: u32, hits: &mut Vec<Hit>, count: &mut u32) {
+fn tree_range(space: &Space, slots: &[Slot], query: &Profile, radius: u32, hits: &mut Vec<Hit>, count: &mut u32) {
     let Some((slot, rest)) = slots.split_first() else { return };
-    let d = distance(metric, &slot.profile, query);
+    let d = distance(space, &slot.profile, query);
     *count += 1;
     if slot.mark == 0 && d <= radius {
         hits.push((d, slot.tag));
@@ -218,16 +239,16 @@ fn tree_range(metric: u32, slots: &[Slot], query: &Profile, radius: u32, hits: &
     let (left, right) = rest.split_at(slots.len() / 2);
     let (d, m, r) = (d as u64, slot.threshold as u64, radius as u64);
     if d <= m + r {
-        tree_range(metric, left, query, radius, hits, count);
+        tree_range(space, left, query, radius, hits, count);
     }
     if d + r >= m {
-        tree_range(metric, right, query, radius, hits, count);
+        tree_range(space, right, query, radius, hits, count);
     }
 }
 
-fn tree_nearest(metric: u32, slots: &[Slot], query: &Profile, k: usize, best: &mut Vec<Hit>, count: &mut u32) {
+fn tree_nearest(space: &Space, slots: &[Slot], query: &Profile, k: usize, best: &mut Vec<Hit>, count: &mut u32) {
     let Some((slot, rest)) = slots.split_first() else { return };
-    let d = distance(metric, &slot.profile, query);
+    let d = distance(space, &slot.profile, query);
     *count += 1;
     if slot.mark == 0 && (best.len() < k || (d, slot.tag) < best[k - 1]) {
         insert(best, k, (d, slot.tag));
@@ -238,10 +259,10 @@ fn tree_nearest(metric: u32, slots: &[Slot], query: &Profile, k: usize, best: &m
     let left_first = d <= m;
     for is_left in [left_first, !left_first] {
         if is_left && d <= m + bound(best) {
-            tree_nearest(metric, left, query, k, best, count);
+            tree_nearest(space, left, query, k, best, count);
         }
         if !is_left && d + bound(best) >= m {
-            tree_nearest(metric, right, query, k, best, count);
+            tree_nearest(space, right, query, k, best, count);
         }
     }
 }
@@ -257,11 +278,12 @@ fn insert(best: &mut Vec<Hit>, k: usize, hit: Hit) {
 
 /// A scan that keeps the k best. The metric is told before the loop and the worst one kept is at hand: asked at each
 /// slot, either made the scan slower.
-pub fn scan_nearest(metric: u32, slots: &[Slot], query: &Profile, k: usize, best: &mut Vec<Hit>) {
-    match metric {
-        0 => keep_best(slots, k, best, |p| distance(0, p, query)),
-        1 => keep_best(slots, k, best, |p| distance(1, p, query)),
-        _ => keep_best(slots, k, best, |p| distance(2, p, query)),
+pub fn scan_nearest(space: &Space, slots: &[Slot], query: &Profile, k: usize, best: &mut Vec<Hit>) {
+    let by = |metric| Space { metric, ..*space };
+    match space.metric {
+        0 => keep_best(slots, k, best, |p| distance(&by(0), p, query)),
+        1 => keep_best(slots, k, best, |p| distance(&by(1), p, query)),
+        _ => keep_best(slots, k, best, |p| distance(&by(2), p, query)),
     }
 }
 
@@ -280,10 +302,10 @@ fn keep_best(slots: &[Slot], k: usize, best: &mut Vec<Hit>, distance_of: impl Fn
 }
 
 /// A scan that sorts its hits.
-pub fn scan_range(metric: u32, slots: &[Slot], query: &Profile, radius: u32, hits: &mut Vec<Hit>) {
+pub fn scan_range(space: &Space, slots: &[Slot], query: &Profile, radius: u32, hits: &mut Vec<Hit>) {
     hits.clear();
     for slot in slots {
-        let d = distance(metric, &slot.profile, query);
+        let d = distance(space, &slot.profile, query);
         if d <= radius {
             hits.push((d, slot.tag));
         }

@@ -5,7 +5,7 @@ use std::hint::black_box;
 use crate::index::{Archive, Hit, Index};
 use crate::items::{Profile, Spread, profiles, tag};
 use crate::measure::turns;
-use crate::plain::{Plain, Slot, scan_nearest, scan_range};
+use crate::plain::{Plain, Slot, Space, scan_nearest, scan_range};
 
 const QUERIES: usize = 256;
 const ROUNDS: usize = 41;
@@ -27,7 +27,7 @@ pub struct Full {
     plain: Plain,
     items: Vec<Slot>,
     queries: Vec<Profile>,
-    metric: u32,
+    space: Space,
 }
 
 impl Full {
@@ -40,7 +40,7 @@ impl Full {
             assert_eq!(archive.add(tag(i), profile), plain.add(tag(i), profile));
         }
         let items = plain.items();
-        Full { archive, plain, items, queries, metric }
+        Full { archive, plain, items, queries, space: Space::new(metric) }
     }
 
     // Archive and plain program found the same by the same number of distances, and the scan found it too.
@@ -57,17 +57,17 @@ impl Full {
         let mut sums = [0.0; 2];
         for query in &queries {
             let counts = [self.archive.nearest(query, K), self.plain.nearest(query, K)];
-            scan_nearest(self.metric, &self.items, query, K, &mut best);
+            scan_nearest(&self.space, &self.items, query, K, &mut best);
             add(&mut sums, self.check(counts, &best));
         }
-        let (archive, plain, items, metric) = (&mut self.archive, &mut self.plain, &self.items, self.metric);
+        let (archive, plain, items, space) = (&mut self.archive, &mut self.plain, &self.items, self.space);
         let times = turns(
             ROUNDS,
             QUERIES,
             [
                 &mut |q| _ = black_box(archive.nearest(&queries[q], K)),
                 &mut |q| _ = black_box(plain.nearest(&queries[q], K)),
-                &mut |q| scan_nearest(metric, items, &queries[q], K, black_box(&mut best)),
+                &mut |q| scan_nearest(&space, items, &queries[q], K, black_box(&mut best)),
             ],
         );
         line(format!("nearest {K}"), sums, times)
@@ -76,7 +76,7 @@ impl Full {
     // The radius within which a query has so many hits, or a few more at the same distance.
     fn radius(&self, query: &Profile, hits: usize) -> u32 {
         let mut best = vec![];
-        scan_nearest(self.metric, &self.items, query, hits, &mut best);
+        scan_nearest(&self.space, &self.items, query, hits, &mut best);
         best.last().map_or(0, |hit| hit.0)
     }
 
@@ -88,19 +88,19 @@ impl Full {
         let (mut sums, mut most) = ([0.0; 2], 0);
         for (query, &radius) in queries.iter().zip(&radii) {
             let counts = [self.archive.range(query, radius, self.items.len()), self.plain.range(query, radius, 0)];
-            scan_range(self.metric, &self.items, query, radius, &mut found);
+            scan_range(&self.space, &self.items, query, radius, &mut found);
             most = most.max(found.len());
             add(&mut sums, self.check(counts, &found));
         }
         let room = room.unwrap_or(most.next_power_of_two());
-        let (archive, plain, items, metric) = (&mut self.archive, &mut self.plain, &self.items, self.metric);
+        let (archive, plain, items, space) = (&mut self.archive, &mut self.plain, &self.items, self.space);
         let times = turns(
             ROUNDS,
             QUERIES,
             [
                 &mut |q| _ = black_box(archive.range(&queries[q], radii[q], room)),
                 &mut |q| _ = black_box(plain.range(&queries[q], radii[q], 0)),
-                &mut |q| scan_range(metric, items, &queries[q], radii[q], black_box(&mut found)),
+                &mut |q| scan_range(&space, items, &queries[q], radii[q], black_box(&mut found)),
             ],
         );
         line(format!("range ~{hits}, room {room}"), sums, times)

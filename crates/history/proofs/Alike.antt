@@ -1,8 +1,9 @@
--- Demand 3's comparison, tried on one list: at every call, refused ones and short areas among them, table and model show what was worked out by hand,
+-- Demand 3's comparison, tried on one list, and on one with weights: at every call, refused ones and short areas among them, table and model show what was worked out by hand,
 -- and after it the sums and the model's items are those worked out by hand. Each side is a run that antt computes.
 use Prim.Native.Nat.{ℕ}
 use mathlib.Core.Path.{_≡_, refl}
 use mathlib.Core.List.{List, [], _∷_, _++_, map}
+use lib.IntN.{pos, negsuc}
 use lib.ListN.{length, replicate}
 use Rattle.search_rules.specs.Range.{Entry}
 use Rattle.text_rules.specs.Text.{lineFeed}
@@ -14,8 +15,8 @@ use Rattle.history.specs.Trace.Payload.{bare, aProfile, someEntries, aLi
 use Rattle.history.specs.Model.{itemOf, withTag, isIn, with, without, profileIn, scanned, modelRange, modelNearest, canRead, canChange, tagRefusal, itemRefusal, addRefusalOf, removeRefusalOf, fits, questionRefusal, askRefusal, found, answerTo, showsUnless, afterUnless, stopsAt, oneMoreAdded, linesAnswered, listAnswered, modelBegun, beginAnswer, changeAnswer, answer, answerAt, modelAfterAll, modelTrace}
 use Rattle.history.specs.History.{before, blankModel}
 use Rattle.history.proofs.Computing.{performed}
-use Rattle.history.proofs.Running.{fresh, load, add, remove, readList, lookUp, range, nearest, by, tag, valued, areasFor, scratch, adding, removing, listOf, itemLine}
-use Rattle.history.proofs.Imaged.{deadImage}
+use Rattle.history.proofs.Running.{fresh, load, add, remove, readList, lookUp, range, nearest, weighing, by, tag, valued, measured, areasFor, scratch, adding, removing, listOf, itemLine}
+use Rattle.history.proofs.Imaged.{oneImage, deadImage, olderImage}
 
 -- calls in roomy areas, each lent its own; and one in areas of these lengths
 roomy : List Call → List Step
@@ -116,3 +117,41 @@ items : map (λ i. i .tag) (modelAfterAll blankModel steps .items) ≡ tag 6 ∷
 unfolding
     modelShows modelAfterAll tag
 items = refl
+
+-- weights 2, 1, 0 and 100 as given to fresh, kept by a fresh that is refused; then those of an image, 3, 1, 0 and 100 by metric 2; then of one of form 0
+weighedSteps : List Step
+unfolding roomy tag valued measured oneImage olderImage
+weighedSteps =
+    roomy
+    (fresh 1 (weighing 0 (2 ∷ 1 ∷ 0 ∷ 100 ∷ []))
+    ∷ add (tag 1) (valued 0)
+    ∷ add (tag 2) (measured (pos 3) (pos 5) (negsuc 6) (pos 1))
+    ∷ fresh 1 (weighing 0 (1 ∷ 1 ∷ 101 ∷ 1 ∷ []))
+    ∷ range (valued 0) 999
+    ∷ nearest (measured (pos 3) (pos 5) (pos 9) (pos 1)) 1
+    ∷ load oneImage
+    ∷ range (measured (pos 0) (pos 25) (pos 0) (pos 0)) 999
+    ∷ load olderImage
+    ∷ range (valued 0) 999
+    ∷ [])
+
+-- 2·3 + 5 + 0 + 100; nothing but the measure of weight 0 differs; the larger of 3·10 and 25; and 10, 13 and 13 as they are
+weighedShow : List Shown
+unfolding changed finds tag
+weighedShow =
+    map changed (0 ∷ 0 ∷ 0 ∷ 32 ∷ [])
+    ++ (finds ((tag 1 ∷ 0 ∷ []) ∷ (tag 2 ∷ 111 ∷ []) ∷ [])
+    ∷ finds ((tag 2 ∷ 0 ∷ []) ∷ [])
+    ∷ changed 0
+    ∷ finds ((tag 1 ∷ 30 ∷ []) ∷ [])
+    ∷ changed 0
+    ∷ finds ((tag 1 ∷ 10 ∷ []) ∷ (tag 2 ∷ 13 ∷ []) ∷ (tag 3 ∷ 13 ∷ []) ∷ [])
+    ∷ [])
+
+weighedTable : trace (before scratch) weighedSteps ≡ weighedShow
+unfolding tableShows weighedSteps weighedShow
+weighedTable = refl
+
+weighedModel : modelTrace blankModel weighedSteps ≡ weighedShow
+unfolding modelShows weighedSteps weighedShow
+weighedModel = refl

@@ -9,6 +9,7 @@ use lib.Seq.{take-append-le}
 use Rattle.lists.specs.Lists.{All}
 use Rattle.metric_rules.specs.Row.{Row}
 use Rattle.metric_rules.specs.declared.Space.{Space}
+use Rattle.metric_rules.specs.Distance.{IsSpace}
 use Rattle.table_rules.specs.Geometry.{bucketsOf, tableRows}
 use Rattle.table_rules.specs.Table.{Table, orderOf, builtOf, liveOf, liveTotal}
 use Rattle.table_rules.proofs.Sizes.{size-room, sizes-at}
@@ -29,7 +30,7 @@ use Rattle.call_rules.specs.Calls.Begin.{fresh, load}
 use Rattle.call_rules.specs.Calls.Change.{add, remove, readList}
 use Rattle.call_rules.specs.Calls.Call.{begin, change, ask, write}
 use Rattle.history.specs.Trace.{Sums, noSums, plus, starting, begunSums, ifAccepted, counted, sumsAfter, beginShown, overlaid, leftBy}
-use Rattle.history.specs.Model.{Model, ListAnswered, itemOf, with, without, canChange, tagRefusal, itemRefusal, addRefusalOf, removeRefusalOf}
+use Rattle.history.specs.Model.{Model, ListAnswered, itemOf, with, without, canChange, tagRefusal, itemRefusal, addRefusalOf, removeRefusalOf, modelBegun}
 use Rattle.history.specs.History.{IsBegin, IsChange, IsCall}
 use Rattle.history.proofs.Invariant.{Invariant}
 use Rattle.history.proofs.RefinesItems.{Matches, live-total}
@@ -66,13 +67,13 @@ begin-paid {u} invariant live slots lives builts =
     record { within = omega (arith, held, same) }
 
 -- an accepted fresh and an accepted load
-fresh-paid : (left t : Table) (order : ℕ) (space : Space) → freshRefusal (length t) order space ≡ 0
+fresh-paid : (left t : Table) (order : ℕ) (space : Space) → IsSpace space → freshRefusal (length t) order space ≡ 0
     → Paid (leftBy left (freshTable order space t)) (starting (fresh order space))
-unfolding leftBy starting noSums
-fresh-paid left t order space e =
+unfolding leftBy starting noSums modelBegun
+fresh-paid left t order space is e =
     let u : Table = freshTable order space t in
-    let ok = freshable (length t) order space e in
-    let done = matches-fresh order space t e in
+    let ok = freshable (length t) order space (is .weights .four) e in
+    let done = matches-fresh order space t (is .weights .four) e in
     let none : below (builtOf u) (suc (orderOf u)) ≡ 0 =
     below-zero (builtOf u) (suc (orderOf u)) (λ k l. held-built (fresh-holds order space t (ok .long) k (omega (arith, l, fresh-order order space t))))
     in
@@ -80,7 +81,7 @@ fresh-paid left t order space e =
 
 load-paid : (left t : Table) (image : List ℕ) → All (λ b. b < 2 ^ 8) image → loadRefusal (length t) image ≡ 0
     → Paid (leftBy left (loadedTable image t)) (starting (load image))
-unfolding leftBy starting slotsIn slotsBefore below
+unfolding leftBy starting slotsIn slotsBefore below modelBegun
 load-paid left t image bytes e =
     let u : Table = loadedTable image t in
     let here = loaded image t (accepted (length t) image e) in
@@ -97,7 +98,7 @@ pub begun-paid : (left t : Table) (b : Begin) → IsBegin b → beginShown b (be
 unfolding beginShown tableAfterFresh tableAfterLoad
 begun-paid left t (fresh order space) is e =
     subst (λ (n : ℕ). Paid (leftBy left (elim n as (λ _. Table) [ zero ↦ freshTable order space t | suc j ↦ t ])) (starting (fresh order space))) (sym e)
-    (fresh-paid left t order space e)
+    (fresh-paid left t order space (is .1) e)
 begun-paid left t (load image) is e =
     subst (λ (n : ℕ). Paid (leftBy left (elim n as (λ _. Table) [ zero ↦ loadedTable image t | suc j ↦ t ])) (starting (load image))) (sym e)
     (load-paid left t image is e)

@@ -3,7 +3,7 @@
 use Prim.Native.Nat.{ℕ, zero, suc, _^_, _<_}
 use mathlib.Core.Path.{_≡_, refl, sym, _∙_, ap, ap₂, subst}
 use mathlib.Core.Bool.{Bool, true, false, not, false≢true}
-use mathlib.Core.List.{List, [], _∷_, map, List·Permᴰ, List·Permᴰ·cons, List·Permᴰ·trans, Permᴰ·symm}
+use mathlib.Core.List.{List, _∷_, map, List·Permᴰ, List·Permᴰ·cons, List·Permᴰ·trans, Permᴰ·symm}
 use mathlib.Core.Option.{Option, none, some}
 use native.Mathlib.Omega.{arith}
 use lib.Dec.{leb, eqb}
@@ -30,8 +30,7 @@ use Rattle.table_rules.specs.Remove.{removed}
 use Rattle.table_rules.proofs.Views.{same-order, same-space}
 use Rattle.table_rules.proofs.Changes.{fresh-order, fresh-space}
 use Rattle.table_rules.proofs.Live.{allLive}
-use Rattle.image_rules.specs.Read.{orderIn, spaceIn}
-use Rattle.image_rules.specs.Load.{loadRefusal, liveRows, loadedTable, tableAfterLoad}
+use Rattle.image_rules.specs.Load.{loadRefusal, loadedTable, tableAfterLoad}
 use Rattle.image_rules.proofs.Accepting.{accepted}
 use Rattle.image_rules.proofs.ReadTests.{reads-live}
 use Rattle.image_rules.proofs.Loaded.{loaded, loaded-reads}
@@ -62,21 +61,22 @@ items-live : (t : Table) → itemsIn t ≡ map itemOf (allLive t)
 unfolding itemsIn allLive
 items-live t = refl
 
-pub matches-fresh : (order : ℕ) (space : Space) (t : Table) → freshRefusal (length t) order space ≡ 0
-    → Matches (freshTable order space t) (record { order = order; space = space; items = [] })
-matches-fresh order space t h =
-    let ok : Freshable (length t) order space = freshable (length t) order space h in
+pub matches-fresh : (order : ℕ) (space : Space) (t : Table) → length (space .weights .each) ≡ 4 → freshRefusal (length t) order space ≡ 0
+    → Matches (freshTable order space t) (modelBegun (fresh order space))
+unfolding modelBegun
+matches-fresh order space t four h =
+    let ok : Freshable (length t) order space = freshable (length t) order space four h in
     record {
       invariant = invariant-fresh order space t ok;
       order = fresh-order order space t;
-      space = fresh-space order space t;
+      space = fresh-space order space t (ok .four);
       same = perm-of-eq (items-live (freshTable order space t) ∙ ap (map itemOf) (fresh-live order space t ok));
     }
 
 -- a loaded table matches the model that is fed the image
 pub load-matches : (image : List ℕ) (t : Table) → All (λ b. b < 2 ^ 8) image → loadRefusal (length t) image ≡ 0
-    → Matches (loadedTable image t) (record { order = orderIn image; space = spaceIn image; items = map itemOf (liveRows image) })
-unfolding itemsIn
+    → Matches (loadedTable image t) (modelBegun (load image))
+unfolding modelBegun itemsIn
 load-matches image t bytes h =
     let ok = accepted (length t) image h in
     let here = loaded image t ok in
@@ -171,19 +171,18 @@ module _ {t : Table} {m : Model} (ok : Matches t m) where
       }
 
 -- an accepted call that begins a table begins the model's, and a refused one leaves what lay there
-pub fresh-matches : (order : ℕ) (space : Space) (t : Table) → freshRefusal (length t) order space ≡ 0 → Matches (tableAfterFresh order space t) (modelBegun (fresh order space))
-unfolding tableAfterFresh modelBegun
-fresh-matches order space t e =
-    subst (λ (n : ℕ). Matches (elim n as (λ _. Table) [ zero ↦ freshTable order space t | suc j ↦ t ]) (record { order = order; space = space; items = [] })) (sym e)
-    (matches-fresh order space t e)
+pub fresh-matches : (order : ℕ) (space : Space) → length (space .weights .each) ≡ 4 → (t : Table) → freshRefusal (length t) order space ≡ 0
+    → Matches (tableAfterFresh order space t) (modelBegun (fresh order space))
+unfolding tableAfterFresh
+fresh-matches order space four t e =
+    subst (λ (n : ℕ). Matches (elim n as (λ _. Table) [ zero ↦ freshTable order space t | suc j ↦ t ]) (modelBegun (fresh order space))) (sym e)
+    (matches-fresh order space t four e)
 
 pub begin-matches : (b : Begin) → IsBegin b → (t : Table) → beginShown b (beginReply b (length t)) .refusal ≡ 0 → Matches (tableBegun b t) (modelBegun b)
-unfolding beginShown modelBegun tableAfterLoad
-begin-matches (fresh order space) is t e = fresh-matches order space t e
+unfolding beginShown tableAfterLoad
+begin-matches (fresh order space) is t e = fresh-matches order space (is .1 .weights .four) t e
 begin-matches (load image) is t e =
-    subst
-    (λ (n : ℕ). Matches (elim n as (λ _. Table) [ zero ↦ loadedTable image t | suc j ↦ t ])
-    (record { order = orderIn image; space = spaceIn image; items = map itemOf (liveRows image) })) (sym e)
+    subst (λ (n : ℕ). Matches (elim n as (λ _. Table) [ zero ↦ loadedTable image t | suc j ↦ t ]) (modelBegun (load image))) (sym e)
     (load-matches image t is e)
 
 pub begin-refused : (b : Begin) (t : Table) (n : ℕ) → beginShown b (beginReply b (length t)) .refusal ≡ suc n → tableBegun b t ≡ t

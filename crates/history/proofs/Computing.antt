@@ -4,13 +4,13 @@ use mathlib.Core.List.{flatten}
 use Rattle.lists.specs.Lists.{countFrom, total, select, every, alike, distinct, sameNumbers}
 use Rattle.metric_rules.specs.Row.{rowWidth, tagAt, measuresAt, codeAt, thresholdAt, markAt, zeroRow, word, wide, words, tagOf, profileOf, thresholdOf, markOf, isLive, measure, codeWord, rowOf, withThreshold, withMark}
 use Rattle.metric_rules.specs.Validity.{nationals, countryOf, nationalOf, lastCountry, lastNational, validTag, measureLimit, validMeasure, validMeasures}
-use Rattle.metric_rules.specs.Distance.{mostDistance, saturated, gap, measureDistance, differing, codeDistance, largest, worstDistance, distanceBy, distance, metricAt, spaceOf, lastMetric, validMetric}
+use Rattle.metric_rules.specs.Distance.{mostDistance, saturated, gap, weight, weighted, measureDistance, differing, codeDistance, largest, worstDistance, distanceBy, distance, metricAt, weightsAt, weightsOf, spaceOf, weightsOne, lastMetric, validMetric, mostWeight, validWeights}
 use Rattle.tree_rules.specs.Sorting.{keyLe, insertBy, sortBy}
 use Rattle.tree_rules.specs.Layout.{leftSize, costWithin, cost, rankedFrom, tagKey, placed, fromPivot, nearKey, lastDistance, split, node, layoutWithin, layout, isLayout}
 use Rattle.search_rules.specs.Range.{entry, entryDistance, entryKey, ordered, entersLeft, entersRight, nothing, both, toQuery, entryOf, isHit, visited, rangeWithin, rangeTree}
 use Rattle.search_rules.specs.Nearest.{keep, worst, opens, taken, enterHalf, enterHalves, nearestWithin, nearestTree}
 use Rattle.table_rules.specs.Geometry.{validOrder, room, bucketsOf, headerRow, sizesRow, firstSlot, tableRows, workRows}
-use Rattle.table_rules.specs.Table.{Table, rowAt, orderOf, tableSpace, builtOf, liveOf, inUse, liveTotal, slotsOf, liveSlots, pairRow, headerOf, putSizes, putBucket, emptied, cleared}
+use Rattle.table_rules.specs.Table.{Table, rowAt, orderOf, tableSpace, builtOf, liveOf, inUse, liveTotal, slotsOf, liveSlots, pairRow, withWeights, headerOf, putSizes, putBucket, emptied, cleared}
 use Rattle.table_rules.specs.Checks.{sizePasses, sizesPass, marksPass, frameRefusal, readRefusal, changeRefusal}
 use Rattle.table_rules.specs.Fresh.{freshRefusal, freshTable, tableAfterFresh}
 use Rattle.table_rules.specs.Rebuild.{liveItems, rebuilt}
@@ -18,9 +18,9 @@ use Rattle.table_rules.specs.Add.{addRefusal, emptyFrom, lowestEmpty, gathered,
 use Rattle.table_rules.specs.Remove.{removeRefusal, marked, united, rebuiltLower, shrunk, removed, removeReply, tableAfterRemove, workAfterRemove}
 use Rattle.table_rules.specs.LookUp.{placeFrom, placeIn, find, isLiveTag, lookUpRefusal, noProfile, notFound, lookUpReply}
 use Rattle.table_rules.specs.Search.{bucketsDown, rangeMet, rangeAnswer, nearestTally, nearestAnswer, fitRefusal, rangeRefusal, nearestRefusal, searchReply, zeroEntry, resultAfter, rangeReply, resultAfterRange, nearestReply, resultAfterNearest}
-use Rattle.image_rules.specs.Bytes.{bytesOf, numberOf, lastForm, validForm, writtenForm, startFields, headerFields, tagFields, recordFields, bytesOfFields, startBytes, headerBytes, tagBytes, recordBytes, sizeBytes, pairBytes, sizesEnd, tagWords, imageLength}
+use Rattle.image_rules.specs.Bytes.{bytesOf, numberOf, lastForm, validForm, writtenForm, startFields, weightFields, headerFields, tagFields, recordFields, bytesOfFields, startBytes, headerBytes, tagBytes, recordBytes, sizeBytes, pairBytes, sizesEnd, tagWords, imageLength}
 use Rattle.image_rules.specs.Write.{headerBytesOf, sizesOf, tagsOf, recordsOf, allSlots, imageAs, imageOf, writeRefusal, writeReply, imageAfterWrite}
-use Rattle.image_rules.specs.Read.{numberAt, fieldsAt, startNumbers, orderIn, spaceIn, formIn, builtIn, liveIn, slotsBefore, slotsIn, rowIn, bucketIn}
+use Rattle.image_rules.specs.Read.{numberAt, fieldsAt, startNumbers, orderIn, formIn, weightsAs, spaceIn, builtIn, liveIn, slotsBefore, slotsIn, rowIn, bucketIn}
 use Rattle.image_rules.specs.Load.{fieldsPass, bucketPasses, liveRows, slotsPass, loadRefusal, loadedTable, tableAfterLoad}
 use Rattle.text_rules.specs.Text.{onto, parted, partAt, partsIn, digitOf, isDigit, isNumeral, numeralAfter, numeral}
 use Rattle.text_rules.specs.Fields.{isNegative, unsigned, isMeasure, hundredths, measureIn}
@@ -37,20 +37,20 @@ unfoldable pub performed : (c : Call) → Table → Areas c → Performed c
 unfolding
     countFrom total select every flatten alike sameNumbers rowWidth tagAt measuresAt codeAt thresholdAt markAt zeroRow word wide words tagOf
     profileOf thresholdOf markOf measure codeWord rowOf withThreshold withMark nationals countryOf nationalOf lastCountry lastNational validTag
-    measureLimit validMeasure validMeasures mostDistance saturated gap measureDistance differing codeDistance largest worstDistance distanceBy distance
-    metricAt spaceOf lastMetric validMetric keyLe insertBy sortBy leftSize costWithin cost rankedFrom tagKey placed fromPivot nearKey lastDistance
+    measureLimit validMeasure validMeasures mostDistance saturated gap weight weighted measureDistance differing codeDistance largest worstDistance distanceBy distance
+    metricAt weightsAt weightsOf spaceOf weightsOne lastMetric validMetric mostWeight validWeights keyLe insertBy sortBy leftSize costWithin cost rankedFrom tagKey placed fromPivot nearKey lastDistance
     split node layoutWithin layout isLayout entry entryDistance entryKey ordered isLive entersLeft entersRight nothing
     both toQuery entryOf isHit visited rangeWithin rangeTree keep worst opens taken enterHalf enterHalves nearestWithin
     nearestTree validOrder room bucketsOf headerRow sizesRow firstSlot tableRows workRows rowAt
-    orderOf tableSpace builtOf liveOf inUse liveTotal slotsOf liveSlots pairRow headerOf putSizes putBucket emptied cleared
+    orderOf tableSpace builtOf liveOf inUse liveTotal slotsOf liveSlots pairRow withWeights headerOf putSizes putBucket emptied cleared
     sizePasses sizesPass marksPass frameRefusal readRefusal changeRefusal freshRefusal freshTable tableAfterFresh
     liveItems rebuilt addRefusal emptyFrom lowestEmpty gathered addBucket addTarget added addReply tableAfterAdd
     workAfterAdd removeRefusal marked united rebuiltLower shrunk removed removeReply tableAfterRemove workAfterRemove
     placeFrom placeIn find isLiveTag lookUpRefusal noProfile notFound lookUpReply bucketsDown rangeMet rangeAnswer
     nearestTally nearestAnswer fitRefusal rangeRefusal nearestRefusal searchReply zeroEntry resultAfter rangeReply
-    resultAfterRange nearestReply resultAfterNearest bytesOf numberOf lastForm validForm writtenForm startFields headerFields tagFields recordFields bytesOfFields startBytes headerBytes tagBytes
+    resultAfterRange nearestReply resultAfterNearest bytesOf numberOf lastForm validForm writtenForm startFields weightFields headerFields tagFields recordFields bytesOfFields startBytes headerBytes tagBytes
     recordBytes sizeBytes pairBytes sizesEnd tagWords imageLength headerBytesOf sizesOf tagsOf recordsOf allSlots imageAs imageOf writeRefusal
-    writeReply imageAfterWrite numberAt fieldsAt startNumbers orderIn spaceIn formIn builtIn liveIn slotsBefore slotsIn rowIn bucketIn
+    writeReply imageAfterWrite numberAt fieldsAt startNumbers orderIn formIn weightsAs spaceIn builtIn liveIn slotsBefore slotsIn rowIn bucketIn
     distinct fieldsPass bucketPasses liveRows slotsPass loadRefusal loadedTable tableAfterLoad onto parted partAt partsIn digitOf isDigit
     isNumeral numeralAfter numeral isNegative unsigned isMeasure hundredths measureIn listHeader hasHeader isItemLine itemTag itemProfile lineOf
     linesFrom linesOf itemLines stopped oneMore reading listReading readListReply tableAfterReadList workAfterReadList

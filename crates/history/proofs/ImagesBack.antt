@@ -103,10 +103,10 @@ module _ {t : Table} (invariant : Invariant t) (area other : Table) (image : Lis
 
 -- an accepted image is given back by writing the loaded table as a call
 pub accepted-gives-back : AcceptedGivesBack
-accepted-gives-back bytes other area image below h rows long =
+accepted-gives-back bytes other area image below form h rows long =
     let t = tableAfterLoad bytes other in
     let invariant : Invariant t = load-invariant bytes other below h in
-    let same : imageOf t ≡ bytes = accepted-image bytes other below h in
+    let same : imageOf t ≡ bytes = accepted-image bytes other below form h in
     let fits : tableRows (orderOf t) ≤ length area = rw (← load-reads bytes other h .order) rows in
     let room : length (imageOf t) ≤ length image = rw same long in
     record {

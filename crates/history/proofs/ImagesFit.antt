@@ -3,11 +3,10 @@ use Prim.Native.Nat.{ℕ, _≤_}
 use mathlib.Core.Path.{_≡_, sym, ap, ap₂, _∙_}
 use mathlib.Core.Bool.{true}
 use native.Mathlib.Omega.{arith}
-use borrow.Author.Tests.{le-leb}
 use Rattle.lists.specs.Lists.{every}
-use Rattle.lists.proofs.Tests.{and-second, and-pass, all-every}
-use Rattle.metric_rules.specs.Distance.{validSpace}
-use Rattle.metric_rules.proofs.Laws.{metric-byte}
+use Rattle.lists.proofs.Tests.{and-first, and-second, and-pass, all-every}
+use Rattle.metric_rules.specs.Distance.{validMetric, validSpace}
+use Rattle.metric_rules.proofs.Laws.{metric-byte, weight-byte}
 use Rattle.table_rules.specs.Geometry.{validOrder, room, tableRows}
 use Rattle.table_rules.specs.Table.{Table, orderOf, tableSpace, liveOf, slotsOf}
 use Rattle.table_rules.specs.Checks.{marksPass, liveSizeHolds, slotsMarked}
@@ -37,7 +36,8 @@ module _ {t : Table} (invariant : Invariant t) where
   invariant-fits =
       record {
         order = omega (arith, order-bound);
-        metric = omega (arith, metric-byte (tableSpace t) (invariant .space));
+        metric = omega (arith, metric-byte (tableSpace t) (and-first _ _ (invariant .space)));
+        weights = λ i. omega (arith, weight-byte (tableSpace t .weights) (and-second (validMetric (tableSpace t)) _ (invariant .space)) i);
         built = λ k h. omega (arith, invariant-sizes invariant k h .1, room-bound k h);
         live = λ k h. omega (arith, invariant-sizes invariant k h .0, invariant-sizes invariant k h .1, room-bound k h);
         slots = slots-length (invariant-roomy invariant);
@@ -58,7 +58,7 @@ module _ {t : Table} (invariant : Invariant t) where
   -- the form that is written is one that loads
   written-valid : (form : ℕ) → form ≡ writtenForm → validForm form ≡ true
   unfolding validForm lastForm writtenForm
-  written-valid form e = le-leb form 0 (omega (arith, e))
+  written-valid form e = ap validForm e
 
   -- the image of a sound table loads into any area that is long enough
   pub invariant-accepted : (rows : ℕ) → tableRows (orderOf t) ≤ rows → Accepted rows (imageOf t)
@@ -71,7 +71,8 @@ module _ {t : Table} (invariant : Invariant t) where
         space = ap validSpace (reads .space) ∙ invariant .space;
         form = written-valid (formIn (imageOf t)) form;
         sizes = reads-sizes reads ∙ invariant .sizes;
-        long = length-image-built t (slots-length (invariant-roomy invariant))
+        long =
+            length-image-built t (slots-length (invariant-roomy invariant))
             ∙ ap₂ (imageLength writtenForm) (sym order) (sym (reads-slots reads))
             ∙ ap (λ (f : ℕ). imageLength f (orderIn (imageOf t)) (slotsIn (imageOf t))) (sym form);
         roomy = rw order h;

@@ -1,7 +1,7 @@
 -- An accepted fresh brings the invariant about: the header as given, every bucket empty, and no live items.
 use Prim.Native.Nat.{ℕ, suc, _≤_}
 use mathlib.Core.Path.{_≡_, refl, sym, _∙_, ap, ap₂}
-use mathlib.Core.Bool.{Bool, true, false}
+use mathlib.Core.Bool.{true}
 use mathlib.Core.List.{List, [], _∷_, _++_, map, flatten}
 use native.Mathlib.Omega.{arith}
 use lib.Dec.{leb}
@@ -10,14 +10,16 @@ use borrow.Author.Tests.{leb-true}
 use Rattle.lists.specs.Lists.{distinct, select, All}
 use Rattle.metric_rules.specs.Row.{Row}
 use Rattle.metric_rules.specs.declared.Space.{Space}
-use Rattle.metric_rules.specs.Distance.{validSpace}
-use Rattle.table_rules.specs.Refusals.{badOrder, badMetric, shortArea}
+use Rattle.lists.proofs.Tests.{and-pass}
+use Rattle.metric_rules.specs.Distance.{validMetric, validWeights, validSpace}
+use Rattle.table_rules.specs.Refusals.{badOrder, badMetric, badWeight, shortArea}
 use Rattle.table_rules.specs.Geometry.{validOrder, bucketsOf, tableRows}
 use Rattle.table_rules.specs.Table.{Table, orderOf, liveSlots, headerOf}
 use Rattle.table_rules.specs.Checks.{sizePasses}
 use Rattle.table_rules.specs.Rebuild.{liveItems}
 use Rattle.table_rules.specs.Fresh.{freshRefusal, freshTable}
 use Rattle.table_rules.proofs.Puts.{held-built, held-live, held-live-slots}
+use Rattle.table_rules.proofs.Chains.{unless-zero}
 use Rattle.table_rules.proofs.Changes.{fresh-header, fresh-order, fresh-space, fresh-long, fresh-holds}
 use Rattle.table_rules.proofs.ByNumber.{all-count}
 use Rattle.table_rules.proofs.Live.{allLive}
@@ -30,20 +32,22 @@ use Rattle.history.proofs.InvariantForms.{by-bucket-invariant}
 pub record Freshable (rows order : ℕ) (space : Space) : Type 0 where
   pub ordered : validOrder order ≡ true
   pub spaced : validSpace space ≡ true
+  pub four : length (space .weights .each) ≡ 4
   pub long : tableRows order ≤ rows
 
-pub freshable : (rows order : ℕ) (space : Space) → freshRefusal rows order space ≡ 0 → Freshable rows order space
+pub freshable : (rows order : ℕ) (space : Space) → length (space .weights .each) ≡ 4 → freshRefusal rows order space ≡ 0 → Freshable rows order space
 unfolding freshRefusal
-freshable rows order space h = go (validOrder order) refl (validSpace space) refl (leb (tableRows order) rows) refl h
-  where
-    go :
-        (a : Bool) → validOrder order ≡ a → (b : Bool) → validSpace space ≡ b → (c : Bool) → leb (tableRows order) rows ≡ c
-        → _≡_ {A = ℕ} (elim a [ false ↦ badOrder | true ↦ elim b [ false ↦ badMetric | true ↦ elim c [ false ↦ shortArea | true ↦ 0 ] ] ]) 0
-        → Freshable rows order space
-    go false ea b eb c ec h = absurd (omega arith)
-    go true ea false eb c ec h = absurd (omega arith)
-    go true ea true eb false ec h = absurd (omega arith)
-    go true ea true eb true ec h = record { ordered = ea; spaced = eb; long = leb-true (tableRows order) rows ec }
+freshable rows order space four h =
+    let a = unless-zero (validOrder order) badOrder _ (omega arith) h in
+    let b = unless-zero (validMetric space) badMetric _ (omega arith) (a .1) in
+    let c = unless-zero (validWeights (space .weights)) badWeight _ (omega arith) (b .1) in
+    let d = unless-zero (leb (tableRows order) rows) shortArea 0 (omega arith) (c .1) in
+    record {
+      ordered = a .0;
+      spaced = and-pass (validMetric space) (validWeights (space .weights)) (b .0) (c .0);
+      four = four;
+      long = leb-true (tableRows order) rows (d .0);
+    }
 
 none-anywhere : (f : ℕ → List Row) (ks : List ℕ) → All (λ k. f k ≡ []) ks → flatten (map f ks) ≡ []
 unfolding flatten
@@ -61,9 +65,9 @@ module _ (order : ℕ) (space : Space) (t : Table) (ok : Freshable (length t) or
   stands =
       record {
         order = ap validOrder same ∙ ok .ordered;
-        space = ap validSpace (fresh-space order space t) ∙ ok .spaced;
+        space = ap validSpace (fresh-space order space t (ok .four)) ∙ ok .spaced;
         long = rw same (omega (arith, ok .long, fresh-long order space t (ok .long)));
-        header = fresh-header order space t ∙ ap₂ headerOf (sym same) (sym (fresh-space order space t));
+        header = fresh-header order space t ∙ ap₂ headerOf (sym same) (sym (fresh-space order space t (ok .four)));
         buckets = λ k h. record { slots = []; live = 0; held = fresh-holds order space t (ok .long) k (omega (arith, h, same)); good = good-none _ };
       }
 

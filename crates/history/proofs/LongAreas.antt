@@ -72,10 +72,10 @@ unfolding modelNearest ordered
 nearest-few m q k = omega (arith, length-take k (ordered (scanned m q)), sort-length entryKey (scanned m q), scanned-length m q)
 
 -- an accepted fresh
-pub fresh-served : (order : ℕ) (space : Space) (t : Table) (work : List Row) (result : List Entry) → freshRefusal (length t) order space ≡ 0
+pub fresh-served : (order : ℕ) (space : Space) → length (space .weights .each) ≡ 4 → (t : Table) (work : List Row) (result : List Entry) → freshRefusal (length t) order space ≡ 0
     → workRows order ≤ length work → room order ≤ length result → Served (tableAfterFresh order space t) work result (modelBegun (fresh order space))
 unfolding modelBegun
-fresh-served order space t work result e enough fit = record { matches = fresh-matches order space t e; work-long = enough; result-long = fit }
+fresh-served order space four t work result e enough fit = record { matches = fresh-matches order space four t e; work-long = enough; result-long = fit }
 
 module _ {t : Table} {work : List Row} {result : List Entry} {m : Model} (s : Served t work result m) where
   -- add and remove

@@ -10,16 +10,16 @@ use lib.Dec.{leb, eqb}
 use lib.ListN.{length}
 use native.Mathlib.Omega.{arith}
 use borrow.Author.Tests.{le-leb, lt-leb}
-use Rattle.lists.proofs.Tests.{and-first, and-pass}
+use Rattle.lists.proofs.Tests.{and-first, and-second, and-pass}
 use Rattle.metric_rules.specs.declared.Profile.{Profile}
 use Rattle.metric_rules.specs.Row.{Row}
 use Rattle.metric_rules.specs.Validity.{validTag, validMeasures}
-use Rattle.metric_rules.specs.Distance.{validSpace}
+use Rattle.metric_rules.specs.Distance.{validMetric, validWeights}
 use Rattle.search_rules.specs.Range.{Entry}
 use Rattle.table_rules.specs.Refusals.{badTag, badMeasure, noCount, noRoom, alreadyLive, notLive, full, shortArea, badTable, unless, when, orElse}
 use Rattle.table_rules.specs.Geometry.{validOrder, room, tableRows, workRows, firstSlot}
-use Rattle.table_rules.specs.Table.{Table, orderOf, tableSpace, liveTotal}
-use Rattle.table_rules.specs.Checks.{marksPass, frameRefusal, headerPasses, readRefusal, changeRefusal}
+use Rattle.table_rules.specs.Table.{Table, orderOf, tableSpace, builtOf, liveOf, liveTotal}
+use Rattle.table_rules.specs.Checks.{sizesPass, marksPass, frameRefusal, headerPasses, readRefusal, changeRefusal}
 use Rattle.table_rules.specs.Add.{addRefusal}
 use Rattle.table_rules.specs.Remove.{removeRefusal}
 use Rattle.table_rules.specs.LookUp.{Place, find, isLiveTag, liveTagRefusal, lookUpRefusal}
@@ -34,7 +34,7 @@ use Rattle.history.proofs.RefinesItems.{Matches, range-alike, nearest-a
 pub record Short (t : Table) (m : Model) : Type 0 where
   pub short : length t < tableRows (m .order)
   pub order : validOrder (m .order) ≡ true
-  pub header : 0 < length t → (orderOf t ≡ m .order) × (validSpace (tableSpace t) ≡ true)
+  pub header : 0 < length t → (orderOf t ≡ m .order) × (validMetric (tableSpace t) ≡ true)
 
 pub rows-some : (order : ℕ) → 0 < tableRows order
 unfolding tableRows firstSlot
@@ -47,7 +47,7 @@ invariant-frame [] invariant = absurd (omega (arith, invariant .long, rows-some 
 invariant-frame (r ∷ rs) invariant =
     let t = r ∷ rs in
     ap (λ (b : Bool). unless b badTable (unless (leb (tableRows (orderOf t)) (length t)) shortArea 0))
-    (and-pass (validOrder (orderOf t)) (validSpace (tableSpace t)) (invariant .order) (invariant .space))
+    (and-pass (validOrder (orderOf t)) (validMetric (tableSpace t)) (invariant .order) (and-first _ _ (invariant .space)))
     ∙ ap (λ (b : Bool). unless b shortArea 0) (le-leb (tableRows (orderOf t)) (length t) (invariant .long))
 
 -- 23 for one that is too short
@@ -59,21 +59,26 @@ short-frame (r ∷ rs) m s =
     let header = s .header (omega arith) in
     let order : validOrder (orderOf t) ≡ true = ap validOrder (header .0) ∙ s .order in
     let long : leb (tableRows (orderOf t)) (length t) ≡ false = ap (λ (n : ℕ). leb (tableRows n) (length t)) (header .0) ∙ lt-leb (tableRows (m .order)) (length t) (s .short) in
-    ap (λ (b : Bool). unless b badTable (unless (leb (tableRows (orderOf t)) (length t)) shortArea 0)) (and-pass (validOrder (orderOf t)) (validSpace (tableSpace t)) order (header .1))
+    ap (λ (b : Bool). unless b badTable (unless (leb (tableRows (orderOf t)) (length t)) shortArea 0)) (and-pass (validOrder (orderOf t)) (validMetric (tableSpace t)) order (header .1))
     ∙ ap (λ (b : Bool). unless b shortArea 0) long
 
 -- behind the frame a sound table is stopped by a short work area alone
+header-sound : (t : Table) → Invariant t → headerPasses t ≡ true
+header-sound t invariant =
+    and-pass (validWeights (tableSpace t .weights)) (sizesPass (orderOf t) (builtOf t) (liveOf t))
+    (and-second (validMetric (tableSpace t)) _ (invariant .space)) (invariant .sizes)
+
 pub invariant-reads : (t : Table) → Invariant t → readRefusal t ≡ 0
 unfolding readRefusal
 invariant-reads t invariant =
-    ap (λ (n : ℕ). orElse n (unless (headerPasses t) badTable 0)) (invariant-frame t invariant) ∙ ap (λ (b : Bool). unless b badTable 0) (invariant .sizes)
+    ap (λ (n : ℕ). orElse n (unless (headerPasses t) badTable 0)) (invariant-frame t invariant) ∙ ap (λ (b : Bool). unless b badTable 0) (header-sound t invariant)
 
 pub invariant-changes : (rows : ℕ) (t : Table) → Invariant t → changeRefusal rows t ≡ unless (leb (workRows (orderOf t)) rows) shortArea 0
 unfolding changeRefusal
 invariant-changes rows t invariant =
     let roomy : Bool = leb (workRows (orderOf t)) rows in
     ap (λ (n : ℕ). orElse n (unless roomy shortArea (unless (headerPasses t) badTable (unless (marksPass t) badTable 0)))) (invariant-frame t invariant)
-    ∙ ap₂ (λ (a b : Bool). unless roomy shortArea (unless a badTable (unless b badTable 0))) (invariant .sizes) (invariant .marks)
+    ∙ ap₂ (λ (a b : Bool). unless roomy shortArea (unless a badTable (unless b badTable 0))) (header-sound t invariant) (invariant .marks)
 
 asked : (here model : Bool) → here ≡ model → unless here shortArea 0 ≡ unless model shortArea 0
 asked here model e = ap (λ (b : Bool). unless b shortArea 0) e

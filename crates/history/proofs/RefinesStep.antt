@@ -9,7 +9,8 @@ use lib.Seq.{take-take, take-append-le}
 use native.Mathlib.Nat.{lt-of-not-le}
 use native.Mathlib.Omega.{arith}
 use native.Mathlib.Decide.{decLe}
-use Rattle.metric_rules.specs.Distance.{validSpace}
+use Rattle.lists.proofs.Tests.{and-first}
+use Rattle.metric_rules.specs.Distance.{validMetric}
 use Rattle.table_rules.specs.Geometry.{validOrder, tableRows, headerRow}
 use Rattle.table_rules.specs.Table.{Table, rowAt, orderOf}
 use Rattle.table_rules.proofs.Views.{SameHeader, same-order, same-space}
@@ -52,7 +53,7 @@ overlaid-lendable {left} {m} ok area =
             order = ap validOrder (sym (ok .order)) ∙ ok .invariant .order;
             header = λ some.
                 let same = overlaid-header left area (omega (arith, rows-some (orderOf left))) (omega arith) in
-                (same-order same ∙ ok .order, ap validSpace (same-space same) ∙ ok .invariant .space);
+                (same-order same ∙ ok .order, ap validMetric (same-space same) ∙ and-first _ _ (ok .invariant .space));
           }))
     ]
 

@@ -13,13 +13,13 @@ use Rattle.table_rules.specs.LookUp.{notFound, lookUpReply}
 use Rattle.call_rules.specs.Calls.{Call, Areas}
 use Rattle.call_rules.specs.Calls.Call.{write}
 use Rattle.history.proofs.Computing.{performed}
-use Rattle.history.proofs.Running.{fresh, load, add, remove, readList, lookUp, range, nearest, by, tag, valued, areasFor, areaRows, replyNumbers, listOf, itemLine, table}
+use Rattle.history.proofs.Running.{fresh, load, add, remove, readList, lookUp, range, nearest, weighing, by, tag, valued, areasFor, areaRows, replyNumbers, listOf, itemLine, table}
 
 -- the table of the four items, written out, so that no try works it out again; and that it is theirs
 laid : Table
 unfolding rowOf tag valued zeroRow pairRow
 laid =
-    (pairRow 2 0 ∷ zeroRow ∷ zeroRow ∷ pairRow 4 4 ∷ zeroRow ∷ zeroRow ∷ zeroRow ∷ [])
+    ((2 ∷ 0 ∷ 1 ∷ 1 ∷ 1 ∷ 1 ∷ replicate 6 0) ∷ zeroRow ∷ zeroRow ∷ pairRow 4 4 ∷ zeroRow ∷ zeroRow ∷ zeroRow ∷ [])
     ++ (rowOf (tag 1) (valued 10) 3 0 ∷ rowOf (tag 2) (valued 13) 0 0 ∷ rowOf (tag 3) (valued 13) 0 0 ∷ rowOf (tag 4) (valued 20) 0 0 ∷ [])
     ++ replicate 10 (replicate rowWidth 6)
 
@@ -82,10 +82,14 @@ noList n line = n ∷ line ∷ 0 ∷ 0 ∷ []
 below : Profile
 below = record { measures = pos 0 ∷ pos 0 ∷ pos 0 ∷ negsuc 1_000_000 ∷ []; code = 0 ∷ 0 ∷ [] }
 
--- that table with another header; other sizes in bucket 2, or a fifth live item in bucket 0; and a mark that is neither 0 nor 1
+-- that table with another header, of weights 0 or of a largest weight; other sizes in bucket 2, or a fifth live item in bucket 0; and a mark that is neither 0 nor 1
 headed : ℕ → ℕ → Table
 unfolding pairRow laid
 headed order metric = set laid 0 (pairRow order metric)
+
+weighted : ℕ → ℕ → Table
+unfolding laid
+weighted metric most = set laid 0 (2 ∷ metric ∷ 0 ∷ 1 ∷ 100 ∷ most ∷ replicate 6 0)
 
 sized : ℕ → ℕ → ℕ → Table
 unfolding putSizes laid
@@ -96,7 +100,7 @@ unfolding withMark rowAt firstSlot laid
 misMarked = let at = firstSlot 2 2 + 1 in set laid at (withMark 2 (rowAt laid at))
 
 tries : List Try
-unfolding on laid tag valued below headed sized misMarked listOf itemLine
+unfolding on laid tag valued below headed weighted sized misMarked listOf itemLine
 tries =
     on laid (add (10 ^ 12) (valued 1_000_001))
     ∷ on laid (add 999_999_999_999 (valued 1_000_001))
@@ -106,13 +110,19 @@ tries =
     ∷ on laid (range below 0)
     ∷ on laid (nearest below 0)
     ∷ on laid (fresh 13 (by 3))
-    ∷ on laid (fresh 12 (by 3))
+    ∷ on laid (fresh 12 (weighing 3 (101 ∷ 0 ∷ 0 ∷ 0 ∷ [])))
+    ∷ on laid (fresh 12 (weighing 1 (0 ∷ 100 ∷ 0 ∷ 101 ∷ [])))
+    ∷ on laid (fresh 12 (weighing 1 (0 ∷ 100 ∷ 0 ∷ 100 ∷ [])))
     ∷ on laid (nearest (valued 0) 0)
     ∷ on laid write
     ∷ on laid (load (0 ∷ 0 ∷ 0 ∷ []))
-    ∷ on laid (load (13 ∷ 3 ∷ 1 ∷ 0 ∷ []))
-    ∷ on laid (load (0 ∷ 3 ∷ 1 ∷ 0 ∷ []))
-    ∷ on laid (load (0 ∷ 2 ∷ 1 ∷ 0 ∷ []))
+    ∷ on laid (load (13 ∷ 3 ∷ 2 ∷ 0 ∷ []))
+    ∷ on laid (load (0 ∷ 3 ∷ 2 ∷ 0 ∷ []))
+    ∷ on laid (load (0 ∷ 2 ∷ 2 ∷ 0 ∷ []))
+    ∷ on laid (load (0 ∷ 2 ∷ 0 ∷ 1 ∷ []))
+    ∷ on laid (load (0 ∷ 2 ∷ 1 ∷ 0 ∷ 101 ∷ 0 ∷ 0 ∷ []))
+    ∷ on laid (load (0 ∷ 1 ∷ 1 ∷ 0 ∷ 0 ∷ 0 ∷ 0 ∷ 101 ∷ []))
+    ∷ on laid (load (0 ∷ 1 ∷ 1 ∷ 0 ∷ 100 ∷ 100 ∷ 100 ∷ 100 ∷ []))
     ∷ on laid (load (0 ∷ 0 ∷ 0 ∷ 0 ∷ 1 ∷ 0 ∷ 0 ∷ []))
     ∷ on laid (load (0 ∷ 0 ∷ 0 ∷ 0 ∷ 1 ∷ 0 ∷ 0 ∷ 0 ∷ []))
     ∷ on laid (load (0 ∷ 0 ∷ 0 ∷ 0 ∷ 1 ∷ 0 ∷ 1 ∷ 0 ∷ []))
@@ -129,6 +139,10 @@ tries =
     ∷ on (take 1 (headed 13 0)) (remove 0)
     ∷ on (headed 2 3) (range below 0)
     ∷ on (headed 2 2) (range below 0)
+    ∷ on (take 10 (weighted 1 101)) (lookUp 0)
+    ∷ on (weighted 1 101) (lookUp 0)
+    ∷ on (weighted 1 100) (lookUp 0)
+    ∷ on (weighted 0 4_294_967_295) (add 0 below)
     ∷ on (sized 2 4 1) (lookUp 0)
     ∷ on (sized 0 1 1) write
     ∷ on misMarked (add 0 below)
@@ -155,12 +169,18 @@ expected =
     ∷ noSearch 2
     ∷ number 3
     ∷ number 4
+    ∷ number 32
+    ∷ number 23
     ∷ noSearch 5
     ∷ noImage 6
     ∷ number 7
     ∷ number 3
     ∷ number 4
     ∷ number 8
+    ∷ number 8
+    ∷ number 7
+    ∷ number 32
+    ∷ number 7
     ∷ number 7
     ∷ number 24
     ∷ number 7
@@ -177,6 +197,10 @@ expected =
     ∷ noRemove 24
     ∷ noSearch 24
     ∷ noSearch 2
+    ∷ noProfile 23
+    ∷ noProfile 24
+    ∷ noProfile 1
+    ∷ noAdd 24
     ∷ noProfile 24
     ∷ noImage 24
     ∷ noAdd 24

@@ -1,7 +1,7 @@
 -- How a worked line is run: calls on one table in roomy areas, each with its reply as numbers, and what a bucket holds afterwards.
 use Prim.Native.Nat.{ℕ, _+_, _*_, _/_, _%_}
 use mathlib.Core.List.{List, [], _∷_, _++_, map, flatten}
-use lib.IntN.{pos}
+use lib.IntN.{ℤ, pos}
 use lib.ListN.{replicate, take}
 use Rattle.metric_rules.specs.declared.Profile.{Profile}
 use Rattle.metric_rules.specs.Row.{rowWidth, tagOf, thresholdOf, markOf}
@@ -14,9 +14,12 @@ use Rattle.call_rules.specs.Calls.{Begin, BeginReply, Change, ChangeReply, Ask,
 use Rattle.call_rules.specs.Calls.Call.{begin, change, ask, write}
 use Rattle.history.proofs.Computing.{performed}
 
--- what distances depend on, by a metric's number
+-- what distances depend on, by a metric's number: with these weights, or with weights 1
+abbrev pub weighing : ℕ → List ℕ → Space
+weighing metric each = record { metric = metric; weights = record { each = each } }
+
 abbrev pub by : ℕ → Space
-by metric = record { metric = metric }
+by metric = weighing metric (1 ∷ 1 ∷ 1 ∷ 1 ∷ [])
 
 -- country 36, and the first measure only
 unfoldable pub tag : ℕ → ℕ
@@ -25,6 +28,10 @@ tag n = 36 * nationals + n
 
 unfoldable pub valued : ℕ → Profile
 valued v = record { measures = pos v ∷ pos 0 ∷ pos 0 ∷ pos 0 ∷ []; code = 0 ∷ 0 ∷ [] }
+
+-- all four measures
+unfoldable pub measured : ℤ → ℤ → ℤ → ℤ → Profile
+measured a b c d = record { measures = a ∷ b ∷ c ∷ d ∷ []; code = 0 ∷ 0 ∷ [] }
 
 -- the calls, each as one of its group
 abbrev pub fresh : ℕ → Space → Call

@@ -1,18 +1,20 @@
--- Searches worked by hand from RULES 11: equal bounds, dead and foreign slots, the three metrics, ties of tag and of rank, and the largest distance.
+-- Searches worked by hand from RULES 11: equal bounds, dead and foreign slots, the three metrics, weights, ties of tag and of rank, and the largest
+-- distance.
 -- Each is a run that antt computes. A reply is refusal, found, distances and then each entry's tag and distance.
 use Prim.Native.Nat.{ℕ, _+_, _-_, _*_, _^_}
 use mathlib.Core.Path.{_≡_, refl}
 use mathlib.Core.List.{List, [], _∷_, map}
 use lib.IntN.{ℤ, pos, negsuc}
-use lib.ListN.{set}
+use lib.ListN.{set, replicate}
 use Rattle.metric_rules.specs.declared.Profile.{Profile}
 use Rattle.metric_rules.specs.Row.{Row, word, rowOf, tagOf, thresholdOf, withThreshold, withMark}
 use Rattle.metric_rules.specs.Validity.{nationals}
-use Rattle.metric_rules.specs.Distance.{distance, measureDistance, largest, worstDistance}
+use Rattle.metric_rules.specs.declared.Space.{Space}
+use Rattle.metric_rules.specs.Distance.{mostDistance, saturated, gap, weight, weighted, distance, measureDistance, codeDistance, largest, worstDistance, weightsOne}
 use Rattle.tree_rules.specs.Layout.{layout}
 use Rattle.table_rules.specs.Geometry.{firstSlot}
 use Rattle.table_rules.specs.Table.{Table, rowAt}
-use Rattle.history.proofs.Running.{fresh, add, lookUp, range, nearest, by, tag, valued, scratch, replies, after, removing, table}
+use Rattle.history.proofs.Running.{fresh, add, lookUp, range, nearest, weighing, by, tag, valued, measured, scratch, replies, after, removing, table}
 
 -- four items in one tree of order 2, by their nationals and values
 four : ℕ → ℕ → ℕ → ℕ → ℕ → ℕ → ℕ → ℕ → Table
@@ -38,9 +40,6 @@ tagIn : ℕ → ℕ → ℕ
 unfolding nationals
 tagIn country national = country * nationals + national
 
-measured : ℤ → ℤ → ℤ → ℤ → Profile
-measured a b c d = record { measures = a ∷ b ∷ c ∷ d ∷ []; code = 0 ∷ 0 ∷ [] }
-
 -- metric 2: all zero, and differences of 3, 5, 7 and 1
 worsts : Table
 unfolding after scratch tag measured
@@ -51,13 +50,28 @@ worsts =
     ∷ add (tag 2) (measured (pos 3) (pos 5) (negsuc 6) (pos 1))
     ∷ [])
 
+-- weights 3, 1, 0 and 100: of the same differences 9, 5, 0 and 100 count
+weighed : ℕ → Table
+unfolding after scratch tag measured
+weighed metric =
+    after scratch
+    (fresh 1 (weighing metric (3 ∷ 1 ∷ 0 ∷ 100 ∷ []))
+    ∷ add (tag 1) (measured (pos 0) (pos 0) (pos 0) (pos 0))
+    ∷ add (tag 2) (measured (pos 3) (pos 5) (negsuc 6) (pos 1))
+    ∷ [])
+
+-- each stands at its place in the header row, behind order and metric
+weightsPlaced : rowAt (weighed 2) 0 ≡ 1 ∷ 2 ∷ 3 ∷ 1 ∷ 0 ∷ 100 ∷ replicate 6 0
+unfolding weighed rowAt
+weightsPlaced = refl
+
 -- two countries: national 9 of country 36 at 10, and national 1 of country 840 at 30
 countries : Table
 unfolding after scratch valued tagIn
 countries = after scratch (fresh 1 (by 0) ∷ add (tagIn 36 9) (valued 10) ∷ add (tagIn 840 1) (valued 30) ∷ [])
 
 searches : List (List (List ℕ))
-unfolding replies after scratch table four foreign coded codes measured worsts countries valued tag removing withThreshold withMark
+unfolding replies after scratch table four foreign coded codes measured worsts weighed countries valued tag removing withThreshold withMark
 searches =
     replies table (range (valued 0) 4_294_967_295 ∷ nearest (valued 0) 9 ∷ nearest (valued 13) 2 ∷ [])
     ∷ replies (after scratch (fresh 2 (by 0) ∷ [])) (range (valued 0) 5 ∷ nearest (valued 0) 5 ∷ [])
@@ -71,6 +85,8 @@ searches =
     ∷ replies codes
     (range (coded 0 0) 64 ∷ range (coded 0 0) 65 ∷ nearest (coded (2 ^ 64 - 1) (2 ^ 64 - 1)) 1 ∷ [])
     ∷ replies worsts (range (valued 0) 6 ∷ range (valued 0) 7 ∷ nearest (measured (negsuc 3) (pos 5) (pos 0) (pos 0)) 1 ∷ [])
+    ∷ replies (weighed 0) (range (valued 0) 113 ∷ range (valued 0) 114 ∷ nearest (measured (pos 3) (pos 5) (pos 100) (pos 1)) 1 ∷ [])
+    ∷ replies (weighed 2) (range (valued 0) 99 ∷ range (valued 0) 100 ∷ nearest (measured (pos 3) (pos 5) (pos 100) (pos 1)) 1 ∷ [])
     ∷ replies countries (range (valued 20) 10 ∷ nearest (valued 20) 1 ∷ [])
     ∷ []
 
@@ -101,6 +117,10 @@ worked :
     ∷ ((0 ∷ 1 ∷ 2 ∷ tag 1 ∷ 0 ∷ []) ∷ (0 ∷ 2 ∷ 2 ∷ tag 1 ∷ 0 ∷ tag 2 ∷ 65 ∷ []) ∷ (0 ∷ 1 ∷ 2 ∷ tag 2 ∷ 63 ∷ []) ∷ [])
     -- metric 2: 7 is the largest of 3, 5, 7 and 1; from -4, 5, 0, 0 it is 5 to the zeros and 7 to the other
     ∷ ((0 ∷ 1 ∷ 2 ∷ tag 1 ∷ 0 ∷ []) ∷ (0 ∷ 2 ∷ 2 ∷ tag 1 ∷ 0 ∷ tag 2 ∷ 7 ∷ []) ∷ (0 ∷ 1 ∷ 2 ∷ tag 1 ∷ 5 ∷ []) ∷ [])
+    -- weights by metric 0: 9 + 5 + 0 + 100; a difference of weight 0 is none, so another profile is at 0
+    ∷ ((0 ∷ 1 ∷ 2 ∷ tag 1 ∷ 0 ∷ []) ∷ (0 ∷ 2 ∷ 2 ∷ tag 1 ∷ 0 ∷ tag 2 ∷ 114 ∷ []) ∷ (0 ∷ 1 ∷ 2 ∷ tag 2 ∷ 0 ∷ []) ∷ [])
+    -- weights by metric 2: 100 is the largest of 9, 5, 0 and 100
+    ∷ ((0 ∷ 1 ∷ 2 ∷ tag 1 ∷ 0 ∷ []) ∷ (0 ∷ 2 ∷ 2 ∷ tag 1 ∷ 0 ∷ tag 2 ∷ 100 ∷ []) ∷ (0 ∷ 1 ∷ 2 ∷ tag 2 ∷ 0 ∷ []) ∷ [])
     -- both at 10: the smaller tag is first, though its national is the larger one
     ∷ ((0 ∷ 2 ∷ 2 ∷ 36_000_000_000_009 ∷ 10 ∷ 840_000_000_000_001 ∷ 10 ∷ []) ∷ (0 ∷ 1 ∷ 2 ∷ 36_000_000_000_009 ∷ 10 ∷ []) ∷ [])
     ∷ [])
@@ -113,11 +133,11 @@ ties :
     map (λ row. tagOf row ∷ thresholdOf row ∷ word row 2 ∷ [])
     (layout (distance (by 0)) (rowOf 5 (valued 0) 0 0 ∷ rowOf 7 (valued 2) 0 0 ∷ rowOf 9 (valued 50) 0 0 ∷ rowOf 7 (valued 1) 0 0 ∷ []))
     ≡ (5 ∷ 2 ∷ 0 ∷ []) ∷ (7 ∷ 1 ∷ 2 ∷ []) ∷ (7 ∷ 0 ∷ 1 ∷ []) ∷ (9 ∷ 0 ∷ 50 ∷ []) ∷ []
-unfolding tagOf thresholdOf word layout distance rowOf valued
+unfolding tagOf thresholdOf word layout distance measureDistance weighted weight gap saturated mostDistance rowOf valued
 ties = refl
 
 -- the ends of 32 bits, by metrics 0 and 2: one difference of 2^32 - 1 is itself, two of 2^31 are one too many for a sum, and four of the largest
--- far too many; the largest difference always fits
+-- far too many; the largest difference always fits. With weight 2 a difference of 2^31 is one too many by itself
 ends : (Profile → Profile → ℕ) → List ℕ
 unfolding measured
 ends between =
@@ -131,21 +151,22 @@ ends between =
     ∷ []
 
 saturates :
-    (ends measureDistance ≡ 4_294_967_295 ∷ 4_294_967_295 ∷ 4_294_967_295 ∷ 4_294_967_295 ∷ [])
-    × (ends worstDistance ≡ 4_294_967_295 ∷ 2_147_483_648 ∷ 4_294_967_295 ∷ 2_147_483_648 ∷ [])
-unfolding ends measureDistance worstDistance largest
-saturates = (refl, refl)
+    (ends (measureDistance weightsOne) ≡ 4_294_967_295 ∷ 4_294_967_295 ∷ 4_294_967_295 ∷ 4_294_967_295 ∷ [])
+    × (ends (worstDistance weightsOne) ≡ 4_294_967_295 ∷ 2_147_483_648 ∷ 4_294_967_295 ∷ 2_147_483_648 ∷ [])
+    × (ends (worstDistance (record { each = 1 ∷ 1 ∷ 2 ∷ 0 ∷ [] })) ≡ 4_294_967_295 ∷ 4_294_967_295 ∷ 4_294_967_295 ∷ 4_294_967_294 ∷ [])
+unfolding ends measureDistance worstDistance weighted weight weightsOne gap saturated mostDistance largest
+saturates = (refl, refl, refl)
 
 -- Four different measures and both code words, by each metric. From the first profile the measures of the others differ by 1, 20, 300 and 4,000, each
 -- measure by each of them in turn; their codes differ in no bit, in one, in the 64 of the second word, and in 64 of the first and one of the second
 profiled : ℤ → ℤ → ℤ → ℤ → ℕ → ℕ → Profile
 profiled a b c d first second = record { measures = a ∷ b ∷ c ∷ d ∷ []; code = first ∷ second ∷ [] }
 
-apart : ℕ → List ℕ
-unfolding distance worstDistance largest profiled
-apart metric =
+apart : Space → List ℕ
+unfolding distance measureDistance worstDistance codeDistance weighted weight gap saturated mostDistance largest profiled
+apart space =
     let p = profiled (pos 50) (negsuc 9) (pos 7) (negsuc 499) 5 0 in
-    map (distance (by metric) p)
+    map (distance space p)
     (profiled (pos 51) (pos 10) (pos 307) (pos 3_500) 5 0
     ∷ profiled (pos 4_050) (negsuc 10) (negsuc 12) (negsuc 199) 4 0
     ∷ profiled (negsuc 249) (pos 3_990) (pos 6) (negsuc 519) 5 (2 ^ 64 - 1)
@@ -153,7 +174,14 @@ apart metric =
     ∷ [])
 
 allMeasures :
-    map apart (0 ∷ 1 ∷ 2 ∷ [])
+    map (λ metric. apart (by metric)) (0 ∷ 1 ∷ 2 ∷ [])
     ≡ (4_321 ∷ 4_321 ∷ 4_321 ∷ 4_321 ∷ []) ∷ (0 ∷ 1 ∷ 64 ∷ 65 ∷ []) ∷ (4_000 ∷ 4_000 ∷ 4_000 ∷ 4_000 ∷ []) ∷ []
 unfolding apart
 allMeasures = refl
+
+-- the same with four different weights: 3, 20, 0, 400,000; then 12,000, 1, 0, 30,000; 900, 4,000, 0, 2,000; and 60, 300, 0, 100. Metric 1 knows no weights
+allWeights :
+    map (λ metric. apart (weighing metric (3 ∷ 1 ∷ 0 ∷ 100 ∷ []))) (0 ∷ 1 ∷ 2 ∷ [])
+    ≡ (400_023 ∷ 42_001 ∷ 6_900 ∷ 460 ∷ []) ∷ (0 ∷ 1 ∷ 64 ∷ 65 ∷ []) ∷ (400_000 ∷ 30_000 ∷ 4_000 ∷ 300 ∷ []) ∷ []
+unfolding apart
+allWeights = refl

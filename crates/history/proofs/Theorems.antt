@@ -1,9 +1,14 @@
 -- The demands of `specs/Demands`, proved for every list of calls, every lent area and every image.
-use Rattle.metric_rules.proofs.Laws.{distance-metric}
+use mathlib.Core.Path.{refl}
+use Rattle.lists.specs.Lists.{total}
+use Rattle.metric_rules.specs.Distance.{distance}
+use Rattle.metric_rules.proofs.Laws.{distance-metric, ones-sum, ones-worst, worst-exact}
 use Rattle.table_rules.proofs.Visits.{range-visits}
 use Rattle.table_rules.proofs.Keeping.{nearest-size}
 use Rattle.table_rules.specs.Table.{liveSlots}
-use Rattle.history.specs.Demands.{CountsVisits, KeepsEnough, AnswersAscend, AnyDistance, EachMetric, EveryList, EveryReport, WrittenLoads}
+use Rattle.image_rules.specs.Bytes.{startFields, startBytes}
+use Rattle.image_rules.proofs.Translating.{translates}
+use Rattle.history.specs.Demands.{CountsVisits, KeepsEnough, AnswersAscend, AnyDistance, EachMetric, WeightsOne, EveryList, EveryReport, WrittenLoads, OlderTranslates}
 use Rattle.history.proofs.AnyDistance.{tree-facts}
 use Rattle.history.proofs.RefinesHistory.{history-traces, history-matches, history-represents}
 use Rattle.history.proofs.AmortizedHistory.{history-bound}
@@ -29,6 +34,10 @@ any-distance dist laws = tree-facts dist laws
 pub each-metric : EachMetric
 each-metric = distance-metric
 
+pub weights-one : WeightsOne
+unfolding distance
+weights-one p q = (ones-sum p q, ones-worst p q, worst-exact p q, λ weights. refl)
+
 pub every-list : EveryList
 every-list h = record { traces = history-traces h; represents = history-represents h; bound = history-bound h }
 
@@ -37,3 +46,7 @@ every-report = reports
 
 pub written-loads : WrittenLoads
 written-loads = written-loads-where history-matches
+
+pub older-translates : OlderTranslates
+unfolding startBytes startFields total
+older-translates = translates

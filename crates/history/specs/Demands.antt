@@ -4,22 +4,25 @@
 -- Demand 1. Every call, for every input and every lent area, replies and leaves what the rules say: the refusal that comes first in their order
 -- and only under its condition, and every reply, count and area. It is the contract of each public call, which has no `requires` and is an equation with
 -- the definitions of `call_rules`: `replyTo`, `tableAfter` and `areasAfter` are these, for all calls.
-use Prim.Native.Nat.{ℕ, _^_, _≤_, _<_, min}
+use Prim.Native.Nat.{ℕ, _+_, _^_, _≤_, _<_, min}
 use mathlib.Core.Path.{_≡_}
 use mathlib.Core.List.{List, map}
 use lib.ListN.{length}
 use Rattle.lists.specs.Lists.{total, All}
 use Rattle.metric_rules.specs.declared.Profile.{Profile}
-use Rattle.metric_rules.specs.Row.{Row}
+use Rattle.metric_rules.specs.Row.{Row, IsProfile}
 use Rattle.metric_rules.specs.declared.Space.{Space}
-use Rattle.metric_rules.specs.Distance.{distance, Metric}
+use Rattle.metric_rules.specs.declared.Weights.{Weights}
+use Rattle.metric_rules.specs.Distance.{distance, saturated, gap, largest, codeDistance, weightsOne, Metric}
 use Rattle.search_rules.specs.Range.{Ascending}
 use Rattle.search_rules.specs.Reached.{reached}
 use Rattle.table_rules.specs.Geometry.{tableRows}
 use Rattle.table_rules.specs.Table.{Table, tableSpace, slotsOf, liveSlots}
 use Rattle.table_rules.specs.Search.{bucketsDown, rangeAnswer, nearestAnswer}
-use Rattle.image_rules.specs.Read.{orderIn}
-use Rattle.call_rules.specs.Calls.{beginReply}
+use Rattle.image_rules.specs.Bytes.{writtenForm}
+use Rattle.image_rules.specs.Read.{orderIn, formIn}
+use Rattle.image_rules.specs.Translate.{translated}
+use Rattle.call_rules.specs.Calls.{beginReply, tableBegun}
 use Rattle.call_rules.specs.Calls.Begin.{load}
 use Rattle.history.specs.Model.{Model, modelRange, modelNearest}
 use Rattle.history.specs.History.{History, finalState, finalModel}
@@ -59,6 +62,17 @@ AnyDistance = (dist : Profile → Profile → ℕ) → Metric dist → TreeFacts
 abbrev pub EachMetric : Type 0
 EachMetric = (space : Space) → Metric (distance space)
 
+-- W5: with weights 1 a distance is that of the measures as they are: by metric 0 the sum of their differences, by metric 2 the largest of them, which for measures
+-- of 32 bits is never cut off. Metric 1 is by no weights.
+-- Theorem: `weights-one`
+abbrev pub WeightsOne : Type 0
+WeightsOne =
+    (p q : Profile)
+    → (distance (record { metric = 0; weights = weightsOne }) p q ≡ saturated (gap p q 0 + gap p q 1 + gap p q 2 + gap p q 3))
+    × (distance (record { metric = 2; weights = weightsOne }) p q ≡ saturated (largest (gap p q)))
+    × (IsProfile p → IsProfile q → distance (record { metric = 2; weights = weightsOne }) p q ≡ largest (gap p q))
+    × ((weights : Weights) → distance (record { metric = 1; weights = weights }) p q ≡ codeDistance p q)
+
 -- Demands 2 and 3, one claim over every list of calls on one table, refused ones and herd lists read too, that an accepted fresh or load began (`History`):
 -- at each call table and reference model show the same; after the list the table is a valid one of the published method (which buckets a call builds is
 -- settled by the definitions that `tableAfter` joins), it holds the model's items, range and nearest answer as a scan of them, and all rebuilds together
@@ -81,10 +95,19 @@ WrittenLoads =
     (h : History) (area other : Table) (image : List ℕ) → tableRows (finalModel h .order) ≤ length area → imageSize (finalState h .table) ≤ length image
     → tableRows (finalModel h .order) ≤ length other → LoadsBack (finalState h .table) area other image
 
--- RULES 17.5, and whatever bytes are handed to load: they are accepted only if writing the loaded table, into any areas that are long enough, gives
--- them back.
+-- RULES 17.5, and whatever bytes of the newest form are handed to load: they are accepted only if writing the loaded table, into any areas that are long
+-- enough, gives them back.
 -- Theorem: `accepted-gives-back`
 abbrev pub AcceptedGivesBack : Type 0
 AcceptedGivesBack =
-    (bytes : List ℕ) (other area : Table) (image : List ℕ) → All (λ b. b < 2 ^ 8) bytes → beginReply (load bytes) (length other) ≡ 0
-    → tableRows (orderIn bytes) ≤ length area → length bytes ≤ length image → GivesBack bytes other area image
+    (bytes : List ℕ) (other area : Table) (image : List ℕ) → All (λ b. b < 2 ^ 8) bytes → formIn bytes ≡ writtenForm
+    → beginReply (load bytes) (length other) ≡ 0 → tableRows (orderIn bytes) ≤ length area → length bytes ≤ length image → GivesBack bytes other area image
+
+-- RULES 17.5, and of an older form: an image, which has a form if it has its first four bytes, of form 0 is refused as its translation is, by the same number
+-- or not at all, and leaves the same table. So it is accepted exactly if its translation is, and then loads as the same table.
+-- Theorem: `older-translates`
+abbrev pub OlderTranslates : Type 0
+OlderTranslates =
+    (image : List ℕ) → 4 ≤ length image → formIn image ≡ 0 → (other : Table)
+    → (beginReply (load image) (length other) ≡ beginReply (load (translated image)) (length other))
+    × (tableBegun (load image) other ≡ tableBegun (load (translated image)) other)

@@ -4,6 +4,7 @@ use mathlib.Core.Path.{_≡_}
 use mathlib.Core.List.{List, [], _∷_}
 use Rattle.lists.specs.Lists.{All}
 use Rattle.metric_rules.specs.Row.{IsProfile}
+use Rattle.metric_rules.specs.Distance.{IsSpace, weightsOne}
 use Rattle.table_rules.specs.Table.{Table}
 use Rattle.call_rules.specs.Calls.{Begin, Change, Ask, Call}
 use Rattle.call_rules.specs.Calls.Begin.{fresh, load}
@@ -15,7 +16,7 @@ use Rattle.history.specs.Model.{Model, modelAfterAll}
 
 -- the arguments are values of their machine types; nothing is asked of the content of lent areas
 abbrev pub IsBegin : Begin → Type 0
-IsBegin (fresh order space) = (order < 2 ^ 32) × (space .metric < 2 ^ 32)
+IsBegin (fresh order space) = (order < 2 ^ 32) × IsSpace space
 IsBegin (load image) = All (λ b. b < 2 ^ 8) image
 
 abbrev pub IsChange : Change → Type 0
@@ -34,12 +35,12 @@ IsCall (change c) = IsChange c
 IsCall (ask q) = IsAsk q
 IsCall write = Unit {0}
 
--- whatever lay there before, with nothing added up yet; and a model with nothing in it, whose order and metric the first call sets
+-- whatever lay there before, with nothing added up yet; and a model with nothing in it, whose order, metric and weights the first call sets
 unfoldable pub before : Table → State
 before t = record { table = t; sums = noSums }
 
 unfoldable pub blankModel : Model
-blankModel = record { order = 0; space = record { metric = 0 }; items = [] }
+blankModel = record { order = 0; space = record { metric = 0; weights = weightsOne }; items = [] }
 
 -- a fresh or a load, lent a table area
 unfoldable pub opening : Begin → Table → Step

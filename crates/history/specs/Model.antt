@@ -1,4 +1,4 @@
--- RULES 16, the reference model: an order, a metric and a list of items. It is fed the calls' arguments, a load's image and a herd list too, and the
+-- RULES 16, the reference model: an order, a metric, four weights and a list of items. It is fed the calls' arguments, a load's image and a herd list too, and the
 -- lengths of the lent areas, but never an answer or what the table holds.
 use Prim.Native.Nat.{ℕ, zero, suc}
 use mathlib.Core.Bool.{Bool, true, false, not, _&&_}
@@ -36,7 +36,7 @@ pub record Item : Type 0 where
 unfoldable pub itemOf : Row → Item
 itemOf row = record { tag = tagOf row; profile = profileOf row }
 
--- RULES 16.1: an order, a metric and a list of items
+-- RULES 16.1: an order, what distances depend on (a metric and four weights), and a list of items
 pub record Model : Type 0 where
   pub order : ℕ
   pub space : Space
@@ -188,7 +188,7 @@ unfoldable pub listAnswered : Model → ℕ → ℕ → List ℕ → ListAnswere
 listAnswered m rows work list =
     elim (hasHeader list) [ false ↦ stopsAt m badListHeader 1 | true ↦ linesAnswered m rows work 2 (itemLines list) ]
 
--- fresh: "order and metric as given, no head"; load: "those of the image, with its head of mark 0"
+-- RULES 16.4, fresh: order, metric and weights as given and no item; load: those of the image, with its items of mark 0
 unfoldable pub modelBegun : Begin → Model
 modelBegun (fresh order space) = record { order = order; space = space; items = [] }
 modelBegun (load image) = record { order = orderIn image; space = spaceIn image; items = map itemOf (liveRows image) }

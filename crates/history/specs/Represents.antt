@@ -33,7 +33,7 @@ bucketsWith t tag = select (λ k. not (every (λ row. not (eqb (tagOf row) tag))
 
 -- RULES 17.3, 17.4, 17.6, demand 2: the table is one of the published method (1 to 4), and it is the model's (5 to 9)
 pub record Represents (t : Table) (m : Model) : Type 0 where
-  -- 1. a valid order and metric, and as many rows as the order needs
+  -- 1. a valid order, metric and weights, and as many rows as the order needs
   pub valid : validOrder (orderOf t) ≡ true × validSpace (tableSpace t) ≡ true
   pub long : tableRows (orderOf t) ≤ length t
   -- 2. sizes and marks pass the rules of refusal 24
@@ -43,7 +43,7 @@ pub record Represents (t : Table) (m : Model) : Type 0 where
   pub layouts : (k : ℕ) → k ≤ orderOf t → isLayout (distance (tableSpace t)) (slotsOf t k) ≡ true
   -- 4. every bucket in use was built more than half full
   pub halfFull : moreThanHalfFull t ≡ true
-  -- 5. order and metric are those that the calls set
+  -- 5. order, metric and weights are those that the calls set
   pub order : orderOf t ≡ m .order
   pub space : tableSpace t ≡ m .space
   -- 6. the model's items, each once, are the items in the table's built slots of mark 0

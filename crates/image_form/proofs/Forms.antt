@@ -1,6 +1,6 @@
 -- Which numbers are forms, what each case of `Formed` says of the number asked for, and bounds of the lengths, so that sums of them fit:
 -- whoever goes by a form's answer or adds up its lengths goes by these.
-use Prim.Native.Nat.{ℕ, _+_, _*_, _≤_, _<_}
+use Prim.Native.Nat.{ℕ, zero, suc, _+_, _*_, _≤_, _<_}
 use native.Mathlib.Omega.{arith}
 use native.Mathlib.Nat.{add-mul}
 use mathlib.Core.Path.{_≡_, refl, _∙_, ap}
@@ -8,7 +8,7 @@ use mathlib.Core.Bool.{Bool, true, false}
 use borrow.Author.Tests.{le-leb, lt-leb}
 use Rattle.lists.specs.Lists.{total}
 use Rattle.table_rules.specs.Refusals.{badImage}
-use Rattle.image_rules.specs.Bytes.{lastForm, validForm, startFields, headerFields, recordFields, headerBytes, tagBytes, recordBytes, sizesEnd, imageLength}
+use Rattle.image_rules.specs.Bytes.{lastForm, validForm, startFields, weightFields, headerFields, recordFields, headerBytes, tagBytes, recordBytes, sizesEnd, imageLength}
 use Rattle.image_form.specs.declared.Formed.the-variants.{Is, Unknown}
 use Rattle.image_form.specs.declared.Form.{Form}
 use Rattle.image_form.specs.Answers.{Answer, answerOf, formAnswer}
@@ -18,13 +18,13 @@ answers : (n : ℕ) (b : Bool) → validForm n ≡ b → formAnswer n ≡ elim b
 unfolding formAnswer
 answers n b e = ap (λ (d : Bool). elim d [ true ↦ record { refusal = 0; form = n } | false ↦ record { refusal = badImage; form = 0 } ]) e
 
-pub answer-valid : (n : ℕ) → n ≤ 0 → formAnswer n ≡ record { refusal = 0; form = n }
+pub answer-valid : (n : ℕ) → n ≤ 1 → formAnswer n ≡ record { refusal = 0; form = n }
 unfolding validForm lastForm
-answer-valid n h = answers n true (le-leb n 0 h)
+answer-valid n h = answers n true (le-leb n 1 h)
 
-pub answer-above : (n : ℕ) → 0 < n → formAnswer n ≡ record { refusal = badImage; form = 0 }
+pub answer-above : (n : ℕ) → 1 < n → formAnswer n ≡ record { refusal = badImage; form = 0 }
 unfolding validForm lastForm
-answer-above n h = answers n false (lt-leb n 0 h)
+answer-above n h = answers n false (lt-leb n 1 h)
 
 -- by the case: the number is a form, or it is none
 is-when : (form : Form) (n : ℕ) (b : Bool) → validForm n ≡ b → answerOf (Is form) ≡ formAnswer n → b ≡ true
@@ -43,10 +43,21 @@ above-when n true v e = let z : _≡_ {A = ℕ} 8 0 = ap (λ (a : Answer). a .re
 pub no-form : (n : ℕ) → answerOf Unknown ≡ formAnswer n → validForm n ≡ false
 no-form n e = above-when n (validForm n) refl e
 
+-- the header of form 0, and of any later one
+pub header-first : (form : ℕ) → form ≡ 0 → headerBytes form ≡ 4
+unfolding headerBytes headerFields startFields weightFields total
+header-first form e = ap headerBytes e
+
+pub header-later : (form : ℕ) → (form ≡ 0 → ⊥) → headerBytes form ≡ 8
+unfolding headerBytes headerFields startFields weightFields total
+header-later zero later = absurd (later refl)
+header-later (suc form) later = refl
+
 -- a header and a record are short
 pub header-most : (form : ℕ) → headerBytes form ≤ 64
-unfolding headerBytes headerFields startFields total
-header-most form = omega arith
+unfolding headerBytes headerFields startFields weightFields total
+header-most zero = omega arith
+header-most (suc form) = omega arith
 
 pub records-most : (form n : ℕ) → recordBytes form * n ≤ 64 * n
 unfolding recordBytes recordFields total

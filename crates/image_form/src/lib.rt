@@ -4,7 +4,9 @@ ghost use Prim.Native.Nat.{_+_, _*_, _<_, _^_};
 ghost use Rattle.image_rules.specs.Bytes.{writtenForm, headerBytes, tagBytes, recordBytes, pairBytes, sizesEnd, imageLength};
 ghost use Rattle.image_form.specs.Answers.{answerOf, formAnswer};
 use image_rules::PAIR_BYTES;
+use image_rules::START_BYTES;
 use image_rules::TAG_BYTES;
+use image_rules::WEIGHT_BYTES;
 
 pub struct Form {
     pub number: u32,
@@ -18,9 +20,12 @@ pub enum Formed {
 
 impl Form {
     // The last form that is read, and the one that is written.
-    pub const LAST: u32 = 0;
+    pub const LAST: u32 = 1;
 
-    pub const WRITTEN: u32 = 0;
+    pub const WRITTEN: u32 = 1;
+
+    // The one whose images have no weights.
+    pub const WITHOUT_WEIGHTS: u32 = 0;
 
     // The form with this number.
     pub fn new(number: u32) -> Formed
@@ -44,7 +49,11 @@ impl Form {
     pub fn header_bytes(self) -> usize
         ensures { λ r. ⌜ r ≡ headerBytes (self .number) ⌝ }
     {
-        4
+        if self.number == Form::WITHOUT_WEIGHTS {
+            START_BYTES
+        } else {
+            START_BYTES + WEIGHT_BYTES
+        }
     }
 
     pub fn record_bytes(self) -> usize

@@ -1,14 +1,14 @@
 -- What an accepted image makes of the table: fresh first, then each bucket put; and a refused one changes nothing.
 use Prim.Native.Nat.{ℕ, zero, suc}
 use mathlib.Core.Path.{_≡_, refl, sym, _∙_}
+use mathlib.Core.Bool.{true}
 use mathlib.Core.List.{List, foldl}
 use borrow.Author.Tests.{le-leb}
 use lib.ListN.{length}
-use Rattle.metric_rules.specs.Row.{rowWidth, zeroRow, word}
-use Rattle.metric_rules.specs.declared.Space.{Space}
-use Rattle.metric_rules.specs.Distance.{metricAt, spaceOf}
+use Rattle.lists.proofs.Tests.{and-first, and-second}
+use Rattle.metric_rules.specs.Distance.{validMetric, validWeights}
 use Rattle.table_rules.specs.Geometry.{bucketsOf, tableRows}
-use Rattle.table_rules.specs.Table.{Table, headerOf, putBucket}
+use Rattle.table_rules.specs.Table.{Table, putBucket}
 use Rattle.table_rules.specs.Fresh.{freshRefusal, freshTable, tableAfterFresh}
 use Rattle.table_rules.proofs.Buckets.{order-most}
 use Rattle.table_rules.proofs.Changes.{fresh-order, fresh-long}
@@ -20,15 +20,13 @@ use Rattle.image_read.specs.declared.Header.{Header}
 use Rattle.image_read.specs.InImage.{Headed, Whole}
 use Rattle.table_buckets.specs.OfOrder.{OfOrder}
 
--- a header row shows what it was made of
-pub header-space : (order : ℕ) (space : Space) → spaceOf (headerOf order space) ≡ space
-unfolding spaceOf headerOf word metricAt zeroRow rowWidth
-header-space order space = refl
-
 module _ (image : List ℕ) (t : Table) (ok : Accepted (length t) image) where
   fresh-goes : freshRefusal (length t) (orderIn image) (spaceIn image) ≡ 0
   unfolding freshRefusal
-  fresh-goes = rw (ok .order, freshRefusal, ok .space, le-leb (tableRows (orderIn image)) (length t) (ok .roomy)) refl
+  fresh-goes =
+      let metric : validMetric (spaceIn image) ≡ true = and-first _ _ (ok .space) in
+      let weights : validWeights (spaceIn image .weights) ≡ true = and-second (validMetric (spaceIn image)) _ (ok .space) in
+      rw (ok .order, freshRefusal, metric, weights, le-leb (tableRows (orderIn image)) (length t) (ok .roomy)) refl
 
   pub fresh-accepted : tableAfterFresh (orderIn image) (spaceIn image) t ≡ freshTable (orderIn image) (spaceIn image) t
   unfolding tableAfterFresh

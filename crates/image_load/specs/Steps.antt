@@ -1,27 +1,32 @@
--- Load's checks behind the first four bytes, in three steps: those of the header, those of the sizes and lengths, and those of the slots, each with 0
--- where all pass.
+-- Load's checks behind the first four bytes, in steps: those of the start, those of the weights, those of the sizes and lengths, and those of the slots, each
+-- with 0 where all pass.
 use Prim.Native.Nat.{ℕ}
 use mathlib.Core.Bool.{Bool}
 use mathlib.Core.List.{List}
 use lib.ListN.{length}
 use lib.Dec.{leb, eqb}
-use Rattle.metric_rules.specs.Distance.{validMetric}
-use Rattle.table_rules.specs.Refusals.{badOrder, badMetric, badLength, badImage, shortArea, badTable, unless, orElse}
+use Rattle.metric_rules.specs.Distance.{validMetric, validWeights}
+use Rattle.table_rules.specs.Refusals.{badOrder, badMetric, badWeight, badLength, badImage, shortArea, badTable, unless, orElse}
 use Rattle.table_rules.specs.Geometry.{validOrder, tableRows}
 use Rattle.table_rules.specs.Checks.{sizesPass}
-use Rattle.image_rules.specs.Bytes.{validForm, sizesEnd, imageLength}
+use Rattle.image_rules.specs.Bytes.{validForm, headerBytes, sizesEnd, imageLength}
 use Rattle.image_rules.specs.Read.{formIn, orderIn, spaceIn, builtIn, liveIn, slotsIn}
 use Rattle.image_rules.specs.Load.{slotsPass}
 
-unfoldable pub headerBy : Bool → Bool → Bool → ℕ
-headerBy order space form =
+unfoldable pub startBy : Bool → Bool → Bool → Bool → ℕ
+startBy order metric form header =
     unless order badOrder
-    (unless space badMetric
+    (unless metric badMetric
     (unless form badImage
-    0))
+    (unless header badLength
+    0)))
 
-unfoldable pub headerRefusal : List ℕ → ℕ
-headerRefusal image = headerBy (validOrder (orderIn image)) (validMetric (spaceIn image)) (validForm (formIn image))
+unfoldable pub startRefusal : List ℕ → ℕ
+startRefusal image =
+    startBy (validOrder (orderIn image)) (validMetric (spaceIn image)) (validForm (formIn image)) (leb (headerBytes (formIn image)) (length image))
+
+unfoldable pub weightsBy : Bool → ℕ
+weightsBy weights = unless weights badWeight 0
 
 unfoldable pub sizesBy : Bool → Bool → Bool → Bool → ℕ
 sizesBy pairs sizes whole roomy =
@@ -40,4 +45,5 @@ unfoldable pub slotsBy : Bool → ℕ
 slotsBy slots = unless slots badImage 0
 
 unfoldable pub laterRefusal : ℕ → List ℕ → ℕ
-laterRefusal rows image = orElse (headerRefusal image) (orElse (sizesRefusal rows image) (slotsBy (slotsPass image)))
+laterRefusal rows image =
+    orElse (weightsBy (validWeights (spaceIn image .weights))) (orElse (sizesRefusal rows image) (slotsBy (slotsPass image)))

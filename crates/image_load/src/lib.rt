@@ -2,14 +2,13 @@
 ghost use mathlib.Core.Path.{_≡_};
 ghost use Prim.Native.Nat.{_≤_};
 ghost use lib.ListN.{length};
-ghost use Rattle.metric_rules.specs.Distance.{validMetric};
 ghost use Rattle.table_rules.specs.Geometry.{mostOrder, validOrder};
 ghost use Rattle.image_rules.specs.Bytes.{validForm};
 ghost use Rattle.image_rules.specs.Read.{orderIn, slotsIn};
 ghost use Rattle.image_rules.specs.Load.{loadRefusal, tableAfterLoad};
-ghost use Rattle.image_read.specs.InImage.{Headed, Whole, InImage};
+ghost use Rattle.image_read.specs.InImage.{Started, Headed, Whole, InImage};
 ghost use Rattle.image_test.specs.Trees.{slotsFault};
-ghost use Rattle.image_load.specs.Steps.{headerBy, sizesRefusal, laterRefusal};
+ghost use Rattle.image_load.specs.Steps.{startRefusal, sizesRefusal, laterRefusal};
 use image_entries::Fault;
 use image_fields::buckets_read;
 use image_fields::sizes_pass;
@@ -21,9 +20,11 @@ use image_read::Slots;
 use image_read::all_slots;
 use image_read::header_in;
 use image_read::slots_in;
+use image_read::start_in;
 use image_reader::has_bytes;
 use image_rules::START_BYTES;
 use image_test::trees_fault;
+use metric::valid_weights;
 use metric_rules::Row;
 use table_fresh::fresh;
 use table_fresh::header_row;
@@ -34,6 +35,7 @@ use table_rules::BAD_LENGTH;
 use table_rules::BAD_METRIC;
 use table_rules::BAD_ORDER;
 use table_rules::BAD_TABLE;
+use table_rules::BAD_WEIGHT;
 use table_rules::SHORT_AREA;
 use table_views::valid_metric;
 
@@ -55,18 +57,23 @@ fn is_form(number: u32) -> bool
     }
 }
 
-// The header's checks: order 3, metric 4, form 8.
-fn header_refusal(header: Header) -> u32
-    ensures { λ r. ⌜ r ≡ headerBy (validOrder (header .order .t)) (validMetric (header .space)) (validForm (header .form .number)) ⌝ }
+// The checks of the start: order 3, metric 4, form 8, weights cut 7.
+fn start_refusal(image: &[u8], start: Header) -> u32
+    requires { ⌜ Started (now image) start ⌝ }
+    ensures { λ r. ⌜ r ≡ startRefusal (now (image .entry)) ⌝ }
 {
-    if !is_order(header.order.t) {
+    if !is_order(start.order.t) {
         return BAD_ORDER;
     }
-    if !valid_metric(header.space) {
+    if !valid_metric(start.space) {
         return BAD_METRIC;
     }
-    if !is_form(header.form.number) {
+    if !is_form(start.form.number) {
         return BAD_IMAGE;
+    }
+    let form = start.form;
+    if !has_bytes(image, 0, form.header_bytes()) {
+        return BAD_LENGTH;
     }
     0
 }
@@ -108,18 +115,18 @@ fn slots_fault(image: &[u8], header: Header, all: Slots) -> Fault
     trees_fault(image, header, all, &row)
 }
 
-// Every check behind the first four bytes in its order, for a table of so many rows. Nothing is written.
+// Every later check in its order, a weight's 32 first, for a table of so many rows. Nothing is written.
 fn load_refusal(image: &[u8], header: Header, rows: usize) -> u32
-    requires { ⌜ Headed (now image) header ⌝ }
+    requires { ⌜ Headed (now image) header × (orderIn (now image) ≤ mostOrder) ⌝ }
     ensures { λ r. ⌜ r ≡ laterRefusal rows (now (image .entry)) ⌝ }
 {
-    let first = header_refusal(header);
-    if first != 0 {
-        return first;
+    let weights = header.space.weights;
+    if !valid_weights(weights) {
+        return BAD_WEIGHT;
     }
-    let second = sizes_refusal(image, header, rows);
-    if second != 0 {
-        return second;
+    let refusal = sizes_refusal(image, header, rows);
+    if refusal != 0 {
+        return refusal;
     }
     let fault = slots_fault(image, header, all_slots(image, header));
     fault.number
@@ -133,10 +140,15 @@ pub fn load(table: &mut [Row], image: &[u8]) -> u32
     if !has_bytes(image, 0, START_BYTES) {
         return BAD_LENGTH;
     }
-    let header = header_in(image);
-    let refusal = load_refusal(image, header, table.len());
-    if refusal != 0 {
-        return refusal;
+    let start = start_in(image);
+    let first = start_refusal(image, start);
+    if first != 0 {
+        return first;
+    }
+    let header = header_in(image, start);
+    let later = load_refusal(image, header, table.len());
+    if later != 0 {
+        return later;
     }
     fresh(table, header.order.t, header.space);
     put_buckets(table, image, header, all_slots(image, header));

@@ -14,7 +14,12 @@ use Rattle.image_form.specs.declared.Form.{Form}
 use Rattle.image_read.specs.declared.Header.{Header}
 use Rattle.image_read.specs.declared.Slots.{Slots}
 
--- a header has an image's order, space and form
+-- a header has an image's order, metric and form; and its weights, too
+pub record Started (image : List ℕ) (header : Header) : Type 0 where
+  pub order : header .order .t ≡ orderIn image
+  pub metric : header .space .metric ≡ spaceIn image .metric
+  pub form : header .form .number ≡ formIn image
+
 pub record Headed (image : List ℕ) (header : Header) : Type 0 where
   pub order : header .order .t ≡ orderIn image
   pub space : header .space ≡ spaceIn image

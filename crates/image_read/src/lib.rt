@@ -3,18 +3,21 @@ ghost use mathlib.Core.Path.{_≡_};
 ghost use Prim.Native.Nat.{_+_, _*_, _≤_, _<_};
 ghost use mathlib.Core.List.{_++_};
 ghost use lib.ListN.{length};
-ghost use Rattle.image_rules.specs.Bytes.{startBytes, tagFields, recordFields, tagBytes, recordBytes};
-ghost use Rattle.image_rules.specs.Read.{numberAt, fieldsAt, orderIn, builtIn, liveIn, slotsIn};
-ghost use Rattle.image_read.specs.InImage.{Headed, HasSizes, Whole, InImage, slotIn};
+ghost use Rattle.image_rules.specs.Bytes.{startBytes, headerBytes, tagFields, recordFields, tagBytes, recordBytes};
+ghost use Rattle.image_rules.specs.Read.{numberAt, fieldsAt, orderIn, formIn, weightsAs, builtIn, liveIn, slotsIn};
+ghost use Rattle.image_read.specs.InImage.{Started, Headed, HasSizes, Whole, InImage, slotIn};
 use image_form::Form;
 use image_reader::two_from;
 use image_rules::SIZE_BYTES;
+use image_rules::START_BYTES;
 use image_rules::TAG_BYTES;
 use metric_rules::Row;
 use metric_rules::Space;
+use metric_rules::WEIGHTS_ONE;
+use metric_rules::Weights;
 use table_order::Order;
 
-// The numbers that an image of any form begins with, as they stand there: they are tested when they are known.
+// An image's header, its numbers as they stand there: they are tested when they are known.
 pub struct Header {
     pub order: Order,
     pub space: Space,
@@ -46,21 +49,56 @@ pub fn number32(image: &[u8], at: usize) -> u32
     of_four(image[at], image[at + 1], image[at + 2], image[at + 3])
 }
 
-// The header, read once. It and the sizes are read through a reader.
-pub fn header_in(image: &[u8]) -> Header
+// What an image of any form begins with. Its weights stay 1 until they are read. It, the weights and the sizes are read through a reader.
+pub fn start_in(image: &[u8]) -> Header
     requires { ⌜ startBytes ≤ length (now image) ⌝ }
-    ensures { λ r. ⌜ Headed (now (image .entry)) r ⌝ }
+    ensures { λ r. ⌜ Started (now (image .entry)) r ⌝ }
 {
     let first = two_from(image, 0, 1, 1);
     let last = two_from(image, 1, 1, 2);
+    let weights = WEIGHTS_ONE;
     Header {
         order: Order { t: first.first },
         space: Space {
             metric: first.second,
+            weights,
         },
         form: Form {
             number: last.second,
         },
+    }
+}
+
+// The weights, which are 1 in a form that does not have them.
+fn weights_in(image: &[u8], form: Form) -> Weights
+    requires { ⌜ headerBytes (form .number) ≤ length (now image) ⌝ }
+    ensures { λ r. ⌜ r ≡ weightsAs (form .number) (now (image .entry)) ⌝ }
+{
+    if form.number == Form::WITHOUT_WEIGHTS {
+        return WEIGHTS_ONE;
+    }
+    let front = two_from(image, START_BYTES, 1, 1);
+    let back = two_from(image, START_BYTES + 2, 1, 1);
+    Weights {
+        each: [front.first, front.second, back.first, back.second],
+    }
+}
+
+// The whole header.
+pub fn header_in(image: &[u8], start: Header) -> Header
+    requires { ⌜ Started (now image) start × (headerBytes (formIn (now image)) ≤ length (now image)) ⌝ }
+    ensures { λ r. ⌜ Headed (now (image .entry)) r ⌝ }
+{
+    let order = start.order;
+    let form = start.form;
+    let weights = weights_in(image, form);
+    Header {
+        order,
+        space: Space {
+            metric: start.space.metric,
+            weights,
+        },
+        form,
     }
 }
 

@@ -8,12 +8,14 @@ use lib.ListN.{length, drop}
 use lib.Dec.{leb, ltb, eqb}
 use borrow.Author.Tests.{leb-true, eqb-true, le-ltb, le-leb, eq-eqb}
 use Rattle.lists.specs.Lists.{total, All}
-use Rattle.metric_rules.specs.Distance.{validSpace}
+use Rattle.lists.proofs.Tests.{and-first, and-second, and-pass}
+use Rattle.metric_rules.specs.Distance.{validMetric, validWeights, validSpace}
 use Rattle.table_rules.specs.Geometry.{validOrder, tableRows}
 use Rattle.table_rules.specs.Checks.{sizesPass}
-use Rattle.image_rules.specs.Bytes.{validForm, startFields, startBytes, headerFields, headerBytes, sizesEnd, imageLength}
+use Rattle.image_rules.specs.Bytes.{validForm, startFields, startBytes, headerBytes, sizesEnd, imageLength}
 use Rattle.image_rules.specs.Read.{orderIn, spaceIn, formIn, builtIn, liveIn, slotsIn}
 use Rattle.image_rules.specs.Load.{slotsPass, loadRefusal}
+use Rattle.image_rules.proofs.Bytes.{header-after-start}
 
 -- every check of a load into an area of so many rows
 pub record Accepted (rows : ℕ) (image : List ℕ) : Type 0 where
@@ -57,8 +59,10 @@ module _ (rows : ℕ) (image : List ℕ) where
   checks =
       record { test = not (ltb (length image) startBytes); number = 6 }
       ∷ record { test = validOrder (orderIn image); number = 2 }
-      ∷ record { test = validSpace (spaceIn image); number = 3 }
+      ∷ record { test = validMetric (spaceIn image); number = 3 }
       ∷ record { test = validForm (formIn image); number = 7 }
+      ∷ record { test = leb (headerBytes (formIn image)) (length image); number = 6 }
+      ∷ record { test = validWeights (spaceIn image .weights); number = 31 }
       ∷ record { test = leb (sizesEnd (formIn image) (orderIn image)) (length image); number = 6 }
       ∷ record { test = sizesPass (orderIn image) (builtIn image) (liveIn image); number = 23 }
       ∷ record { test = eqb (length image) (imageLength (formIn image) (orderIn image) (slotsIn image)); number = 6 }
@@ -74,24 +78,28 @@ module _ (rows : ℕ) (image : List ℕ) where
   unfolding checks
   accepted h =
       let a = unfailing checks (sym load-checks ∙ h) in
+      let b = a .1 .1 .1 .1 .1 .1 in
       record {
         order = a .1 .0;
-        space = a .1 .1 .0;
+        space = and-pass (validMetric (spaceIn image)) (validWeights (spaceIn image .weights)) (a .1 .1 .0) (a .1 .1 .1 .1 .1 .0);
         form = a .1 .1 .1 .0;
-        sizes = a .1 .1 .1 .1 .1 .0;
-        long = eqb-true (length image) (imageLength (formIn image) (orderIn image) (slotsIn image)) (a .1 .1 .1 .1 .1 .1 .0);
-        roomy = leb-true (tableRows (orderIn image)) rows (a .1 .1 .1 .1 .1 .1 .1 .0);
-        slots = a .1 .1 .1 .1 .1 .1 .1 .1 .0;
+        sizes = b .1 .0;
+        long = eqb-true (length image) (imageLength (formIn image) (orderIn image) (slotsIn image)) (b .1 .1 .0);
+        roomy = leb-true (tableRows (orderIn image)) rows (b .1 .1 .1 .0);
+        slots = b .1 .1 .1 .1 .0;
       }
 
   pub accepts : Accepted rows image → loadRefusal rows image ≡ 0
-  unfolding checks sizesEnd headerBytes headerFields startBytes startFields total imageLength
+  unfolding checks sizesEnd startBytes startFields total imageLength
   accepts a =
       let bytes = length image in
       let end = sizesEnd (formIn image) (orderIn image) in
       let order = orderIn image in
-      let body : All (λ c. c .test ≡ true) (drop 6 checks) =
+      let body : All (λ c. c .test ≡ true) (drop 8 checks) =
       (eq-eqb bytes (imageLength (formIn image) order (slotsIn image)) (a .long), (le-leb (tableRows order) rows (a .roomy), (a .slots, tt))) in
-      let sizes : All (λ c. c .test ≡ true) (drop 3 checks) =
-      (a .form, (le-leb end bytes (omega (arith, a .long)), (a .sizes, body))) in
-      load-checks ∙ passing checks (ap not (le-ltb bytes 4 (omega (arith, a .long))), (a .order, (a .space, sizes)))
+      let sizes : All (λ c. c .test ≡ true) (drop 6 checks) = (le-leb end bytes (omega (arith, a .long)), (a .sizes, body)) in
+      let weights : All (λ c. c .test ≡ true) (drop 4 checks) =
+      (le-leb (headerBytes (formIn image)) bytes (omega (arith, a .long)), (and-second (validMetric (spaceIn image)) _ (a .space), sizes)) in
+      load-checks
+      ∙ passing checks
+      (ap not (le-ltb bytes 4 (omega (arith, a .long, header-after-start (formIn image)))), (a .order, (and-first _ _ (a .space), (a .form, weights))))

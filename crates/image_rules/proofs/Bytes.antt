@@ -1,5 +1,5 @@
 -- Little-endian bytes: a number's bytes read back as the number, and fields of numbers that fit them as these numbers.
-use Prim.Native.Nat.{ℕ, zero, suc, _+_, _/_, _^_, _<_}
+use Prim.Native.Nat.{ℕ, zero, suc, _+_, _/_, _^_, _≤_, _<_}
 use mathlib.Core.Path.{_≡_, refl, ap, ap₂, _∙_}
 use mathlib.Core.List.{List, [], _∷_, _++_, append-assoc}
 use native.Mathlib.Nat.{pow-suc}
@@ -7,7 +7,7 @@ use native.Mathlib.Omega.{arith}
 use lib.ListN.{length, length-append}
 use lib.Seq.{take-at, drop-at}
 use Rattle.lists.specs.Lists.{total, All}
-use Rattle.image_rules.specs.Bytes.{bytesOf, numberOf, bytesOfFields}
+use Rattle.image_rules.specs.Bytes.{bytesOf, numberOf, bytesOfFields, startFields, weightFields, headerFields, startBytes, headerBytes}
 use Rattle.image_rules.specs.Read.{numberAt, fieldsAt}
 
 pub length-bytes : (w n : ℕ) → length (bytesOf w n) ≡ w
@@ -65,3 +65,9 @@ fields-at a (w ∷ ws) (n ∷ ns) c at e h =
 pub fields-in : (bytes a ws ns c : List ℕ) (at : ℕ) → bytes ≡ a ++ (bytesOfFields ws ns ++ c) → length a ≡ at → Fill ws ns
     → fieldsAt bytes ws at ≡ ns
 fields-in bytes a ws ns c at e la h = rw e (fields-at a ws ns c at la h)
+
+-- a header of any form begins with the start
+pub header-after-start : (form : ℕ) → startBytes ≤ headerBytes form
+unfolding startBytes headerBytes headerFields startFields weightFields total
+header-after-start zero = omega arith
+header-after-start (suc form) = omega arith

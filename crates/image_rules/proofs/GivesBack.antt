@@ -1,6 +1,6 @@
 -- The other direction of the codec: an image is the bytes of its fields. Each field read has the bytes that stand at its place, and the places
 -- adjoin from the first byte to the last, so a table that shows the fields of an image is written as that image.
-use Prim.Native.Nat.{ℕ, suc, _+_, _*_, _^_, _≤_, _<_}
+use Prim.Native.Nat.{ℕ, zero, suc, _+_, _*_, _^_, _≤_, _<_}
 use mathlib.Core.Path.{_≡_, sym, ap, ap₂, _∙_}
 use mathlib.Core.List.{List, [], _∷_, _++_, map, map-map, append-assoc, flatten}
 use native.Mathlib.Nat.{add-mul}
@@ -12,9 +12,9 @@ use Rattle.metric_rules.specs.Row.{Row}
 use Rattle.table_rules.specs.Geometry.{bucketsOf}
 use Rattle.table_rules.specs.Table.{Table, orderOf, tableSpace, builtOf, liveOf, slotsOf}
 use Rattle.table_rules.proofs.ByNumber.{map-count}
-use Rattle.image_rules.specs.Bytes.{writtenForm, bytesOf, bytesOfFields, startFields, headerFields, tagFields, recordFields, headerBytes, tagBytes, recordBytes, sizeBytes, pairBytes, sizesEnd, tagWords, imageLength}
+use Rattle.image_rules.specs.Bytes.{writtenForm, bytesOf, bytesOfFields, startFields, weightFields, headerFields, tagFields, recordFields, startBytes, headerBytes, tagBytes, recordBytes, sizeBytes, pairBytes, sizesEnd, tagWords, imageLength}
 use Rattle.image_rules.specs.Write.{headerBytesOf, sizesOf, tagsOf, recordsOf, allSlots, imageAs, imageOf}
-use Rattle.image_rules.specs.Read.{numberAt, fieldsAt, startNumbers, orderIn, spaceIn, formIn, builtIn, liveIn, slotsBefore, slotsIn, rowIn, bucketIn}
+use Rattle.image_rules.specs.Read.{numberAt, fieldsAt, startNumbers, orderIn, weightsAs, spaceIn, formIn, builtIn, liveIn, slotsBefore, slotsIn, rowIn, bucketIn}
 use Rattle.image_rules.proofs.Numbers.{length-fields-at, bytes-at, bytes-of-fields-at}
 use Rattle.image_rules.proofs.Counting.{piece-within}
 use Rattle.image_rules.proofs.Blocks.{pieces, runs}
@@ -47,10 +47,16 @@ module _ (image : List ℕ) (formed : WellFormed image) where
   unfolding form order slots imageLength sizesEnd
   long = formed .long ∙ omega (arith, add-mul tagBytes (recordBytes form) slots)
 
-  -- order, metric and form
+  -- order, metric, form and weights; the numbers of form 0 end before the weights
+  header-as : (f : ℕ) → headerBytes f ≤ length image
+      → bytesOfFields (headerFields f) (startNumbers image ++ weightsAs f image .each) ≡ take (headerBytes f) image
+  unfolding headerBytes headerFields startFields weightFields weightsAs startNumbers startBytes fieldsAt total bytesOfFields
+  header-as zero h = bytes-of-fields-at image (formed .bytes) (headerFields 0) 0 h
+  header-as (suc f) h = bytes-of-fields-at image (formed .bytes) (headerFields (suc f)) 0 h
+
   header-there : headerBytesOf form order (spaceIn image) ≡ take (headerBytes form) image
-  unfolding form order headerBytesOf headerBytes spaceIn orderIn formIn startNumbers headerFields startFields fieldsAt
-  header-there = bytes-of-fields-at image (formed .bytes) startFields 0 (omega (arith, long))
+  unfolding form order headerBytesOf spaceIn orderIn formIn startNumbers startFields fieldsAt
+  header-there = header-as form (omega (arith, long))
 
   -- the sizes, bucket by bucket
   pair-there : (k : ℕ) → k < suc order

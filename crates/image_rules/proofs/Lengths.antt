@@ -46,7 +46,7 @@ length-image t =
     let rows = allSlots t in
     let order = orderOf t in
     simp length-append
-    (omega (arith, length-fields (headerFields writtenForm) (order ∷ tableSpace t .metric ∷ writtenForm ∷ []), length-sizes order (builtOf t) (liveOf t), length-parts tagFields (take tagWords) rows, length-parts (recordFields writtenForm) (drop tagWords) rows, add-mul tagBytes (recordBytes writtenForm) (length rows)))
+    (omega (arith, length-fields (headerFields writtenForm) (order ∷ tableSpace t .metric ∷ writtenForm ∷ tableSpace t .weights .each), length-sizes order (builtOf t) (liveOf t), length-parts tagFields (take tagWords) rows, length-parts (recordFields writtenForm) (drop tagWords) rows, add-mul tagBytes (recordBytes writtenForm) (length rows)))
 
 -- where every bucket has as many slots as its built size
 pub length-image-built : (t : Table) → ((k : ℕ) → k ≤ orderOf t → length (slotsOf t k) ≡ builtOf t k)
@@ -129,7 +129,7 @@ pub image-below : (t : Table) → All (λ b. b < 2 ^ 8) (imageOf t)
 unfolding imageOf imageAs headerBytesOf tagsOf recordsOf
 image-below t =
     all-joined (λ b. b < 2 ^ 8) (headerBytesOf writtenForm (orderOf t) (tableSpace t)) (sizesOf (orderOf t) (builtOf t) (liveOf t)) (tagsOf (allSlots t)) (recordsOf writtenForm (allSlots t))
-    (fields-below (headerFields writtenForm) (orderOf t ∷ tableSpace t .metric ∷ writtenForm ∷ []))
+    (fields-below (headerFields writtenForm) (orderOf t ∷ tableSpace t .metric ∷ writtenForm ∷ tableSpace t .weights .each))
     (sizes-below (orderOf t) (builtOf t) (liveOf t))
     (parts-below (λ row. bytesOfFields tagFields (take tagWords row)) (λ row. fields-below tagFields (take tagWords row)) (allSlots t))
     (parts-below (λ row. bytesOfFields (recordFields writtenForm) (drop tagWords row)) (λ row. fields-below (recordFields writtenForm) (drop tagWords row)) (allSlots t))

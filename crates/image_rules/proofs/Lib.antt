@@ -10,3 +10,4 @@ pub mod Lengths
 pub mod Accepting
 pub mod ReadTests
 pub mod Loaded
+pub mod Translating

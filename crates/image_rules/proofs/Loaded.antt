@@ -1,13 +1,12 @@
--- What a loaded table shows: the image's order and metric, and in each bucket the image's slots, with zeros in the rest of its room. So every row of
+-- What a loaded table shows: the image's order, metric and weights, and in each bucket the image's slots, with zeros in the rest of its room. So every row of
 -- the table is the image's, and an accepted image is what the loaded table is written as.
-use Prim.Native.Nat.{ℕ, _^_, _≤_, _<_}
+use Prim.Native.Nat.{ℕ, zero, suc, _^_, _≤_, _<_}
 use mathlib.Core.Path.{_≡_, refl, sym, ap, _∙_}
-use mathlib.Core.Bool.{true}
 use mathlib.Core.List.{List}
 use native.Mathlib.Omega.{arith}
 use lib.ListN.{length, drop, length-map}
-use borrow.Author.Tests.{leb-true}
 use Rattle.lists.specs.Lists.{countFrom, All}
+use Rattle.metric_rules.specs.Distance.{weightsOne}
 use Rattle.table_rules.specs.Geometry.{room, bucketsOf, headerRow, tableRows}
 use Rattle.table_rules.specs.Table.{Table, rowAt, orderOf, tableSpace, headerOf}
 use Rattle.table_rules.specs.Fresh.{freshTable}
@@ -15,10 +14,11 @@ use Rattle.table_rules.proofs.Sizes.{size-room, sizes-at}
 use Rattle.table_rules.proofs.Views.{same-order, same-space}
 use Rattle.table_rules.proofs.Puts.{Holds, held-built, held-live, held-slots, putEach, put-each-only, put-each-holds}
 use Rattle.table_rules.proofs.Changes.{fresh-header, fresh-order, fresh-space, fresh-past, fresh-long}
-use Rattle.image_rules.specs.Bytes.{lastForm, validForm, writtenForm}
-use Rattle.image_rules.specs.Read.{formIn, orderIn, spaceIn, builtIn, liveIn, slotsBefore, rowIn, bucketIn}
+use Rattle.image_rules.specs.Bytes.{writtenForm, weightFields, startBytes}
+use Rattle.image_rules.specs.Read.{formIn, orderIn, weightsAs, spaceIn, builtIn, liveIn, slotsBefore, rowIn, bucketIn}
 use Rattle.image_rules.specs.Write.{imageOf}
 use Rattle.image_rules.specs.Load.{loadRefusal, loadedTable, tableAfterLoad}
+use Rattle.image_rules.proofs.Numbers.{length-fields-at}
 use Rattle.image_rules.proofs.Blocks.{length-count}
 use Rattle.image_rules.proofs.EachBucket.{all-buckets, buckets-all}
 use Rattle.image_rules.proofs.Accepting.{Accepted, accepted}
@@ -38,6 +38,16 @@ pub length-bucket-in : (image : List ℕ) (k : ℕ) → length (bucketIn image k
 unfolding bucketIn
 length-bucket-in image k =
     length-map (countFrom (slotsBefore image k) (builtIn image k)) (rowIn image) ∙ length-count (slotsBefore image k) (builtIn image k)
+
+-- an image of any form has four weights
+four-as : (form : ℕ) (image : List ℕ) → length (weightsAs form image .each) ≡ 4
+unfolding weightsAs weightsOne weightFields
+four-as zero image = refl
+four-as (suc form) image = length-fields-at image (weightFields (suc form)) startBytes
+
+pub four-weights : (image : List ℕ) → length (spaceIn image .weights .each) ≡ 4
+unfolding spaceIn
+four-weights image = four-as (formIn image) image
 
 module _ (image : List ℕ) (t : Table) (ok : Accepted (length t) image) where
   blank : Table
@@ -76,7 +86,7 @@ module _ (image : List ℕ) (t : Table) (ok : Accepted (length t) image) where
       (record {
         header = only .header .row ∙ fresh-header (orderIn image) (spaceIn image) t;
         order = same-order (only .header) ∙ blank-order;
-        space = same-space (only .header) ∙ fresh-space (orderIn image) (spaceIn image) t;
+        space = same-space (only .header) ∙ fresh-space (orderIn image) (spaceIn image) t (four-weights image);
         long = only .long ∙ blank-length;
         past =
             ap (λ (n : ℕ). drop (tableRows n) after) (sym blank-order)
@@ -108,14 +118,9 @@ pub load-reads : (image : List ℕ) (area : Table) → loadRefusal (length area)
 load-reads image area h =
     rw (table-after-load image area h) (loaded-reads image area (loadedTable image area) (loaded image area (accepted (length area) image h)))
 
--- the only form that loads is the one that is written
-valid-written : (form : ℕ) → validForm form ≡ true → form ≡ writtenForm
-unfolding validForm lastForm writtenForm
-valid-written form h = omega (arith, leb-true form 0 h)
-
--- so it is written as the image
-pub accepted-image : (image : List ℕ) (area : Table) → All (λ b. b < 2 ^ 8) image → loadRefusal (length area) image ≡ 0
+-- so it is written as the image, if that is of the form that is written
+pub accepted-image : (image : List ℕ) (area : Table) → All (λ b. b < 2 ^ 8) image → formIn image ≡ writtenForm → loadRefusal (length area) image ≡ 0
     → imageOf (tableAfterLoad image area) ≡ image
-accepted-image image area bytes h =
+accepted-image image area bytes form h =
     let ok = accepted (length area) image h in
-    gives-written (tableAfterLoad image area) image (record { bytes = bytes; long = ok .long }) (valid-written (formIn image) (ok .form)) (load-reads image area h)
+    gives-written (tableAfterLoad image area) image (record { bytes = bytes; long = ok .long }) form (load-reads image area h)

@@ -1,4 +1,4 @@
--- The bytes of a table whose fields fit, read back, give its order, its metric, its sizes and every bucket's slots.
+-- The bytes of a table whose fields fit, read back, give its order, its metric and weights, its sizes and every bucket's slots.
 -- Each field is a block of a run of equal blocks, so it stands after what has just its offset's length, and reads back as it was written.
 use Prim.Native.Nat.{ℕ, suc, _+_, _*_, _^_, _≤_, _<_}
 use mathlib.Core.Path.{_≡_, refl, sym, ap, ap₂, _∙_, subst}
@@ -9,18 +9,22 @@ use lib.ListN.{length, getD, take, drop, length-append, length-take, length-drop
 use Rattle.lists.specs.Lists.{total, countFrom, All}
 use Rattle.lists.proofs.Lists.{all-always, all-take, all-drop}
 use Rattle.metric_rules.specs.Row.{Row, IsRow, rowWidth}
+use Rattle.metric_rules.specs.declared.Weights.{Weights}
+use Rattle.metric_rules.specs.declared.Space.{Space}
+use Rattle.metric_rules.specs.Distance.{weight, weightsOf, spaceOf}
 use Rattle.table_rules.specs.Geometry.{bucketsOf}
 use Rattle.table_rules.specs.Table.{Table, orderOf, tableSpace, builtOf, liveOf, slotsOf}
-use Rattle.image_rules.specs.Bytes.{writtenForm, bytesOf, startFields, headerFields, tagFields, recordFields, bytesOfFields, headerBytes, tagBytes, recordBytes, sizeBytes, pairBytes, sizesEnd, tagWords}
+use Rattle.image_rules.specs.Bytes.{writtenForm, bytesOf, startFields, weightFields, headerFields, tagFields, recordFields, bytesOfFields, startBytes, headerBytes, tagBytes, recordBytes, sizeBytes, pairBytes, sizesEnd, tagWords}
 use Rattle.image_rules.specs.Write.{headerBytesOf, sizesOf, tagsOf, recordsOf, allSlots, imageAs, imageOf}
-use Rattle.image_rules.specs.Read.{fieldsAt, startNumbers, orderIn, spaceIn, formIn, builtIn, liveIn, slotsBefore, slotsIn, rowIn, bucketIn}
+use Rattle.image_rules.specs.Read.{fieldsAt, startNumbers, orderIn, weightsAs, spaceIn, formIn, builtIn, liveIn, slotsBefore, slotsIn, rowIn, bucketIn}
 use Rattle.image_rules.proofs.Bytes.{length-bytes, length-fields, number-at, words-fill, fields-in}
 use Rattle.image_rules.proofs.Blocks.{all-flatten, all-at, all-words, Block, block-at, length-blocks, length-count, getD-count, part-at, length-flatten, map-count, picked}
 
--- the fields fit: order and metric of 8 bits, sizes of 16, as many rows in each bucket as its built size, and rows of twelve 32-bit words
+-- the fields fit: order, metric and weights of 8 bits, sizes of 16, as many rows in each bucket as its built size, and rows of twelve 32-bit words
 pub record FitsImage (t : Table) : Type 0 where
   pub order : orderOf t < 256 ^ 1
   pub metric : tableSpace t .metric < 256 ^ 1
+  pub weights : (i : ℕ) → weight (tableSpace t .weights) i < 256 ^ 1
   pub built : (k : ℕ) → k ≤ orderOf t → builtOf t k < 256 ^ 2
   pub live : (k : ℕ) → k ≤ orderOf t → liveOf t k < 256 ^ 2
   pub slots : (k : ℕ) → k ≤ orderOf t → length (slotsOf t k) ≡ builtOf t k
@@ -51,30 +55,41 @@ module _ (t : Table) (fit : FitsImage t) where
 
   length-header : length header ≡ headerBytes writtenForm
   unfolding header headerBytesOf headerBytes
-  length-header = length-fields (headerFields writtenForm) (orderOf t ∷ tableSpace t .metric ∷ writtenForm ∷ [])
+  length-header = length-fields (headerFields writtenForm) (orderOf t ∷ tableSpace t .metric ∷ writtenForm ∷ tableSpace t .weights .each)
 
   image-is : imageOf t ≡ header ++ (flatten (map pair (countFrom 0 (suc (orderOf t)))) ++ after-sizes)
   unfolding imageOf imageAs header after-sizes pair sizesOf bucketsOf sizeBytes
   image-is = simp append-assoc
 
-  -- order, metric and form
+  -- order, metric, form and weights
+  header-back : fieldsAt (imageOf t) (headerFields writtenForm) 0 ≡ orderOf t ∷ tableSpace t .metric ∷ writtenForm ∷ tableSpace t .weights .each
+  unfolding header headerBytesOf headerFields startFields weightFields writtenForm tableSpace spaceOf weightsOf weight
+  header-back =
+      fields-in (imageOf t) [] (headerFields writtenForm) (orderOf t ∷ tableSpace t .metric ∷ writtenForm ∷ tableSpace t .weights .each) _ 0 image-is refl
+      (fit .order, (fit .metric, (omega arith, (fit .weights 0, (fit .weights 1, (fit .weights 2, (fit .weights 3, tt)))))))
+
   start-back : startNumbers (imageOf t) ≡ orderOf t ∷ tableSpace t .metric ∷ writtenForm ∷ []
-  unfolding startNumbers header headerBytesOf headerFields startFields writtenForm
-  start-back =
-      fields-in (imageOf t) [] startFields (orderOf t ∷ tableSpace t .metric ∷ writtenForm ∷ []) _ 0 image-is refl
-      (fit .order, (fit .metric, (omega arith, tt)))
+  unfolding startNumbers headerFields startFields weightFields writtenForm fieldsAt
+  start-back = ap (take 3) header-back
+
+  weights-back : fieldsAt (imageOf t) (weightFields writtenForm) startBytes ≡ tableSpace t .weights .each
+  unfolding headerFields startFields weightFields writtenForm startBytes total fieldsAt
+  weights-back = ap (drop 3) header-back
 
   order-back : orderIn (imageOf t) ≡ orderOf t
   unfolding orderIn
   order-back = ap (λ (ns : List ℕ). getD ns 0 0) start-back
 
-  space-back : spaceIn (imageOf t) ≡ tableSpace t
-  unfolding spaceIn
-  space-back = rw start-back refl
-
   pub form-back : formIn (imageOf t) ≡ writtenForm
   unfolding formIn
   form-back = ap (λ (ns : List ℕ). getD ns 2 0) start-back
+
+  space-back : spaceIn (imageOf t) ≡ tableSpace t
+  unfolding spaceIn weightsAs writtenForm
+  space-back =
+      ap₂ {C = Space} (λ (m : ℕ) (w : Weights). record { metric = m; weights = w })
+      (ap (λ (ns : List ℕ). getD ns 1 0) start-back)
+      (ap (λ (f : ℕ). weightsAs f (imageOf t)) form-back ∙ ap (λ (each : List ℕ). record { each = each }) weights-back)
 
   pair-at : (k : ℕ) → k ≤ orderOf t → Block pair 4 (countFrom 0 (suc (orderOf t))) k k
   pair-at k h =

@@ -15,25 +15,30 @@ unfoldable pub numberOf : List ℕ → ℕ
 numberOf [] = 0
 numberOf (b ∷ bs) = b + 256 * numberOf bs
 
--- RULES 12.1: images are of forms, which are numbered: the image with its two zero bytes is form 0. The last form that is read, and the one that is written.
--- Fields and what follows from them go by the form. A form above the last is refused before any field of it is read
+-- RULES 12.7: images are of forms, which are numbered. Form 0 is from before there were weights; form 1 has them. The last form that is read, and the one
+-- that is written. Fields and what follows from them go by the form. A form above the last is refused before any field of it is read
 unfoldable pub lastForm : ℕ
-lastForm = 0
+lastForm = 1
 
 unfoldable pub validForm : ℕ → Bool
 validForm form = leb form lastForm
 
 unfoldable pub writtenForm : ℕ
-writtenForm = 0
+writtenForm = 1
 
 -- Fields are a list: of each, in their order, its number of bytes.
 -- What an image of any form begins with: order, metric and form
 unfoldable pub startFields : List ℕ
 startFields = 1 ∷ 1 ∷ 2 ∷ []
 
--- the header, which in form 0 is that alone
+-- the four weights, which form 0 does not have
+unfoldable pub weightFields : ℕ → List ℕ
+weightFields zero = []
+weightFields (suc form) = 1 ∷ 1 ∷ 1 ∷ 1 ∷ []
+
+-- the header is both
 unfoldable pub headerFields : ℕ → List ℕ
-headerFields form = startFields
+headerFields form = startFields ++ weightFields form
 
 -- RULES 12.1: a slot is its row's words in their order: the tag's two
 unfoldable pub tagFields : List ℕ

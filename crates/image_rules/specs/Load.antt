@@ -8,14 +8,14 @@ use Rattle.lists.specs.Lists.{every, select, distinct}
 use Rattle.metric_rules.specs.Row.{Row, tagOf, profileOf, isLive}
 use Rattle.metric_rules.specs.Validity.{validTag, validMeasures, validMark}
 use Rattle.metric_rules.specs.declared.Space.{Space}
-use Rattle.metric_rules.specs.Distance.{validMetric, distance}
+use Rattle.metric_rules.specs.Distance.{validMetric, validWeights, distance}
 use Rattle.tree_rules.specs.Layout.{isLayout}
-use Rattle.table_rules.specs.Refusals.{badOrder, badMetric, badLength, badImage, shortArea, badTable, unless, when}
+use Rattle.table_rules.specs.Refusals.{badOrder, badMetric, badWeight, badLength, badImage, shortArea, badTable, unless, when}
 use Rattle.table_rules.specs.Geometry.{validOrder, bucketsOf, tableRows}
 use Rattle.table_rules.specs.Table.{Table, putBucket}
 use Rattle.table_rules.specs.Checks.{sizesPass, liveSizeHolds}
 use Rattle.table_rules.specs.Fresh.{freshTable}
-use Rattle.image_rules.specs.Bytes.{validForm, startBytes, sizesEnd, imageLength}
+use Rattle.image_rules.specs.Bytes.{validForm, startBytes, headerBytes, sizesEnd, imageLength}
 use Rattle.image_rules.specs.Read.{orderIn, spaceIn, formIn, builtIn, liveIn, slotsIn, bucketIn}
 
 -- RULES 12.5, a slot's own fields: tag, measures, and a mark that is 0 or 1
@@ -37,22 +37,24 @@ slotsPass image =
     every (λ k. bucketPasses (spaceIn image) (liveIn image k) (bucketIn image k)) (bucketsOf (orderIn image))
     && distinct (map tagOf (liveRows image))
 
--- under 4 bytes 7; order 3; metric 4; a form that is not known 8; size pairs cut 7; sizes 24; total length 7; the table's room 23, of which only its
--- number of rows is read; then the slots 8
+-- RULES 12.4: under 4 bytes 7; order 3; metric 4; a form that is not known 8; weights cut 7; a weight 32; size pairs cut 7; sizes 24; total length 7; the
+-- table's room 23, of which only its number of rows is read; then the slots 8. An image of form 0 has no weights, and passes their two tests
 unfoldable pub loadRefusal : ℕ → List ℕ → ℕ
 loadRefusal rows image =
     when (ltb (length image) startBytes) badLength
     (unless (validOrder (orderIn image)) badOrder
     (unless (validMetric (spaceIn image)) badMetric
     (unless (validForm (formIn image)) badImage
+    (unless (leb (headerBytes (formIn image)) (length image)) badLength
+    (unless (validWeights (spaceIn image .weights)) badWeight
     (unless (leb (sizesEnd (formIn image) (orderIn image)) (length image)) badLength
     (unless (sizesPass (orderIn image) (builtIn image) (liveIn image)) badTable
     (unless (eqb (length image) (imageLength (formIn image) (orderIn image) (slotsIn image))) badLength
     (unless (leb (tableRows (orderIn image)) rows) shortArea
     (unless (slotsPass image) badImage
-    0))))))))
+    0))))))))))
 
--- RULES 12.3: a fresh table of the image's order and metric, with each bucket put in its place
+-- RULES 12.3: a fresh table of the image's order and space, with each bucket put in its place
 unfoldable pub loadedTable : List ℕ → Table → Table
 loadedTable image t =
     foldl (λ u k. putBucket k (bucketIn image k) (liveIn image k) u) (freshTable (orderIn image) (spaceIn image) t) (bucketsOf (orderIn image))

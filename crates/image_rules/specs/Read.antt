@@ -1,11 +1,13 @@
 -- RULES 12.1, read: the fields at their places, whatever the bytes are.
-use Prim.Native.Nat.{ℕ, suc, _+_, _*_}
+use Prim.Native.Nat.{ℕ, zero, suc, _+_, _*_}
 use mathlib.Core.List.{List, [], _∷_, _++_, map}
 use lib.ListN.{getD, take, drop}
 use Rattle.lists.specs.Lists.{total, countFrom}
 use Rattle.metric_rules.specs.Row.{Row}
+use Rattle.metric_rules.specs.declared.Weights.{Weights}
 use Rattle.metric_rules.specs.declared.Space.{Space}
-use Rattle.image_rules.specs.Bytes.{numberOf, startFields, tagFields, recordFields, headerBytes, tagBytes, recordBytes, sizeBytes, pairBytes, sizesEnd}
+use Rattle.metric_rules.specs.Distance.{weightsOne}
+use Rattle.image_rules.specs.Bytes.{numberOf, startFields, weightFields, tagFields, recordFields, startBytes, headerBytes, tagBytes, recordBytes, sizeBytes, pairBytes, sizesEnd}
 
 -- the w bytes at a place as a number, and the numbers of some fields from a place on
 unfoldable pub numberAt : List ℕ → ℕ → ℕ → ℕ
@@ -22,11 +24,16 @@ startNumbers image = fieldsAt image startFields 0
 unfoldable pub orderIn : List ℕ → ℕ
 orderIn image = getD (startNumbers image) 0 0
 
-unfoldable pub spaceIn : List ℕ → Space
-spaceIn image = record { metric = getD (startNumbers image) 1 0 }
-
 unfoldable pub formIn : List ℕ → ℕ
 formIn image = getD (startNumbers image) 2 0
+
+-- RULES 12.3: the weights, which are 1 in form 0
+unfoldable pub weightsAs : ℕ → List ℕ → Weights
+weightsAs zero image = weightsOne
+weightsAs (suc form) image = record { each = fieldsAt image (weightFields (suc form)) startBytes }
+
+unfoldable pub spaceIn : List ℕ → Space
+spaceIn image = record { metric = getD (startNumbers image) 1 0; weights = weightsAs (formIn image) image }
 
 -- the sizes of bucket k
 unfoldable pub builtIn : List ℕ → ℕ → ℕ

@@ -12,9 +12,9 @@ use Rattle.table_rules.specs.Checks.{readRefusal}
 use Rattle.image_rules.specs.declared.Written.{Written}
 use Rattle.image_rules.specs.Bytes.{writtenForm, bytesOf, bytesOfFields, headerFields, sizeBytes, tagFields, recordFields, tagWords}
 
--- order, metric, form
+-- order, metric, form, weights; in form 0 the weights are left out
 unfoldable pub headerBytesOf : ℕ → ℕ → Space → List ℕ
-headerBytesOf form order space = bytesOfFields (headerFields form) (order ∷ space .metric ∷ form ∷ [])
+headerBytesOf form order space = bytesOfFields (headerFields form) (order ∷ space .metric ∷ form ∷ space .weights .each)
 
 -- RULES 12.1: built and live of each bucket from 0 up
 unfoldable pub sizesOf : ℕ → (ℕ → ℕ) → (ℕ → ℕ) → List ℕ

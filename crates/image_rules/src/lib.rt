@@ -1,7 +1,9 @@
 // The image of a table: the bytes it is written as, and the table that they load as.
 
-// What has the same number of bytes in every form of an image: its start, a size, the two sizes of a bucket, and a slot's tag.
+// What has the same number of bytes in every form of an image that has it: its start, the weights, a size, the two sizes of a bucket, and a slot's tag.
 pub const START_BYTES: usize = 4;
+
+pub const WEIGHT_BYTES: usize = 4;
 
 pub const SIZE_BYTES: usize = 2;
 

@@ -44,7 +44,7 @@ module _ (t : Table) where
 
   pub length-header : length headerPart ≡ headerBytes writtenForm
   unfolding headerPart headerBytesOf headerBytes
-  length-header = length-fields (headerFields writtenForm) (orderOf t ∷ tableSpace t .metric ∷ writtenForm ∷ [])
+  length-header = length-fields (headerFields writtenForm) (orderOf t ∷ tableSpace t .metric ∷ writtenForm ∷ tableSpace t .weights .each)
 
   pub length-front : length headerPart + length sizesPart ≡ sizesEnd writtenForm (orderOf t)
   unfolding sizesPart sizesEnd

@@ -8,7 +8,7 @@ ghost use Rattle.metric_rules.specs.Row.{word};
 ghost use Rattle.metric_rules.specs.Distance.{spaceOf};
 ghost use Rattle.table_rules.specs.Table.{orderOf, builtOf, liveOf};
 ghost use Rattle.table_rules.specs.Passed.{Passed};
-ghost use Rattle.image_rules.specs.Bytes.{writtenForm, bytesOf, headerBytes, sizeBytes, pairBytes, sizesEnd};
+ghost use Rattle.image_rules.specs.Bytes.{writtenForm, bytesOf, bytesOfFields, weightFields, startBytes, headerBytes, sizeBytes, pairBytes, sizesEnd};
 ghost use Rattle.image_rules.specs.Write.{headerBytesOf, sizesOf, tagsOf, recordsOf, allSlots, imageOf, writeReply, imageAfterWrite};
 use image_form::Form;
 use image_put::put_records;
@@ -19,6 +19,10 @@ use image_rules::TAG_BYTES;
 use image_rules::Written;
 use metric_rules::METRIC_AT;
 use metric_rules::Row;
+use metric_rules::WEIGHT_0;
+use metric_rules::WEIGHT_1;
+use metric_rules::WEIGHT_2;
+use metric_rules::WEIGHT_3;
 use table_checks::read_refusal;
 use table_order::Order;
 use table_rules::NO_ROOM;
@@ -29,7 +33,18 @@ use table_views::live_of;
 use table_views::order_in;
 use table_views::slots_of;
 
-// Order, metric and form.
+// A byte for each weight, behind the four of the start.
+fn put_weights(image: &mut [u8], header: Row)
+    requires { ⌜ headerBytes writtenForm ≤ length (now image) ⌝ }
+    ensures { λ _. ⌜ now (image .exit) ≡ sets (now (image .entry)) startBytes (bytesOfFields (weightFields writtenForm) (spaceOf header .weights .each)) ⌝ }
+{
+    image[4] = (header[WEIGHT_0] % 256) as u8;
+    image[5] = (header[WEIGHT_1] % 256) as u8;
+    image[6] = (header[WEIGHT_2] % 256) as u8;
+    image[7] = (header[WEIGHT_3] % 256) as u8;
+}
+
+// Order, metric, form and weights.
 fn put_header(image: &mut [u8], header: Row)
     requires { ⌜ headerBytes writtenForm ≤ length (now image) ⌝ }
     ensures { λ _. ⌜ now (image .exit) ≡ sets (now (image .entry)) 0 (headerBytesOf writtenForm (word header 0) (spaceOf header)) ⌝ }
@@ -37,6 +52,7 @@ fn put_header(image: &mut [u8], header: Row)
     image[0] = (header[ORDER_AT] % 256) as u8;
     image[1] = (header[METRIC_AT] % 256) as u8;
     put16(image, 2, Form::WRITTEN);
+    put_weights(image, header);
 }
 
 // The sizes of a bucket.

@@ -3,9 +3,9 @@ ghost use mathlib.Core.Path.{_≡_};
 ghost use lib.IntN.{_-ℤ_, natAbs};
 ghost use mir.Syntax.{w32};
 ghost use mir.Val.{toZ};
-ghost use Prim.Native.Nat.{_+_, max};
+ghost use Prim.Native.Nat.{_+_, _*_, max};
 ghost use Rattle.metric_rules.specs.Row.{profileOf};
-ghost use Rattle.metric_rules.specs.Distance.{saturated, differing, codeDistance, distanceBy, distance, spaceOf};
+ghost use Rattle.metric_rules.specs.Distance.{saturated, differing, codeDistance, distance, spaceOf, validWeights};
 ghost use Rattle.metric_rules.specs.Validity.{validTag, validMeasure, validMeasures};
 use metric_rules::CODE_0_HIGH;
 use metric_rules::CODE_0_LOW;
@@ -18,9 +18,16 @@ use metric_rules::MEASURE_3;
 use metric_rules::METRIC_AT;
 use metric_rules::Profile;
 use metric_rules::Row;
+use metric_rules::WEIGHT_0;
+use metric_rules::WEIGHT_1;
+use metric_rules::WEIGHT_2;
+use metric_rules::WEIGHT_3;
+use metric_rules::Weights;
 use rows::joined;
 
-// What a larger sum is taken as.
+// The first number past a distance, and what a larger product or sum is taken as.
+const PAST_DISTANCES: u64 = 0x1_0000_0000;
+
 const MOST_DISTANCE: u32 = 0xffff_ffff;
 
 // Half the range of a word.
@@ -36,40 +43,56 @@ fn gap_of(a: u32, b: u32) -> u32
     if x < y { y - x } else { x - y }
 }
 
-// The sum of four numbers, saturated once, at the end.
-fn saturated_sum(a: u32, b: u32, c: u32, d: u32) -> u32
-    ensures { λ r. ⌜ r ≡ saturated (a + b + c + d) ⌝ }
+// The difference of one measure, by its weight: in 64 bits the product of two words fits.
+fn weighted_gap(weight: u32, a: u32, b: u32) -> u64
+    ensures { λ r. ⌜ r ≡ weight * natAbs (toZ w32 a -ℤ toZ w32 b) ⌝ }
 {
-    let sum = a as u64 + b as u64 + c as u64 + d as u64;
-    if sum < 0x1_0000_0000 {
-        sum as u32
+    weight as u64 * gap_of(a, b) as u64
+}
+
+fn saturate(n: u64) -> u32
+    ensures { λ r. ⌜ r ≡ saturated n ⌝ }
+{
+    if n < PAST_DISTANCES {
+        n as u32
     } else {
         MOST_DISTANCE
     }
 }
 
-fn larger(a: u32, b: u32) -> u32
+// The sum of four products, saturated once, at the end. One that is past 32 bits decides, so that no sum wraps; the four tests are one for the compiler.
+fn saturated_sum(a: u64, b: u64, c: u64, d: u64) -> u32
+    ensures { λ r. ⌜ r ≡ saturated (a + b + c + d) ⌝ }
+{
+    if (a < PAST_DISTANCES) & (b < PAST_DISTANCES) & (c < PAST_DISTANCES) & (d < PAST_DISTANCES) {
+        saturate(a + b + c + d)
+    } else {
+        MOST_DISTANCE
+    }
+}
+
+fn larger(a: u64, b: u64) -> u64
     ensures { λ r. ⌜ r ≡ max a b ⌝ }
 {
     if a < b { b } else { a }
 }
 
-// Metrics 0 and 2: the sum and the largest of the four measures' differences. The differences stand here once, so that a distance stays small enough
-// to be inlined where it is taken. The largest fits as it is.
-fn measure_distance(metric: u32, a: Row, b: Row) -> u32
-    requires { ⌜ (metric ≡ 1 → ⊥) ⌝ }
-    ensures { λ r. ⌜ r ≡ distanceBy metric (profileOf a) (profileOf b) ⌝ }
+// Metrics 0 and 2: the sum and the largest of the four measures' weighted differences. The differences stand here once, so that a distance stays small
+// enough to be inlined where it is taken.
+fn measure_distance(header: &Row, a: Row, b: Row) -> u32
+    requires { ⌜ (spaceOf (now header) .metric ≡ 1 → ⊥) ⌝ }
+    ensures { λ r. ⌜ r ≡ distance (spaceOf (now (header .entry))) (profileOf a) (profileOf b) ⌝ }
 {
-    let first = gap_of(a[MEASURE_0], b[MEASURE_0]);
-    let second = gap_of(a[MEASURE_1], b[MEASURE_1]);
-    let third = gap_of(a[MEASURE_2], b[MEASURE_2]);
-    let fourth = gap_of(a[MEASURE_3], b[MEASURE_3]);
-    if metric == 0 {
+    let first = weighted_gap(header[WEIGHT_0], a[MEASURE_0], b[MEASURE_0]);
+    let second = weighted_gap(header[WEIGHT_1], a[MEASURE_1], b[MEASURE_1]);
+    let third = weighted_gap(header[WEIGHT_2], a[MEASURE_2], b[MEASURE_2]);
+    let fourth = weighted_gap(header[WEIGHT_3], a[MEASURE_3], b[MEASURE_3]);
+    if header[METRIC_AT] == 0 {
         return saturated_sum(first, second, third, fourth);
     }
     let front = larger(first, second);
     let back = larger(third, fourth);
-    if front < back { back } else { front }
+    saturate(larger(front, back))
 }
 
 // The number of bits in which two words differ.
@@ -94,16 +117,15 @@ fn code_distance(a: Row, b: Row) -> u32
     first + second
 }
 
-// The distance between the profiles of two rows, by a table's header row. A number that is no metric reads as 2. A search makes its query a row
+// The distance between the profiles of two rows, by the metric and the weights of a table's header row. A number that is no metric reads as 2. A search makes its query a row
 // once (`row_of`), so that each slot costs a row against a row.
 pub fn distance_between(header: &Row, a: Row, b: Row) -> u32
     ensures { λ r. ⌜ r ≡ distance (spaceOf (now (header .entry))) (profileOf a) (profileOf b) ⌝ }
 {
-    let metric = header[METRIC_AT];
-    if metric == 1 {
+    if header[METRIC_AT] == 1 {
         code_distance(a, b)
     } else {
-        measure_distance(metric, a, b)
+        measure_distance(header, a, b)
     }
 }
 
@@ -135,4 +157,14 @@ pub fn valid_measures(profile: Profile) -> bool
 {
     let m = profile.measures;
     valid_measure(m[0]) & valid_measure(m[1]) & valid_measure(m[2]) & valid_measure(m[3])
+}
+
+// The largest weight.
+const MOST_WEIGHT: u32 = 100;
+
+pub fn valid_weights(weights: Weights) -> bool
+    ensures { λ r. ⌜ r ≡ validWeights weights ⌝ }
+{
+    let w = weights.each;
+    (w[0] <= MOST_WEIGHT) & (w[1] <= MOST_WEIGHT) & (w[2] <= MOST_WEIGHT) & (w[3] <= MOST_WEIGHT)
 }

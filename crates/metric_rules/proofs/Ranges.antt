@@ -11,7 +11,9 @@ use lib.Signed.{leZ}
 use borrow.Author.Tests.{leb-true, leb-false, le-leb, lt-leb, ltb-true}
 use Rattle.lists.specs.Lists.{countFrom, every}
 use Rattle.metric_rules.specs.declared.Profile.{Profile}
+use Rattle.metric_rules.specs.declared.Weights.{Weights}
 use Rattle.metric_rules.specs.Row.{IsProfile, measure}
+use Rattle.metric_rules.specs.Distance.{IsWeights, weight, validWeights}
 use Rattle.metric_rules.specs.Validity.{nationalOf, lastNational, validTag, validMeasure, validMeasures}
 use Rattle.metric_rules.proofs.Elements.{elements, both-true}
 
@@ -47,3 +49,8 @@ pub measures-range : (p : Profile) → IsProfile p
     → validMeasures p ≡ validMeasure (measure p 0) && validMeasure (measure p 1) && validMeasure (measure p 2) && validMeasure (measure p 3)
 unfolding validMeasures measure countFrom
 measures-range p is = ap (every validMeasure) (sym (elements (pos 0) 4 (p .measures) (is .four))) ∙ simp (and-assoc, and-true)
+
+pub weights-range : (weights : Weights) → IsWeights weights
+    → validWeights weights ≡ leb (weight weights 0) 100 && leb (weight weights 1) 100 && leb (weight weights 2) 100 && leb (weight weights 3) 100
+unfolding validWeights every weight countFrom
+weights-range weights is = ap (every (λ w. leb w 100)) (sym (elements 0 4 (weights .each) (is .four))) ∙ simp (and-assoc, and-true)

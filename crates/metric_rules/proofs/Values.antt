@@ -1,5 +1,5 @@
--- What a function knows of its arguments by their types: an array of twelve words is a row, and a struct `Profile` has four signed measures and two
--- words. Each follows from the relation that `c .good` holds (and `.ok` of a call's result), element by element.
+-- What a function knows of its arguments by their types: an array of twelve words is a row, a struct `Profile` has four signed measures and two
+-- words, and `Weights` four words. Each follows from the relation that `c .good` holds (and `.ok` of a call's result), element by element.
 use Prim.Native.Nat.{ℕ, zero, suc, _<_, _^_}
 use mathlib.Core.Path.{_≡_, ap, _∙_, subst}
 use mathlib.Core.List.{List, [], _∷_, map-id}
@@ -16,8 +16,11 @@ use denote.Array.{Array, each}
 use denote.Struct.Declared.{row}
 use borrow.Author.Needs.{elem-fits}
 use Rattle.metric_rules.specs.declared.Profile.{Profile}
+use Rattle.metric_rules.specs.declared.Weights.{Weights}
 use Rattle.metric_rules.specs.Row.{Row, IsRow, IsProfile, rowWidth, word, measure, codeWord}
-use Rattle.metric_rules.proofs.Profile.{the-type}
+use Rattle.metric_rules.specs.Distance.{IsWeights, weight}
+use Rattle.metric_rules.proofs.Profile as P
+use Rattle.metric_rules.proofs.Weights as W
 
 -- the array's size is `rowWidth`: a type has to name the number itself
 pub is-row : (xs : Row) (vs : List Val) → Is (Array (UInt w32) 12) xs vs → IsRow xs
@@ -36,12 +39,21 @@ four-signed zs vs g = (g .1 .0 .1, signed-each zs (g .0) (g .1 .1))
 two-words : (ns : List ℕ) (vs : List Val) → Is (Array (UInt w64) 2) ns vs → (length ns ≡ 2) × ((i : ℕ) → getD ns i 0 < 2 ^ 64)
 two-words ns vs g = (g .1 .0 .1, λ i. elem-fits w64 w64 ns (g .0) i (g .1 .1) tt .fits)
 
-pub is-profile : (p : Profile) (vs : List Val) → Is (row the-type) p vs → IsProfile p
+four-words : (ns : List ℕ) (vs : List Val) → Is (Array (UInt w32) 4) ns vs → (length ns ≡ 4) × ((i : ℕ) → getD ns i 0 < 2 ^ 32)
+four-words ns vs g = (g .1 .0 .1, λ i. elem-fits w32 w32 ns (g .0) i (g .1 .1) tt .fits)
+
+pub is-profile : (p : Profile) (vs : List Val) → Is (row P.the-type) p vs → IsProfile p
 unfolding measure codeWord
 is-profile p vs g =
     let m = four-signed (p .measures) _ (subst (λ (zs : List ℤ). Is (Array (SInt w32) 4) zs (g .0 .0)) (map-id (p .measures)) (g .1 .1 .0)) in
     let k = two-words (p .code) _ (subst (λ (ns : List ℕ). Is (Array (UInt w64) 2) ns (g .0 .1 .0)) (map-id (p .code)) (g .1 .1 .1 .0)) in
     record { four = m .0; two = k .0; signed = m .1; wide = k .1 }
+
+pub is-weights : (weights : Weights) (vs : List Val) → Is (row W.the-type) weights vs → IsWeights weights
+unfolding weight
+is-weights weights vs g =
+    let k = four-words (weights .each) _ (subst (λ (ns : List ℕ). Is (Array (UInt w32) 4) ns (g .0 .0)) (map-id (weights .each)) (g .1 .1 .0)) in
+    record { four = k .0; fits = k .1 }
 
 -- a measure that is copied out of the array comes as its bits read back
 pub copied : {A : Type 0} (f : ℤ → A) (p : Profile) → IsProfile p → (i : ℕ) {a : A} → a ≡ f (toZ w32 (ofZ w32 (measure p i))) → a ≡ f (measure p i)

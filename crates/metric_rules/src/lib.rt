@@ -28,15 +28,33 @@ pub const THRESHOLD_AT: usize = 10;
 
 pub const MARK_AT: usize = 11;
 
-// RULES 4.3: the place of the metric in a table's header row.
+// RULES 4.3: the places of the metric and of the four weights in a table's header row.
 pub const METRIC_AT: usize = 1;
+
+pub const WEIGHT_0: usize = 2;
+
+pub const WEIGHT_1: usize = 3;
+
+pub const WEIGHT_2: usize = 4;
+
+pub const WEIGHT_3: usize = 5;
 
 // A slot of a table: twelve words of 32 bits. Every twelve words are some slot.
 pub type Row = [u32; ROW_WIDTH];
 
-// What a distance depends on, in one value: a table's metric.
+// RULES 3.7: what the difference of each measure is multiplied by.
+#[repr(C)]
+pub struct Weights {
+    pub each: [u32; 4],
+}
+
+// Weights with which every measure counts as it is.
+pub const WEIGHTS_ONE: Weights = Weights { each: [1, 1, 1, 1] };
+
+// What a distance depends on, in one value: a table's metric and its weights.
 pub struct Space {
     pub metric: u32,
+    pub weights: Weights,
 }
 
 // RULES 2.6: four measures in hundredths and the coat code, handed over as one value.

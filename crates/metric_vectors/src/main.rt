@@ -121,22 +121,35 @@ fn print_objects() {
     }
 }
 
-// A header row with this metric.
-fn header(metric: u32) -> Row {
-    [0, metric, 0, 0, 0, 0, 0, 0, 0, 0, 0, 0]
+// A header row with this metric and these weights.
+fn header(metric: u32, weights: [u32; 4]) -> Row {
+    let w = weights;
+    [0, metric, w[0], w[1], w[2], w[3], 0, 0, 0, 0, 0, 0]
 }
 
-// The distance of two rows, and of a row and a query as a search makes it a row, by a metric's number.
-fn between(metric: u32, a: Row, b: Row) -> u64 {
-    let by = header(metric);
+// The distance of two rows by a metric's number and these weights.
+fn weighted(metric: u32, weights: [u32; 4], a: Row, b: Row) -> u64 {
+    let by = header(metric, weights);
     metric::distance_between(&by, a, b) as u64
+}
+
+// With weights 1: the distance of two rows, and of a row and a query as a search makes it a row.
+fn between(metric: u32, a: Row, b: Row) -> u64 {
+    weighted(metric, [1, 1, 1, 1], a, b)
 }
 
 fn to_query(metric: u32, a: Row, query: Profile) -> u64 {
     between(metric, a, rows::row_of(0, query, 0, 0))
 }
 
-// The distances of objects i and j: by each metric and by a number that is none, then from a row to a query.
+// By each metric with these weights.
+fn print_weighted(weights: [u32; 4], a: Row, b: Row) {
+    print_number(weighted(0, weights, a, b));
+    print_number(weighted(1, weights, a, b));
+    print_number(weighted(2, weights, a, b));
+}
+
+// The distances of objects i and j: by each metric and by a number that is none, then from a row to a query, then with other weights.
 fn print_pair(i: usize, j: usize) {
     let a = row_at(i);
     let b = row_at(j);
@@ -146,7 +159,12 @@ fn print_pair(i: usize, j: usize) {
     print_number(between(0xffff_ffff, a, b));
     print_number(to_query(0, a, profile_at(j)));
     print_number(to_query(1, a, profile_at(j)));
-    print_last(to_query(2, a, profile_at(j)));
+    print_number(to_query(2, a, profile_at(j)));
+    print_weighted([2, 1, 1, 1], a, b);
+    print_weighted([3, 0, 100, 1], a, b);
+    print_number(weighted(0, [100, 100, 100, 100], a, b));
+    print_number(weighted(1, [100, 100, 100, 100], a, b));
+    print_last(weighted(2, [100, 100, 100, 100], a, b));
 }
 
 fn print_distances() {

@@ -43,13 +43,13 @@ module _ (t : Table) (some : 0 < length t) where
   unfolding frameBy
   frame-stands e f g = frame-when true true true e f g
 
--- what the reading of a framed table's sizes asks
-pub sizes-asked : (t : Table) → frameRefusal t ≡ 0 → (n : ℕ) → n ≡ orderOf t → (n < 31) × (sizesRow n < length t)
-sizes-asked t e n o =
+-- what the reading of a framed table's header rows asks
+pub header-asked : (t : Table) → frameRefusal t ≡ 0 → (n : ℕ) → n ≡ orderOf t → (n ≡ orderOf t) × (n < 31) × (sizesRow n < length t)
+header-asked t e n o =
     let f = framed t e in
     let inside : sizesRow n < tableRows n = sizes-inside n n (omega arith) in
     let rows : tableRows n ≡ tableRows (orderOf t) = ap tableRows o in
-    (omega (arith, f .order), omega (arith, f .long))
+    (o, omega (arith, f .order), omega (arith, f .long))
 
 -- behind a frame that stands the other tests decide
 module _ (t : Table) (stands : frameRefusal t ≡ 0) where

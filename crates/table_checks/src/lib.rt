@@ -6,8 +6,9 @@ ghost use lib.ListN.{length};
 ghost use Rattle.lists.specs.Lists.{every};
 ghost use Rattle.table_rules.specs.Geometry.{bucketsOf, sizesRow};
 ghost use Rattle.table_rules.specs.Table.{orderOf, builtOf, liveOf};
-ghost use Rattle.table_rules.specs.Checks.{sizePasses, sizesPass, slotsMarked, marksPass, frameRefusal, readRefusal, changeRefusal};
+ghost use Rattle.table_rules.specs.Checks.{sizePasses, sizesPass, headerPasses, slotsMarked, marksPass, frameRefusal, readRefusal, changeRefusal};
 ghost use Rattle.table_rules.specs.Passed.{Passed};
+use metric::valid_weights;
 use metric_rules::Row;
 use rows::mark_of;
 use table_order::Order;
@@ -22,6 +23,7 @@ use table_views::live_total;
 use table_views::order_in;
 use table_views::order_of;
 use table_views::slots_of;
+use table_views::weights_of;
 
 // A bucket's sizes are words of any value, and four times a word fits 64 bits.
 pub fn size_passes(k: u32, built: u32, live: u32) -> bool
@@ -57,6 +59,17 @@ fn sizes_pass(table: &[Row], order: Order) -> bool
         return false;
     }
     live_total(table, order) <= Order::room(order.t) as u64
+}
+
+// The weights, whatever the metric, and the sizes.
+fn header_passes(table: &[Row], order: Order) -> bool
+    requires { ⌜ (order .t ≡ orderOf (now table)) × (order .t < 31) × (sizesRow (order .t) < length (now table)) ⌝ }
+    ensures { λ r. ⌜ r ≡ headerPasses (now (table .entry)) ⌝ }
+{
+    if !valid_weights(weights_of(table[HEADER_ROW])) {
+        return false;
+    }
+    sizes_pass(table, order)
 }
 
 // One pass over a bucket's slots: a mark above 1 ends it, and the 0 marks are counted.
@@ -121,7 +134,7 @@ pub fn read_refusal(table: &[Row]) -> u32
     if refusal != 0 {
         return refusal;
     }
-    if !sizes_pass(table, order_in(table)) {
+    if !header_passes(table, order_in(table)) {
         return BAD_TABLE;
     }
     0
@@ -139,7 +152,7 @@ pub fn change_refusal(table: &[Row], rows: usize) -> u32
     if rows < order.work_rows() {
         return SHORT_AREA;
     }
-    if !sizes_pass(table, order) {
+    if !header_passes(table, order) {
         return BAD_TABLE;
     }
     if !marks_pass(table, order) {

@@ -1,4 +1,4 @@
-// Fresh: a table's order and metric are set, and every bucket is empty.
+// Fresh: a table's order, metric and weights are set, and every bucket is empty.
 ghost use mathlib.Core.Path.{_≡_};
 ghost use mathlib.Core.List.{_∷_, _++_};
 ghost use Prim.Native.Nat.{_-_, _≤_, _<_};
@@ -6,15 +6,21 @@ ghost use lib.ListN.{length, drop, replicate};
 ghost use Rattle.metric_rules.specs.Row.{zeroRow};
 ghost use Rattle.table_rules.specs.Table.{headerOf};
 ghost use Rattle.table_rules.specs.Fresh.{freshRefusal, tableAfterFresh};
+use metric::valid_weights;
 use metric_rules::METRIC_AT;
 use metric_rules::ROW_WIDTH;
 use metric_rules::Row;
 use metric_rules::Space;
+use metric_rules::WEIGHT_0;
+use metric_rules::WEIGHT_1;
+use metric_rules::WEIGHT_2;
+use metric_rules::WEIGHT_3;
 use rows::zero_rows;
 use table_order::Order;
 use table_order::Ordered;
 use table_rules::BAD_METRIC;
 use table_rules::BAD_ORDER;
+use table_rules::BAD_WEIGHT;
 use table_rules::SHORT_AREA;
 use table_views::HEADER_ROW;
 use table_views::ORDER_AT;
@@ -26,6 +32,11 @@ pub fn header_row(order: u32, space: Space) -> Row
     let mut row = [0u32; ROW_WIDTH];
     row[ORDER_AT] = order;
     row[METRIC_AT] = space.metric;
+    let w = space.weights.each;
+    row[WEIGHT_0] = w[0];
+    row[WEIGHT_1] = w[1];
+    row[WEIGHT_2] = w[2];
+    row[WEIGHT_3] = w[3];
     row
 }
 
@@ -38,7 +49,7 @@ fn write_fresh(table: &mut [Row], rows: usize, order: u32, space: Space)
     table[HEADER_ROW] = header_row(order, space);
 }
 
-// The refusal, 0 if accepted: 3, 4, 23. Nothing of the table is read but its length.
+// The refusal, 0 if accepted: 3, 4, 32, 23. Nothing of the table is read but its length.
 pub fn fresh(table: &mut [Row], order: u32, space: Space) -> u32
     ensures reply { λ r. ⌜ r ≡ freshRefusal (length (now (table .entry))) order space ⌝ }
     ensures area { λ _. ⌜ now (table .exit) ≡ tableAfterFresh order space (now (table .entry)) ⌝ }
@@ -48,6 +59,10 @@ pub fn fresh(table: &mut [Row], order: u32, space: Space) -> u32
         Ordered::Is(valid) => {
             if !valid_metric(space) {
                 return BAD_METRIC;
+            }
+            let weights = space.weights;
+            if !valid_weights(weights) {
+                return BAD_WEIGHT;
             }
             let rows = valid.table_rows();
             if table.len() < rows {

@@ -7,11 +7,14 @@ use native.Mathlib.Nat.{sub-zero}
 use native.Mathlib.Omega.{arith}
 use lib.ListN.{length, take, drop, set, replicate, length-append, length-replicate, length-drop, length-set, getD-replicate, List·getD-append}
 use lib.Seq.{take-set-le, take-set-lt, drop-set-lt, drop-at}
-use Rattle.metric_rules.specs.Row.{Row, word, withMark, zeroRow}
+use Rattle.lists.specs.Lists.{countFrom}
+use Rattle.metric_rules.specs.Row.{Row, word, withMark, zeroRow, rowWidth}
+use Rattle.metric_rules.specs.declared.Weights.{Weights}
 use Rattle.metric_rules.specs.declared.Space.{Space}
-use Rattle.metric_rules.specs.Distance.{spaceOf, metricAt}
+use Rattle.metric_rules.specs.Distance.{weight, weightsOf, spaceOf, metricAt, weightsAt}
+use Rattle.metric_rules.proofs.Elements.{elements}
 use Rattle.table_rules.specs.Geometry.{room, headerRow, sizesRow, firstSlot, tableRows}
-use Rattle.table_rules.specs.Table.{Table, rowAt, orderOf, tableSpace, builtOf, liveOf, slotsOf, pairRow, headerOf, putSizes}
+use Rattle.table_rules.specs.Table.{Table, rowAt, orderOf, tableSpace, builtOf, liveOf, slotsOf, pairRow, withWeights, headerOf, putSizes}
 use Rattle.table_rules.specs.LookUp.{Place}
 use Rattle.table_rules.specs.Remove.{marked}
 use Rattle.table_rules.specs.Fresh.{freshTable}
@@ -104,6 +107,12 @@ window-equal zero m n z rest h = take-equal m n z rest (omega arith)
 window-equal (suc f) m zero z rest h = absurd (omega arith)
 window-equal (suc f) m (suc n) z rest h = window-equal f m n z rest (omega arith)
 
+-- a header row shows what it was made of, if the weights are four
+pub header-space : (order : ℕ) (space : Space) → length (space .weights .each) ≡ 4 → spaceOf (headerOf order space) ≡ space
+unfolding word headerOf withWeights weight zeroRow rowWidth metricAt weightsAt spaceOf weightsOf countFrom
+header-space order space four =
+    ap (λ (each : List ℕ). record { metric = space .metric; weights = record { each = each } }) (elements 0 4 (space .weights .each) four)
+
 -- fresh: the header as given, every bucket empty, the rows past the table as they were
 module _ (order : ℕ) (space : Space) (t : Table) where
   pub fresh-header : rowAt (freshTable order space t) headerRow ≡ headerOf order space
@@ -111,12 +120,12 @@ module _ (order : ℕ) (space : Space) (t : Table) where
   fresh-header = refl
 
   pub fresh-order : orderOf (freshTable order space t) ≡ order
-  unfolding orderOf word headerOf zeroRow metricAt
+  unfolding orderOf word headerOf withWeights zeroRow metricAt weightsAt
   fresh-order = ap (λ (r : Row). word r 0) fresh-header
 
-  pub fresh-space : tableSpace (freshTable order space t) ≡ space
-  unfolding tableSpace word headerOf zeroRow metricAt spaceOf
-  fresh-space = ap spaceOf fresh-header
+  pub fresh-space : length (space .weights .each) ≡ 4 → tableSpace (freshTable order space t) ≡ space
+  unfolding tableSpace
+  fresh-space four = ap spaceOf fresh-header ∙ header-space order space four
 
   module _ (long : tableRows order ≤ length t) where
     front-length : length (headerOf order space ∷ replicate (tableRows order - 1) zeroRow) ≡ tableRows order

@@ -7,7 +7,7 @@ use lib.Dec.{leb, ltb, eqb}
 use Rattle.lists.specs.Lists.{every, select, total}
 use Rattle.metric_rules.specs.Row.{Row, isLive}
 use Rattle.metric_rules.specs.Validity.{validMark}
-use Rattle.metric_rules.specs.Distance.{validMetric}
+use Rattle.metric_rules.specs.Distance.{validMetric, validWeights}
 use Rattle.table_rules.specs.Refusals.{shortArea, badTable, unless, orElse}
 use Rattle.table_rules.specs.Geometry.{validOrder, room, bucketsOf, tableRows, workRows}
 use Rattle.table_rules.specs.Table.{Table, orderOf, tableSpace, builtOf, liveOf, slotsOf}
@@ -44,9 +44,9 @@ frameRefusal (r ∷ rs) =
     (unless (leb (tableRows (orderOf t)) (length t)) shortArea
     0)
 
--- what else a lent table holds in its header rows, tested behind every length: its sizes
+-- what else a lent table holds in its header rows, tested behind every length: its weights, whatever its metric, and its sizes
 abbrev pub headerPasses : Table → Bool
-headerPasses t = sizesPass (orderOf t) (builtOf t) (liveOf t)
+headerPasses t = validWeights (tableSpace t .weights) && sizesPass (orderOf t) (builtOf t) (liveOf t)
 
 -- RULES 14.5, for the calls that only read a table
 unfoldable pub readRefusal : Table → ℕ

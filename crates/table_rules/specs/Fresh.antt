@@ -1,22 +1,23 @@
--- RULES 7: an order and a metric set, and every bucket empty.
+-- RULES 7: an order, a metric and weights set, and every bucket empty.
 use Prim.Native.Nat.{ℕ, zero, suc, _-_}
 use mathlib.Core.List.{_∷_, _++_}
 use lib.ListN.{length, drop, replicate}
 use lib.Dec.{leb}
 use Rattle.metric_rules.specs.Row.{zeroRow}
 use Rattle.metric_rules.specs.declared.Space.{Space}
-use Rattle.metric_rules.specs.Distance.{validMetric}
-use Rattle.table_rules.specs.Refusals.{badOrder, badMetric, shortArea, unless}
+use Rattle.metric_rules.specs.Distance.{validMetric, validWeights}
+use Rattle.table_rules.specs.Refusals.{badOrder, badMetric, badWeight, shortArea, unless}
 use Rattle.table_rules.specs.Geometry.{validOrder, tableRows}
 use Rattle.table_rules.specs.Table.{Table, headerOf}
 
--- RULES 7.2: 3, 4, 23; nothing of the table is read but its length
+-- RULES 7.2: 3, 4, 32, 23; nothing of the table is read but its length
 unfoldable pub freshRefusal : ℕ → ℕ → Space → ℕ
 freshRefusal rows order space =
     unless (validOrder order) badOrder
     (unless (validMetric space) badMetric
+    (unless (validWeights (space .weights)) badWeight
     (unless (leb (tableRows order) rows) shortArea
-    0))
+    0)))
 
 -- RULES 7.1: the header, then zeros in every size and slot; rows past the table keep their content
 unfoldable pub freshTable : ℕ → Space → Table → Table

@@ -50,9 +50,13 @@ full = 22
 abbrev pub shortArea : ℕ
 shortArea = 23
 
--- order, metric or sizes of a lent table, or sizes of an image, break the rules; in add and remove also the marks of a lent bucket
+-- order, metric, weights or sizes of a lent table, or sizes of an image, break the rules; in add and remove also the marks of a lent bucket
 abbrev pub badTable : ℕ
 badTable = 24
+
+-- a weight above the largest (fresh, load)
+abbrev pub badWeight : ℕ
+badWeight = 32
 
 -- A refusal is a list of tests in the rules' order: the first that stops the call gives its number, and later ones are not worked out.
 

@@ -1,6 +1,6 @@
 -- A table as its rows: what the header, the sizes and the slots show, and a bucket put in its place.
 -- RULES 4.3 has where they stand, RULES 5.2 what the sizes are.
-use Prim.Native.Nat.{ℕ, _-_}
+use Prim.Native.Nat.{ℕ, _+_, _-_}
 use mathlib.Core.Bool.{Bool, not}
 use mathlib.Core.List.{List, [], _++_, map, foldl}
 use lib.ListN.{length, getD, take, drop, set, replicate}
@@ -8,8 +8,9 @@ use lib.Dec.{eqb}
 use lib.Seq.{paste}
 use Rattle.lists.specs.Lists.{select, total}
 use Rattle.metric_rules.specs.Row.{Row, word, isLive, zeroRow}
+use Rattle.metric_rules.specs.declared.Weights.{Weights}
 use Rattle.metric_rules.specs.declared.Space.{Space}
-use Rattle.metric_rules.specs.Distance.{metricAt, spaceOf}
+use Rattle.metric_rules.specs.Distance.{weight, metricAt, weightsAt, spaceOf}
 use Rattle.table_rules.specs.Geometry.{room, bucketsOf, headerRow, sizesRow, firstSlot}
 
 abbrev pub Table : Type 0
@@ -53,9 +54,15 @@ liveSlots t k = select isLive (slotsOf t k)
 unfoldable pub pairRow : ℕ → ℕ → Row
 pairRow a b = set (set zeroRow 0 a) 1 b
 
+-- a row with the weights at their places
+unfoldable pub withWeights : Weights → Row → Row
+withWeights weights row =
+    let w = weightsAt in
+    set (set (set (set row w (weight weights 0)) (w + 1) (weight weights 1)) (w + 2) (weight weights 2)) (w + 3) (weight weights 3)
+
 -- RULES 4.3, 4.4, the header row: the order, what distances depend on, and zeros
 unfoldable pub headerOf : ℕ → Space → Row
-headerOf order space = set (set zeroRow 0 order) metricAt (space .metric)
+headerOf order space = withWeights (space .weights) (set (set zeroRow 0 order) metricAt (space .metric))
 
 -- RULES 4.4: the sizes of bucket k, their row written whole
 unfoldable pub putSizes : ℕ → ℕ → ℕ → Table → Table

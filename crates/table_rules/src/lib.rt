@@ -28,6 +28,8 @@ pub const SHORT_AREA: u32 = 23;
 
 pub const BAD_TABLE: u32 = 24;
 
+pub const BAD_WEIGHT: u32 = 32;
+
 #[repr(C)]
 pub struct Added {
     pub refusal: u32,

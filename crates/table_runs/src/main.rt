@@ -7,6 +7,7 @@ use libc::STDOUT_FILENO;
 use metric_rules::Profile;
 use metric_rules::ROW_WIDTH;
 use metric_rules::Row;
+use metric_rules::Weights;
 use search_rules::Entry;
 use steps::COUNT;
 use table_views::word_at;
@@ -102,7 +103,15 @@ fn perform(
     second: u32,
 ) -> Last {
     if kind == 0 {
-        return last_of(vpindex::vpindex_fresh(table, first, second), 0, 0, 0);
+        let weights = Weights {
+            each: [10, 1, 100, 0],
+        };
+        return last_of(
+            vpindex::vpindex_fresh(table, first, second, weights),
+            0,
+            0,
+            0,
+        );
     }
     if kind <= 2 {
         return change_all(table, work, kind, first, second);

@@ -1,16 +1,21 @@
-// What a table's header and size rows show: its order, whether its metric is one, and the sizes of its buckets.
+// What a table's header and size rows show: its order, whether its metric is one, its weights, and the sizes of its buckets.
 ghost use mathlib.Core.Path.{_≡_};
 ghost use mathlib.Core.List.{map};
 ghost use Prim.Native.Nat.{_+_, _≤_, _<_};
 ghost use lib.ListN.{length};
 ghost use Rattle.lists.specs.Lists.{total};
 ghost use Rattle.metric_rules.specs.Row.{rowWidth, word};
-ghost use Rattle.metric_rules.specs.Distance.{validMetric, spaceOf};
+ghost use Rattle.metric_rules.specs.Distance.{validMetric, weightsOf, spaceOf};
 ghost use Rattle.table_rules.specs.Geometry.{bucketsOf, sizesRow, firstSlot};
 ghost use Rattle.table_rules.specs.Table.{orderOf, builtOf, liveOf, inUse, slotsOf};
 use metric_rules::METRIC_AT;
 use metric_rules::Row;
 use metric_rules::Space;
+use metric_rules::WEIGHT_0;
+use metric_rules::WEIGHT_1;
+use metric_rules::WEIGHT_2;
+use metric_rules::WEIGHT_3;
+use metric_rules::Weights;
 use table_order::Order;
 
 // The header row, and the words of it and of a size row.
@@ -39,12 +44,26 @@ pub fn valid_metric(space: Space) -> bool
     space.metric <= LAST_METRIC
 }
 
+pub fn weights_of(header: Row) -> Weights
+    ensures { λ r. ⌜ r ≡ weightsOf header ⌝ }
+{
+    Weights {
+        each: [
+            header[WEIGHT_0],
+            header[WEIGHT_1],
+            header[WEIGHT_2],
+            header[WEIGHT_3],
+        ],
+    }
+}
+
 // What distances depend on, as a header row has it.
 pub fn space_of(header: Row) -> Space
     ensures { λ r. ⌜ r ≡ spaceOf header ⌝ }
 {
     Space {
         metric: word_at(header, METRIC_AT),
+        weights: weights_of(header),
     }
 }
 

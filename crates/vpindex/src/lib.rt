@@ -12,22 +12,23 @@ use list_rules::ListRead;
 use metric_rules::Profile;
 use metric_rules::Row;
 use metric_rules::Space;
+use metric_rules::Weights;
 use search_rules::Entry;
 use table_rules::Added;
 use table_rules::LookedUp;
 use table_rules::Removed;
 use table_rules::Searched;
 
-// A table of this order and metric with no item in it. The reply is the refusal: 3, 4, 23, or 0.
+// A table of this order, metric and weights with no item in it. The reply is the refusal: 3, 4, 32, 23, or 0.
 #[no_mangle]
-pub extern "C" fn vpindex_fresh(table: &mut [Row], order: u32, metric: u32) -> u32
-    ensures reply { λ r. ⌜ r ≡ beginReply (fresh order (record { metric = metric })) (length (now (table .entry))) ⌝ }
-    ensures table { λ _. ⌜ now (table .exit) ≡ tableBegun (fresh order (record { metric = metric })) (now (table .entry)) ⌝ }
+pub extern "C" fn vpindex_fresh(table: &mut [Row], order: u32, metric: u32, weights: Weights) -> u32
+    ensures reply { λ r. ⌜ r ≡ beginReply (fresh order (record { metric = metric; weights = weights })) (length (now (table .entry))) ⌝ }
+    ensures table { λ _. ⌜ now (table .exit) ≡ tableBegun (fresh order (record { metric = metric; weights = weights })) (now (table .entry)) ⌝ }
 {
-    table_fresh::fresh(table, order, Space { metric })
+    table_fresh::fresh(table, order, Space { metric, weights })
 }
 
-// The table that these bytes are the image of. The reply is the refusal: 7, 3, 4, 8, 7, 24, 7, 23, 8, or 0.
+// The table that these bytes are the image of. The reply is the refusal: 7, 3, 4, 8, 7, 32, 7, 24, 7, 23, 8, or 0.
 #[no_mangle]
 pub extern "C" fn vpindex_load(table: &mut [Row], image: &[u8]) -> u32
     ensures reply { λ r. ⌜ r ≡ beginReply (load (now (image .entry))) (length (now (table .entry))) ⌝ }

@@ -12,9 +12,10 @@ use lib.Seq.{take-append-seam}
 use borrow.Author.Tests.{le-leb, leb-true}
 use Rattle.lists.proofs.Tests.{and-pass}
 use Rattle.metric_rules.specs.declared.Profile.{Profile}
-use Rattle.metric_rules.specs.Distance.{validMetric}
+use Rattle.lists.specs.Lists.{every}
+use Rattle.metric_rules.specs.Distance.{validMetric, validWeights, weightsOne, mostWeight}
 use Rattle.search_rules.specs.Range.{Entry}
-use Rattle.table_rules.specs.Refusals.{badOrder, badMetric, shortArea, unless}
+use Rattle.table_rules.specs.Refusals.{badOrder, badMetric, badWeight, shortArea, unless}
 use Rattle.table_rules.specs.Geometry.{leastOrder, mostOrder, validOrder, firstSlot, tableRows, workRows}
 use Rattle.table_rules.specs.Fresh.{freshRefusal, tableAfterFresh}
 use Rattle.table_rules.specs.Add.{addReply}
@@ -85,7 +86,7 @@ rows-grow {j} {k} h = omega (arith, rooms-grow {j = suc j} {k = suc k} (omega ar
 
 module _ {a : Areas} (ample : Ample a) (order metric : ℕ) where
   pub first-refused : headerRefusal (a .table) order metric ≡ firstRefusal order metric
-  unfolding headerRefusal firstRefusal freshRefusal validOrder mostYardOrder
+  unfolding headerRefusal firstRefusal freshRefusal validOrder mostYardOrder validWeights weightsOne every mostWeight
   first-refused = go (leb order mostYardOrder) refl
     where
       go : (few : Bool) → leb order mostYardOrder ≡ few
@@ -93,14 +94,14 @@ module _ {a : Areas} (ample : Ample a) (order metric : ℕ) where
       go false e = refl
       go true e =
           let few : order ≤ mostYardOrder = leb-true order mostYardOrder e in
-          ap₂ (λ (valid long : Bool). unless valid badOrder (unless (validMetric (yardSpace metric)) badMetric (unless long shortArea 0)))
+          ap₂ (λ (valid long : Bool). unless valid badOrder (unless (validMetric (yardSpace metric)) badMetric (unless (validWeights weightsOne) badWeight (unless long shortArea 0))))
           (and-pass (leb leastOrder order) (leb order mostOrder) (le-leb leastOrder order (omega arith)) (le-leb order mostOrder (omega (arith, few))))
           (le-leb (tableRows order) (length (a .table)) (le-trans (rows-grow few) (ample .table)))
 
   pub first-served : headerRefusal (a .table) order metric ≡ 0
       → Served (tableAfterFresh order (yardSpace metric) (a .table)) (a .work) (a .result) (modelBegun (fresh order (yardSpace metric)))
-  unfolding headerRefusal workRows
+  unfolding headerRefusal workRows weightsOne
   first-served e =
       let accepted = unless-zero (leb order mostYardOrder) badOrder _ (omega arith) e in
       let few : order ≤ mostYardOrder = leb-true order mostYardOrder (accepted .0) in
-      fresh-served order (yardSpace metric) (a .table) (a .work) (a .result) (accepted .1) (le-trans (rooms-grow few) (ample .work)) (le-trans (rooms-grow few) (ample .result))
+      fresh-served order (yardSpace metric) refl (a .table) (a .work) (a .result) (accepted .1) (le-trans (rooms-grow few) (ample .work)) (le-trans (rooms-grow few) (ample .result))

@@ -4,13 +4,13 @@ use mathlib.Core.List.{List, flatten}
 use Rattle.lists.specs.Lists.{countFrom, total, select, every}
 use Rattle.metric_rules.specs.Row.{rowWidth, tagAt, measuresAt, codeAt, thresholdAt, markAt, zeroRow, word, wide, words, tagOf, profileOf, thresholdOf, markOf, isLive, measure, codeWord, rowOf, withThreshold, withMark}
 use Rattle.metric_rules.specs.Validity.{nationals, countryOf, nationalOf, lastCountry, lastNational, validTag, measureLimit, validMeasure, validMeasures}
-use Rattle.metric_rules.specs.Distance.{mostDistance, saturated, gap, measureDistance, differing, codeDistance, largest, worstDistance, distanceBy, distance, metricAt, spaceOf, lastMetric, validMetric}
+use Rattle.metric_rules.specs.Distance.{mostDistance, saturated, gap, weight, weighted, measureDistance, differing, codeDistance, largest, worstDistance, distanceBy, distance, metricAt, weightsAt, weightsOf, spaceOf, weightsOne, lastMetric, validMetric, mostWeight, validWeights}
 use Rattle.tree_rules.specs.Sorting.{keyLe, insertBy, sortBy}
 use Rattle.tree_rules.specs.Layout.{leftSize, costWithin, cost, rankedFrom, tagKey, placed, fromPivot, nearKey, lastDistance, split, node, layoutWithin, layout}
 use Rattle.search_rules.specs.Range.{entry, entryDistance, entryKey, ordered, entersLeft, entersRight, nothing, both, toQuery, entryOf, isHit, visited, rangeWithin, rangeTree}
 use Rattle.search_rules.specs.Nearest.{keep, worst, opens as halfOpens, taken, enterHalf, enterHalves, nearestWithin, nearestTree}
 use Rattle.table_rules.specs.Geometry.{validOrder, room, bucketsOf, headerRow, sizesRow, firstSlot, tableRows, workRows}
-use Rattle.table_rules.specs.Table.{rowAt, orderOf, tableSpace, builtOf, liveOf, inUse, liveTotal, slotsOf, liveSlots, pairRow, headerOf, putSizes, putBucket, emptied, cleared}
+use Rattle.table_rules.specs.Table.{rowAt, orderOf, tableSpace, builtOf, liveOf, inUse, liveTotal, slotsOf, liveSlots, pairRow, withWeights, headerOf, putSizes, putBucket, emptied, cleared}
 use Rattle.table_rules.specs.Checks.{sizePasses, sizesPass, marksPass, frameRefusal, readRefusal, changeRefusal}
 use Rattle.table_rules.specs.Fresh.{freshRefusal, freshTable, tableAfterFresh}
 use Rattle.table_rules.specs.Rebuild.{liveItems, rebuilt}
@@ -28,12 +28,12 @@ unfoldable pub computed : Areas → List ℕ → List ℕ
 unfolding
     flatten countFrom total select every rowWidth tagAt measuresAt codeAt thresholdAt markAt zeroRow word wide words tagOf profileOf thresholdOf
     markOf measure codeWord rowOf withThreshold withMark nationals countryOf nationalOf lastCountry lastNational validTag measureLimit
-    validMeasure validMeasures mostDistance saturated gap measureDistance differing codeDistance largest worstDistance distanceBy distance metricAt spaceOf
-    lastMetric validMetric keyLe insertBy sortBy leftSize costWithin cost rankedFrom tagKey placed fromPivot nearKey lastDistance split node
+    validMeasure validMeasures mostDistance saturated gap weight weighted measureDistance differing codeDistance largest worstDistance distanceBy distance metricAt weightsAt weightsOf spaceOf
+    weightsOne lastMetric validMetric mostWeight validWeights keyLe insertBy sortBy leftSize costWithin cost rankedFrom tagKey placed fromPivot nearKey lastDistance split node
     layoutWithin layout entry entryDistance entryKey ordered isLive entersLeft entersRight nothing both toQuery entryOf isHit visited
     rangeWithin rangeTree keep worst halfOpens taken enterHalf enterHalves nearestWithin nearestTree validOrder room
     bucketsOf headerRow sizesRow firstSlot tableRows workRows rowAt orderOf tableSpace builtOf liveOf inUse liveTotal slotsOf liveSlots
-    pairRow headerOf putSizes putBucket emptied cleared sizePasses sizesPass marksPass frameRefusal readRefusal changeRefusal freshRefusal
+    pairRow withWeights headerOf putSizes putBucket emptied cleared sizePasses sizesPass marksPass frameRefusal readRefusal changeRefusal freshRefusal
     freshTable tableAfterFresh liveItems rebuilt addRefusal emptyFrom lowestEmpty gathered addBucket addTarget added addReply tableAfterAdd
     workAfterAdd removeRefusal marked united rebuiltLower shrunk removed removeReply tableAfterRemove workAfterRemove placeFrom placeIn find
     isLiveTag bucketsDown rangeMet rangeAnswer nearestTally nearestAnswer fitRefusal rangeRefusal nearestRefusal searchReply zeroEntry

@@ -6,6 +6,7 @@ use lib.ListN.{length}
 use lib.Dec.{leb}
 use Rattle.metric_rules.specs.declared.Profile.{Profile}
 use Rattle.metric_rules.specs.declared.Space.{Space}
+use Rattle.metric_rules.specs.Distance.{weightsOne}
 use Rattle.metric_rules.specs.Row.{Row}
 use Rattle.search_rules.specs.Range.{Entry}
 use Rattle.table_rules.specs.Refusals.{badOrder, unless}
@@ -57,9 +58,9 @@ pub record Ample (a : Areas) : Type 0 where
   pub work : workRows mostYardOrder ≤ length (a .work)
   pub result : room mostYardOrder ≤ length (a .result)
 
--- what the distances of the program's table depend on: the metric that its header gives
+-- RULES 18.1: what the distances of the program's table depend on, the metric that its header gives and weights 1
 abbrev pub yardSpace : ℕ → Space
-yardSpace metric = record { metric = metric }
+yardSpace metric = record { metric = metric; weights = weightsOne }
 
 unfoldable pub headerRefusal : Table → ℕ → ℕ → ℕ
 headerRefusal t order metric =

@@ -12,6 +12,7 @@ ghost use Rattle.yard_command.specs.Lent.{lent};
 ghost use Rattle.yard_step.specs.StepLeaves.{tableAfterHeader, StepLeaves};
 use metric_rules::Row;
 use metric_rules::Space;
+use metric_rules::WEIGHTS_ONE;
 use search_rules::Entry;
 use table_rules::BAD_ORDER;
 use yard_rules::Header;
@@ -34,7 +35,8 @@ fn set_up(table: &mut [Row], order: u32, metric: u32) -> u32
     if MOST_ORDER < order {
         return BAD_ORDER;
     }
-    table_fresh::fresh(table, order, Space { metric })
+    let weights = WEIGHTS_ONE;
+    table_fresh::fresh(table, order, Space { metric, weights })
 }
 
 // A line of the form of a header.

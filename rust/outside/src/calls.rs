@@ -1,7 +1,7 @@
 //! One call, by the reference and by the archive.
 
 use reference::calls as plain;
-use reference::item::{Entry, Profile, Row};
+use reference::item::{Entry, Profile, Row, Space};
 use reference::list::ListRead;
 use vpindex::ffi;
 
@@ -24,7 +24,7 @@ pub struct Areas {
 #[allow(missing_docs)]
 #[derive(Clone, Copy, Debug, PartialEq, Eq)]
 pub enum Call {
-    Fresh { order: u32, metric: u32 },
+    Fresh { order: u32, space: Space },
     Load,
     Add { tag: u64, profile: Profile },
     Remove { tag: u64 },
@@ -65,7 +65,7 @@ pub fn by_reference(call: &Call, areas: &mut Areas) -> Reply {
     let Areas { table, work, result, bytes } = areas;
     let nothing = |()| Reply::default();
     match *call {
-        Call::Fresh { order, metric } => accepted(plain::fresh(table, order, metric), nothing),
+        Call::Fresh { order, space } => accepted(plain::fresh(table, order, space), nothing),
         Call::Load => accepted(plain::load(table, bytes), nothing),
         Call::Add { tag, profile } => accepted(plain::add(table, work, tag, profile), |(bucket, distances)| Reply {
             bucket,
@@ -104,7 +104,10 @@ fn hits(reply: ffi::Searched) -> Reply {
 /// The call by the archive, on areas as they are.
 pub fn by_archive(call: &Call, table: &mut [Row], work: &mut [Row], result: &mut [Entry], bytes: &mut [u8]) -> Reply {
     match *call {
-        Call::Fresh { order, metric } => Reply { refusal: ffi::fresh(table, order, metric), ..Reply::default() },
+        Call::Fresh { order, space } => {
+            let weights = ffi::Weights { each: space.weights };
+            Reply { refusal: ffi::fresh(table, order, space.metric, weights), ..Reply::default() }
+        }
         Call::Load => Reply { refusal: ffi::load(table, bytes), ..Reply::default() },
         Call::Add { tag, profile } => {
             let ffi::Added { refusal, bucket, distances } = ffi::add(table, work, tag, raw(profile));

@@ -1,6 +1,6 @@
 //! Tables that these calls did not leave: sizes that pass or nearly, slots, thresholds and marks of any content.
 
-use reference::item::{ROW_WORDS, Row, Slot};
+use reference::item::{ROW_WORDS, Row, Slot, Space};
 use reference::table::{Table, first_row, put_table, table_rows};
 
 use crate::random::Random;
@@ -20,9 +20,9 @@ pub fn any_row(random: &mut Random) -> Row {
 }
 
 /// A foreign table: a sound one in which much was changed.
-pub fn table(random: &mut Random, order: u32, metric: u32) -> Vec<Row> {
+pub fn table(random: &mut Random, order: u32, space: Space) -> Vec<Row> {
     let sizes = sound::nearly(random, order);
-    let sound = sound::table_of(random, order, metric, sizes);
+    let sound = sound::table_of(random, order, space, sizes);
     let mut rows = rows_of(random, &sound, 0);
     unnamed_words(random, &mut rows, order);
     match random.below(3) {
@@ -39,13 +39,20 @@ pub fn table(random: &mut Random, order: u32, metric: u32) -> Vec<Row> {
     if random.one_in(12) {
         rows[0][random.below(2)] = random.pick(&[2, 3, 12, 13, 255, u32::MAX]);
     }
+    match random.below(24) {
+        0 => rows[0][2 + random.below(4)] = random.bad_weight(),
+        // other weights than the trees were made by
+        1..4 => rows[0][2..6].copy_from_slice(&random.weights()),
+        _ => (),
+    }
     rows
 }
 
 // words that are ignored when read
 fn unnamed_words(random: &mut Random, rows: &mut [Row], order: u32) {
-    for row in &mut rows[..=order as usize + 1] {
-        for word in &mut row[2..] {
+    for (i, row) in rows[..=order as usize + 1].iter_mut().enumerate() {
+        let named = if i == 0 { 6 } else { 2 };
+        for word in &mut row[named..] {
             *word = if random.one_in(2) { random.word() as u32 } else { 0 };
         }
     }

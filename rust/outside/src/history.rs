@@ -70,21 +70,22 @@ pub struct History {
 }
 
 impl History {
-    /// Begun by an accepted fresh.
+    /// Begun by an accepted fresh, with any weights.
     pub fn new(seed: u64, order: u32, metric: u32) -> History {
         let mut random = Random::new(seed);
+        let space = random.space(metric);
         let left = random.fill(reference::table::table_rows(order), any_row);
         let (book, sums, tally) = (Book::default(), Sums::default(), Tally::default());
         let mut history = History { random, left, book, sums, tally, share: 0 };
         let areas = Areas { table: history.left.clone(), ..Areas::default() };
-        assert_eq!(history.call(&Call::Fresh { order, metric }, areas).refusal, 0);
+        assert_eq!(history.call(&Call::Fresh { order, space }, areas).refusal, 0);
         history
     }
 
     /// One call more, any of the nine.
     pub fn step(&mut self) {
         let mut areas = lent(&mut self.random, &self.left, self.book.order);
-        let call = next(&mut self.random, &mut areas, self.book.order, self.book.metric);
+        let call = next(&mut self.random, &mut areas, self.book.order, self.book.space);
         self.call(&call, areas);
     }
 
@@ -120,7 +121,7 @@ impl History {
         let book = &mut self.book;
         let nothing = |()| (Profile::default(), vec![]);
         let expected = match *call {
-            Call::Fresh { order, metric } => book.fresh(rows, order, metric).map(nothing),
+            Call::Fresh { order, space } => book.fresh(rows, order, space).map(nothing),
             Call::Load => book.load(rows, bytes).map(nothing),
             Call::Add { tag, profile } => book.add(rows, work, tag, profile).map(nothing),
             Call::Remove { tag } => book.remove(rows, work, tag).map(nothing),
@@ -143,8 +144,8 @@ impl History {
 
     // The book's items, each once, are those in the built slots of mark 0; the distances keep within the bound.
     fn check_state(&mut self) {
-        let table = Table::open(&self.left, |_| true).expect("order, metric and sizes pass");
-        assert_eq!((table.order, table.metric), (self.book.order, self.book.metric));
+        let table = Table::open(&self.left, |_| true).expect("order, metric, weights and sizes pass");
+        assert_eq!((table.order, table.space), (self.book.order, self.book.space));
         let items = table.buckets.iter().flat_map(Bucket::live_items).map(|slot| (slot.tag, slot.profile));
         assert_eq!(by_tag(items.collect()), by_tag(self.book.items.clone()));
         if table.order < 7 || self.random.one_in(16) {

@@ -1,33 +1,48 @@
-//! Images to load: sound ones, and such as break one rule or several.
+//! Images to load, of both forms: sound ones, and such as break one rule or several.
 
 use reference::image::bytes;
-use reference::item::Slot;
+use reference::item::{Slot, Space};
 use reference::table::Table;
 use reference::tree::layout;
 
 use crate::random::{MAX_MEASURE, Random};
 use crate::sound;
 
-/// The image of a sound table, or a damaged one.
-pub fn image(random: &mut Random, order: u32, metric: u32) -> Vec<u8> {
+/// The image of a sound table, or a damaged one; once in four of form 0, and then mostly of a table of weights 1.
+pub fn image(random: &mut Random, order: u32, mut space: Space) -> Vec<u8> {
+    let is_older = random.one_in(4);
+    if is_older && !random.one_in(6) {
+        space.weights = [1; 4];
+    }
+    let written = |table: &Table| if is_older { older(&bytes(table)) } else { bytes(table) };
     let sizes = sound::nearly(random, order);
-    let mut table = sound::table_of(random, order, metric, sizes);
+    let mut table = sound::table_of(random, order, space, sizes);
     match random.below(8) {
-        0 => bytes(&table),
-        1 => cut(random, bytes(&table)),
-        2 | 3 => header(random, bytes(&table)),
-        4 => flipped(random, bytes(&table)),
+        0 => written(&table),
+        1 => cut(random, written(&table)),
+        2 | 3 => header(random, written(&table)),
+        4 => flipped(random, written(&table)),
         _ => {
             a_fault(random, &mut table);
-            bytes(&table)
+            written(&table)
         }
     }
+}
+
+/// An image of form 1 as form 0 has it, without its weights.
+pub fn older(image: &[u8]) -> Vec<u8> {
+    [&image[..2], &[0, 0], &image[8..]].concat()
+}
+
+/// The translation of an image of form 0 to form 1, with weights 1.
+pub fn newer(image: &[u8]) -> Vec<u8> {
+    [&image[..2], &[1, 0], &[1; 4], &image[4..]].concat()
 }
 
 /// Another length.
 pub fn cut(random: &mut Random, mut bytes: Vec<u8>) -> Vec<u8> {
     let length = match random.below(4) {
-        0 => random.below(8),
+        0 => random.below(12),
         1 => random.below(bytes.len() + 1),
         2 => bytes.len() - 1,
         _ => bytes.len() + 1 + random.below(50),
@@ -39,8 +54,9 @@ pub fn cut(random: &mut Random, mut bytes: Vec<u8>) -> Vec<u8> {
 // another value in the bytes before the tags
 fn header(random: &mut Random, mut bytes: Vec<u8>) -> Vec<u8> {
     let sizes = 4 * (bytes[0] as usize + 1);
-    let at = if random.one_in(2) { random.below(4) } else { 4 + random.below(sizes) };
-    bytes[at] = random.pick(&[0, 1, 2, 3, 12, 13, 14, 128, 255]);
+    let front = if bytes[2] == 0 { 4 } else { 8 };
+    let at = if random.one_in(2) { random.below(front) } else { front + random.below(sizes) };
+    bytes[at] = random.pick(&[0, 1, 2, 3, 12, 13, 14, 100, 101, 128, 255]);
     bytes
 }
 
@@ -97,7 +113,7 @@ fn relaid(table: &mut Table, k: usize, at: usize, change: impl Fn(&mut Slot)) {
     let bucket = &mut table.buckets[k];
     change(&mut bucket.slots[at]);
     let mut marks: Vec<(u64, u32)> = bucket.slots.iter().map(|slot| (slot.tag, slot.mark)).collect();
-    bucket.slots = layout(table.metric, &bucket.slots);
+    bucket.slots = layout(&table.space, &bucket.slots);
     for slot in &mut bucket.slots {
         let of = marks.iter().position(|mark| mark.0 == slot.tag).expect("every slot was there before");
         slot.mark = marks.swap_remove(of).1;

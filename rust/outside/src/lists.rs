@@ -3,7 +3,7 @@
 use std::collections::BTreeMap;
 
 use reference::image::bytes;
-use reference::item::{Profile, ROW_WORDS, Row, Slot};
+use reference::item::{Profile, ROW_WORDS, Row, Slot, Space};
 use reference::refusal::SHORT_AREA;
 use reference::table::{Table, capacity, first_row, table_rows};
 
@@ -26,8 +26,8 @@ pub struct Tally {
 
 /// The numbers that each call can be refused by, and 0.
 pub const NUMBERS: [(&str, &[u32]); 9] = [
-    ("fresh", &[0, 3, 4, 23]),
-    ("load", &[0, 3, 4, 7, 8, 23, 24]),
+    ("fresh", &[0, 3, 4, 23, 32]),
+    ("load", &[0, 3, 4, 7, 8, 23, 24, 32]),
     ("add", &[0, 1, 2, 20, 22, 23, 24]),
     ("remove", &[0, 1, 21, 23, 24]),
     ("look up", &[0, 1, 21, 23, 24]),
@@ -74,9 +74,10 @@ fn name(call: &Call) -> &'static str {
     }
 }
 
-/// A list of so many calls on a table of this order and metric.
+/// A list of so many calls on a table of this order and metric, with any weights.
 pub fn list(random: &mut Random, order: u32, metric: u32, calls: usize) -> Tally {
-    let mut left = start(random, order, metric);
+    let space = random.space(metric);
+    let mut left = start(random, order, space);
     let mut tally = Tally::default();
     for _ in 0..calls {
         let mut areas = lent(random, &left, order);
@@ -84,12 +85,12 @@ pub fn list(random: &mut Random, order: u32, metric: u32, calls: usize) -> Tally
             let at = random.below(areas.table.len());
             areas.table[at][random.below(ROW_WORDS)] = random.reach();
         }
-        let call = next(random, &mut areas, order, metric);
+        let call = next(random, &mut areas, order, space);
         let reply = compare(&call, &mut areas, random);
         tally.note(&call, &reply);
         keep(&mut left, areas.table);
         if reply.refusal >= SHORT_AREA && random.one_in(3) {
-            left = start(random, order, metric);
+            left = start(random, order, space);
         }
     }
     tally
@@ -100,14 +101,14 @@ pub fn keep(left: &mut Vec<Row>, area: Vec<Row>) {
     left.splice(..area.len().min(left.len()), area);
 }
 
-fn start(random: &mut Random, order: u32, metric: u32) -> Vec<Row> {
+fn start(random: &mut Random, order: u32, space: Space) -> Vec<Row> {
     match random.below(12) {
         0 => random.fill(table_rows(order), any_row),
         1..6 => {
-            let sound = sound::table(random, order, metric);
+            let sound = sound::table(random, order, space);
             rows_of(random, &sound, 0)
         }
-        _ => foreign::table(random, order, metric),
+        _ => foreign::table(random, order, space),
     }
 }
 
@@ -136,10 +137,10 @@ pub fn lent(random: &mut Random, left: &[Row], order: u32) -> Areas {
 }
 
 /// The next call, with the image or the list that it reads or the bytes that it writes to.
-pub fn next(random: &mut Random, areas: &mut Areas, order: u32, metric: u32) -> Call {
+pub fn next(random: &mut Random, areas: &mut Areas, order: u32, space: Space) -> Call {
     match random.below(36) {
-        0 => fresh(random, order, metric),
-        1..4 => load(random, areas, order, metric),
+        0 => fresh(random, order, space.metric),
+        1..4 => load(random, areas, order, space),
         4 | 5 => write(random, areas, order),
         6..14 => add(random, order),
         14..20 => Call::Remove { tag: tag(random, areas, order) },
@@ -166,21 +167,22 @@ fn read_list(random: &mut Random, areas: &mut Areas, order: u32) -> Call {
     Call::ReadList
 }
 
+// Each argument by itself may be one that is refused.
 fn fresh(random: &mut Random, order: u32, metric: u32) -> Call {
-    match random.below(4) {
-        0 => Call::Fresh { order: random.pick(&[13, 12, 31, 32, 64, u32::MAX]), metric },
-        1 => Call::Fresh { order, metric: random.pick(&[3, 4, 256, u32::MAX]) },
-        _ => Call::Fresh { order, metric },
-    }
+    let order = if random.one_in(6) { random.pick(&[13, 12, 31, 32, 64, u32::MAX]) } else { order };
+    let metric = if random.one_in(6) { random.pick(&[3, 4, 256, u32::MAX]) } else { metric };
+    let weights = if random.one_in(5) { random.bad_weights() } else { random.weights() };
+    Call::Fresh { order, space: Space { metric, weights } }
 }
 
 // Sometimes the table is a sound or a foreign one afterwards, whatever it was: a load of an image gives the first.
-fn load(random: &mut Random, areas: &mut Areas, order: u32, metric: u32) -> Call {
+fn load(random: &mut Random, areas: &mut Areas, order: u32, space: Space) -> Call {
+    let space = if random.one_in(2) { random.space(space.metric) } else { space };
     areas.bytes = match (random.below(4), Table::open(&areas.table, |_| true)) {
         (0, Ok(table)) => bytes(&table),
         (1, Ok(table)) => images::cut(random, bytes(&table)),
         (2, _) => few_bytes(random),
-        _ => images::image(random, order, metric),
+        _ => images::image(random, order, space),
     };
     Call::Load
 }
@@ -188,9 +190,8 @@ fn load(random: &mut Random, areas: &mut Areas, order: u32, metric: u32) -> Call
 fn few_bytes(random: &mut Random) -> Vec<u8> {
     let length = random.below(60);
     let mut bytes = random.fill(length, |random| random.below(4) as u8);
-    if let Some(first) = bytes.first_mut() {
-        *first = random.pick(&[0, 0, 1, 2, 3, 13, 255]);
-    }
+    let front = [random.pick(&[0, 0, 1, 2, 3, 13, 255]), random.below(4) as u8, random.below(3) as u8, 0];
+    bytes.iter_mut().zip(front).for_each(|(byte, other)| *byte = other);
     bytes
 }
 

@@ -1,7 +1,7 @@
 //! Random values: the same for the same seed. Few different ones where that makes equal tags and equal distances
 //! likely.
 
-use reference::item::Profile;
+use reference::item::{MAX_WEIGHT, Profile, Space};
 
 /// The least valid tag.
 pub const MIN_TAG: u64 = 1_000_000_000_000;
@@ -112,10 +112,36 @@ impl Random {
     pub fn reach(&mut self) -> u32 {
         match self.below(5) {
             0 | 1 => self.below(12) as u32,
-            2 => self.below(3_000_000) as u32,
-            3 => self.pick(&[0, 128, 8_000_000, u32::MAX, u32::MAX - 1]),
+            2 => self.below(3_000_000) as u32 * self.pick(&[1, 100]),
+            3 => self.pick(&[0, 128, 8_000_000, 800_000_000, u32::MAX, u32::MAX - 1]),
             _ => self.word() as u32,
         }
+    }
+
+    /// Valid weights: all 1, or each by itself, the ends more often than others.
+    pub fn weights(&mut self) -> [u32; 4] {
+        if self.one_in(3) {
+            return [1; 4];
+        }
+        let mut one = || if self.one_in(3) { self.below(101) as u32 } else { self.pick(&[0, 1, MAX_WEIGHT]) };
+        [0; 4].map(|_| one())
+    }
+
+    /// Weights with one just or far outside their range.
+    pub fn bad_weights(&mut self) -> [u32; 4] {
+        let mut weights = self.weights();
+        weights[self.below(4)] = self.bad_weight();
+        weights
+    }
+
+    /// A weight just or far outside its range.
+    pub fn bad_weight(&mut self) -> u32 {
+        self.pick(&[MAX_WEIGHT + 1, 255, 256, 257, 1 << 31, u32::MAX])
+    }
+
+    /// By this metric, with valid weights.
+    pub fn space(&mut self, metric: u32) -> Space {
+        Space { metric, weights: self.weights() }
     }
 
     /// Elements of any content.

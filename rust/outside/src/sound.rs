@@ -2,7 +2,7 @@
 
 use std::collections::HashSet;
 
-use reference::item::Slot;
+use reference::item::{Slot, Space};
 use reference::table::{Bucket, Table, capacity};
 use reference::tree::layout;
 
@@ -48,7 +48,7 @@ impl Tags {
     }
 }
 
-fn bucket(random: &mut Random, metric: u32, (built, live): (u32, u32), tags: &mut Tags, pool: usize) -> Bucket {
+fn bucket(random: &mut Random, space: &Space, (built, live): (u32, u32), tags: &mut Tags, pool: usize) -> Bucket {
     let mut own = HashSet::new();
     let mut items = vec![];
     for i in 0..built {
@@ -63,7 +63,7 @@ fn bucket(random: &mut Random, metric: u32, (built, live): (u32, u32), tags: &mu
         items.push(Slot { tag, profile: random.profile(), threshold: 0, mark: !is_live as u32 });
     }
     let dead: HashSet<u64> = items.iter().filter(|item| !item.is_live()).map(|item| item.tag).collect();
-    let mut slots = layout(metric, &items);
+    let mut slots = layout(space, &items);
     for slot in &mut slots {
         slot.mark = dead.contains(&slot.tag) as u32;
     }
@@ -75,10 +75,10 @@ pub fn pool(order: u32) -> usize {
     4 * capacity(order) + 4
 }
 
-/// A table of this order and metric that load would accept.
-pub fn table(random: &mut Random, order: u32, metric: u32) -> Table {
+/// A table of this order, metric and weights that load would accept.
+pub fn table(random: &mut Random, order: u32, space: Space) -> Table {
     let sizes = sizes(random, order, capacity(order));
-    table_of(random, order, metric, sizes)
+    table_of(random, order, space, sizes)
 }
 
 /// Sizes that pass, or such as have too many live in all and break no other rule.
@@ -93,8 +93,8 @@ pub fn nearly(random: &mut Random, order: u32) -> Vec<(u32, u32)> {
 }
 
 /// A table of these sizes that keeps every other rule.
-pub fn table_of(random: &mut Random, order: u32, metric: u32, sizes: Vec<(u32, u32)>) -> Table {
+pub fn table_of(random: &mut Random, order: u32, space: Space, sizes: Vec<(u32, u32)>) -> Table {
     let mut tags = Tags { live: HashSet::new(), dead: vec![] };
-    let buckets = sizes.into_iter().map(|size| bucket(random, metric, size, &mut tags, pool(order))).collect();
-    Table { order, metric, buckets }
+    let buckets = sizes.into_iter().map(|size| bucket(random, &space, size, &mut tags, pool(order))).collect();
+    Table { order, space, buckets }
 }

@@ -7,7 +7,7 @@ use outside::foreign::{self, any_row, rows_of};
 use outside::item_lists::{self, NO_TAGS, NO_VALUES, line};
 use outside::random::{MAX_NATIONAL, MIN_TAG, Random};
 use outside::sound;
-use reference::item::{Profile, ROW_WORDS, Row};
+use reference::item::{Profile, ROW_WORDS, Row, Space};
 use reference::list::HEADER;
 use reference::table::{Table, capacity, put_table, table_rows};
 use vpindex::ffi;
@@ -23,7 +23,8 @@ fn lines(nationals: RangeInclusive<u64>) -> Vec<String> {
 // An empty table of this order.
 fn empty(order: u32) -> Vec<Row> {
     let mut rows = vec![[0; ROW_WORDS]; table_rows(order)];
-    put_table(&mut rows, &Table { order, metric: 0, buckets: vec![Default::default(); order as usize + 1] });
+    let buckets = vec![Default::default(); order as usize + 1];
+    put_table(&mut rows, &Table { order, space: Space::plain(0), buckets });
     rows
 }
 
@@ -245,6 +246,8 @@ fn areas_that_no_add_takes() {
         (empty(2), 3, 23),
         (with(&|rows| rows[0][0] = 13), 4, 24),
         (with(&|rows| rows[0][1] = 3), 4, 24),
+        (with(&|rows| rows[0][5] = 101), 4, 24),
+        (with(&|rows| rows[0][5] = 101), 3, 23),
         (with(&a_size), 4, 24),
         (with(&a_mark), 4, 24),
     ];
@@ -277,17 +280,17 @@ fn areas_of_every_small_length() {
     }
 }
 
-// Sound and foreign tables, by every metric, with lists of every kind.
+// Sound and foreign tables, by every metric and with any weights, with lists of every kind.
 #[test]
 fn tables_of_every_kind() {
     let mut random = Random::new(7);
     let mut stopped = 0;
     for round in 0..6000 {
-        let (order, metric) = (round % 7, round / 7 % 3);
+        let (order, space) = (round % 7, random.space(round / 7 % 3));
         let rows = if random.one_in(2) {
-            foreign::table(&mut random, order, metric)
+            foreign::table(&mut random, order, space)
         } else {
-            let table = sound::table(&mut random, order, metric);
+            let table = sound::table(&mut random, order, space);
             rows_of(&mut random, &table, 0)
         };
         let list = item_lists::list(&mut random, order, 2 * capacity(order).min(16));
@@ -305,7 +308,7 @@ fn a_list_is_its_adds() {
         let mut random = Random::new(8);
         let profiles = random.fill(4097, |random| Profile { code: [0, 0], ..random.profile() });
         let mut listed = vec![[0; ROW_WORDS]; table_rows(12)];
-        assert_eq!(ffi::fresh(&mut listed, 12, metric), 0);
+        assert_eq!(ffi::fresh(&mut listed, 12, metric, ffi::Weights { each: [1, 0, 100, 7] }), 0);
         let mut added = listed.clone();
         let mut work = vec![[0; ROW_WORDS]; capacity(12)];
         let list: Vec<String> = profiles.iter().zip(1..).map(|(profile, n)| line(tag(n), profile.measures)).collect();

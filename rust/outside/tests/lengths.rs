@@ -3,16 +3,16 @@
 use outside::calls::{Areas, Call, compare};
 use outside::foreign::{self, any_row, rows_of};
 use outside::random::Random;
-use outside::{item_lists, sound};
+use outside::{images, item_lists, sound};
 use reference::image::bytes;
-use reference::item::Row;
+use reference::item::{Row, Space};
 use reference::table::{Table, capacity, table_rows};
 
 // A table of some kind, every row of which is one that the order needs.
-fn tables(random: &mut Random, order: u32, metric: u32) -> Vec<Vec<Row>> {
-    let sound = [0; 2].map(|_| sound::table(random, order, metric));
+fn tables(random: &mut Random, order: u32, space: Space) -> Vec<Vec<Row>> {
+    let sound = [0; 2].map(|_| sound::table(random, order, space));
     let mut tables: Vec<_> = sound.iter().map(|table| rows_of(random, table, 0)).collect();
-    tables.extend([0; 2].map(|_| foreign::table(random, order, metric)));
+    tables.extend([0; 2].map(|_| foreign::table(random, order, space)));
     tables
 }
 
@@ -34,7 +34,7 @@ fn lent(random: &mut Random, rows: &[Row], lengths: Lengths) -> Areas {
     }
 }
 
-fn calls(random: &mut Random, rows: &[Row], order: u32, metric: u32) -> Vec<Call> {
+fn calls(random: &mut Random, rows: &[Row], order: u32, space: Space) -> Vec<Call> {
     let live = Table::open(rows, |_| true).ok().and_then(|table| {
         let slots: Vec<_> = table.buckets.iter().flat_map(|bucket| bucket.live_items().copied()).collect();
         slots.first().map(|slot| slot.tag)
@@ -42,7 +42,7 @@ fn calls(random: &mut Random, rows: &[Row], order: u32, metric: u32) -> Vec<Call
     let tag = live.unwrap_or_else(|| random.tag(1));
     let query = random.profile();
     vec![
-        Call::Fresh { order, metric },
+        Call::Fresh { order, space },
         Call::Load,
         Call::Add { tag: random.tag(100), profile: query },
         Call::Remove { tag },
@@ -55,9 +55,9 @@ fn calls(random: &mut Random, rows: &[Row], order: u32, metric: u32) -> Vec<Call
 }
 
 // One area at a time has every length from none to a few elements more than is needed; the others are long enough.
-fn every_length(random: &mut Random, rows: &[Row], order: u32, metric: u32) -> usize {
+fn every_length(random: &mut Random, rows: &[Row], order: u32, space: Space) -> usize {
     let (table, work, result) = (table_rows(order), capacity(order), 2 * capacity(order));
-    let image = 4 + 4 * (order as usize + 1) + 48 * result;
+    let image = 8 + 4 * (order as usize + 1) + 48 * result;
     let of = |at: usize, n: usize| {
         let one = |i: usize, needed: usize| if i == at { n } else { needed };
         Lengths { table: one(0, table), work: one(1, work), result: one(2, result), bytes: one(3, image) }
@@ -65,7 +65,7 @@ fn every_length(random: &mut Random, rows: &[Row], order: u32, metric: u32) -> u
     let mut count = 0;
     for (at, needed) in [table, work, result, image].into_iter().enumerate() {
         for n in 0..=needed + 3 {
-            for call in calls(random, rows, order, metric).into_iter().filter(|call| is_lent(call, at)) {
+            for call in calls(random, rows, order, space).into_iter().filter(|call| is_lent(call, at)) {
                 let mut areas = lent(random, rows, of(at, n));
                 if call == Call::ReadList {
                     areas.bytes = item_lists::list(random, order, 4);
@@ -93,26 +93,28 @@ fn areas_of_every_small_length() {
     let mut random = Random::new(4);
     let mut count = 0;
     for (order, metric) in (0..=3).flat_map(|order| [0, 1, 2].map(|metric| (order, metric))) {
-        for rows in tables(&mut random, order, metric) {
-            count += every_length(&mut random, &rows, order, metric);
+        let space = random.space(metric);
+        for rows in tables(&mut random, order, space) {
+            count += every_length(&mut random, &rows, order, space);
         }
     }
     println!("{count} calls");
 }
 
-// A sound image, cut at every length and with bytes after it, into tables of every length.
+// A sound image of each form, cut at every length and with bytes after it, into tables of every length.
 #[test]
 fn images_of_every_length() {
     let mut random = Random::new(5);
-    for (order, metric) in (0..=4).flat_map(|order| [0, 1, 2].map(|metric| (order, metric))) {
-        let sound = sound::table(&mut random, order, metric);
-        let image = bytes(&sound);
+    for (order, metric, form) in (0..=4).flat_map(|order| (0..6).map(move |n| (order, n % 3, n / 3))) {
+        let space = if form == 0 { Space::plain(metric) } else { random.space(metric) };
+        let written = bytes(&sound::table(&mut random, order, space));
+        let image = if form == 0 { images::older(&written) } else { written };
         let mut load = |bytes: &[u8], rows: usize| {
             let mut areas = Areas { table: random.fill(rows, any_row), bytes: bytes.to_vec(), ..Areas::default() };
             compare(&Call::Load, &mut areas, &mut random).refusal
         };
         for n in 0..image.len() {
-            assert_ne!(load(&image[..n], table_rows(order)), 0);
+            assert_eq!(load(&image[..n], table_rows(order)), 7);
         }
         assert_eq!(load(&[&image[..], &[0]].concat(), table_rows(order)), 7);
         for rows in 0..table_rows(order) + 3 {

@@ -1,8 +1,8 @@
 //! Long random lists through the safe interface, with every search held to a plain scan.
 
 use outside::random::Random;
-use reference::item::distance;
-use vpindex::{Metric, Order, Profile, Refusal, Table, Tag};
+use reference::item::{Space, distance};
+use vpindex::{Metric, Order, Profile, Refusal, Table, Tag, Weights};
 
 struct Both {
     table: Table,
@@ -42,7 +42,8 @@ impl Both {
 
     // every item by distance, then tag
     fn scan(&self, query: &Profile) -> Vec<(u32, Tag)> {
-        let away = |profile| distance(self.table.metric().get(), &plain(profile), &plain(query));
+        let space = Space { metric: self.table.metric().get(), weights: self.table.weights().each() };
+        let away = |profile| distance(&space, &plain(profile), &plain(query));
         let mut all: Vec<_> = self.items.iter().map(|(tag, profile)| (away(profile), *tag)).collect();
         all.sort_unstable();
         all
@@ -61,16 +62,17 @@ impl Both {
 
     fn reload(&mut self) {
         let image = self.table.image();
+        let weights = self.table.weights();
         self.table = Table::load(&image).expect("an image that was written");
-        assert_eq!(self.table.image(), image);
+        assert_eq!((self.table.image(), self.table.weights()), (image, weights));
     }
 }
 
 // Grows to so many, then as many adds as removals, then shrinks; searched on the way.
-fn grow_and_shrink(order: u32, metric: Metric, most: usize) {
+fn grow_and_shrink(order: u32, metric: Metric, weights: Weights, most: usize) {
     let order = Order::new(order).expect("valid");
-    let mut both =
-        Both { table: Table::new(order, metric), items: vec![], random: Random::new(order.get() as u64 + 1) };
+    let table = Table::with_weights(order, metric, weights);
+    let mut both = Both { table, items: vec![], random: Random::new(order.get() as u64 + 1) };
     for (step, national) in (0..3 * most as u64).enumerate() {
         if step < most || step < 2 * most && step % 2 == 0 {
             both.add(national);
@@ -90,9 +92,14 @@ fn grow_and_shrink(order: u32, metric: Metric, most: usize) {
 #[test]
 fn searches_find_what_a_scan_finds() {
     for metric in [Metric::SumOfDifferences, Metric::DifferingBits, Metric::LargestDifference] {
-        for order in [0, 1, 2, 5, 8] {
-            grow_and_shrink(order, metric, 1 << order);
+        for each in [[1; 4], [10, 1, 100, 0], [100; 4], [0; 4]] {
+            let weights = Weights::new(each).expect("in range");
+            for order in [0, 1, 2, 5, 8] {
+                grow_and_shrink(order, metric, weights, 1 << order);
+            }
         }
-        grow_and_shrink(12, metric, 4096);
+        for each in [[1; 4], [10, 1, 100, 0]] {
+            grow_and_shrink(12, metric, Weights::new(each).expect("in range"), 4096);
+        }
     }
 }

@@ -5,24 +5,24 @@ use outside::calls::{Areas, Call, by_archive};
 use outside::item_lists;
 use outside::random::Random;
 use outside::stack::used_by;
-use reference::item::{ROW_WORDS, Row, Slot};
+use reference::item::{ROW_WORDS, Row, Slot, Space};
 use reference::table::{Bucket, Table, capacity, put_table, table_rows};
 use reference::tree::layout;
 
 const ORDER: u32 = 12;
 
 // Buckets of these built and live sizes; the dead slots are the last ones.
-fn table(random: &mut Random, metric: u32, sizes: &[(usize, u32, u32)]) -> Table {
+fn table(random: &mut Random, space: Space, sizes: &[(usize, u32, u32)]) -> Table {
     let mut buckets = vec![Bucket::default(); ORDER as usize + 1];
     let mut nationals = 1u64..;
     for &(k, built, live) in sizes {
         let item = |national| Slot { tag: 36_000_000_000_000 + national, profile: random.profile(), ..Slot::default() };
         let items: Vec<Slot> = nationals.by_ref().take(built as usize).map(item).collect();
-        let mut slots = layout(metric, &items);
+        let mut slots = layout(&space, &items);
         slots[live as usize..].iter_mut().for_each(|slot| slot.mark = 1);
         buckets[k] = Bucket { built, live, slots };
     }
-    Table { order: ORDER, metric, buckets }
+    Table { order: ORDER, space, buckets }
 }
 
 fn rows(table: &Table) -> Vec<Row> {
@@ -56,15 +56,16 @@ fn measure(name: &str, call: Call, mut areas: Areas) -> usize {
 fn every_call_in_a_small_stack() {
     for metric in 0..=2 {
         let mut random = Random::new(9);
-        let full = table(&mut random, metric, &[(12, 4096, 4096)]);
+        let space = Space { metric, weights: [10, 1, 100, 0] };
+        let full = table(&mut random, space, &[(12, 4096, 4096)]);
         let each: Vec<_> = (0..12).map(|k| (k, 1 << k, 1 << k)).collect();
-        let one_short = table(&mut random, metric, &each);
-        let thin = table(&mut random, metric, &[(12, 4096, 1025), (11, 2048, 2048)]);
+        let one_short = table(&mut random, space, &each);
+        let thin = table(&mut random, space, &[(12, 4096, 1025), (11, 2048, 2048)]);
         let first = thin.buckets[12].slots[0];
         let query = random.profile();
         let tag = 40_000_000_000_000;
         let calls = [
-            ("fresh", Call::Fresh { order: ORDER, metric }, &full),
+            ("fresh", Call::Fresh { order: ORDER, space }, &full),
             ("load", Call::Load, &full),
             ("add", Call::Add { tag, profile: query }, &one_short),
             ("remove", Call::Remove { tag: first.tag }, &thin),

@@ -3,7 +3,7 @@
 use outside::calls::{Areas, Call, Reply, compare};
 use outside::item_lists;
 use outside::random::{MAX_NATIONAL, MIN_TAG, Random};
-use reference::item::{Profile, ROW_WORDS, Slot};
+use reference::item::{Profile, ROW_WORDS, Slot, Space};
 use reference::table::{Table, capacity, put_bucket, table_rows};
 use reference::tree::layout;
 
@@ -33,7 +33,7 @@ impl Fixture {
             bytes: vec![],
         };
         let mut fixture = Fixture { areas, random: Random::new(1) };
-        assert_eq!(fixture.call(Call::Fresh { order, metric: 0 }).refusal, 0);
+        assert_eq!(fixture.call(Call::Fresh { order, space: Space::plain(0) }).refusal, 0);
         fixture
     }
 
@@ -119,12 +119,19 @@ fn removals() {
     assert_eq!(fixture.bucket(1), [1, 5]);
 }
 
-// The tests of fresh, one after the other: order, metric, length.
+// The tests of fresh, one after the other: order, metric, weights, length.
 #[test]
 fn fresh_refuses_in_order() {
     let mut fixture = Fixture::new(2);
-    let mut refusal = |order, metric| fixture.call(Call::Fresh { order, metric }).refusal;
-    assert_eq!([refusal(13, 3), refusal(13, 2), refusal(12, 3), refusal(12, 2)], [3, 3, 4, 23]);
+    let mut refusal = |order, metric, weight| {
+        let space = Space { metric, weights: [1, 100, 0, weight] };
+        fixture.call(Call::Fresh { order, space }).refusal
+    };
+    assert_eq!([refusal(13, 3, 101), refusal(13, 2, 101), refusal(13, 3, 1), refusal(13, 2, 1)], [3; 4]);
+    assert_eq!([refusal(12, 3, 101), refusal(12, 3, 1), refusal(2, 3, 101)], [4; 3]);
+    assert_eq!([refusal(12, 0, 101), refusal(12, 1, 101), refusal(12, 2, u32::MAX), refusal(2, 1, 101)], [32; 4]);
+    assert_eq!([refusal(12, 2, 100), refusal(3, 0, 0)], [23; 2]);
+    assert_eq!(refusal(2, 2, 100), 0);
 }
 
 // Order 3, live sizes 1, 1, 2, 3, so no bucket is empty: an add builds all 8 in bucket 3.
@@ -134,7 +141,7 @@ fn an_add_over_dead_slots() {
     let mut nationals = 1..;
     for (k, (built, live)) in [(1, 1), (2, 1), (3, 2), (5, 3)].into_iter().enumerate() {
         let items: Vec<Slot> = nationals.by_ref().take(built).map(item).collect();
-        let mut slots = layout(0, &items);
+        let mut slots = layout(&Space::plain(0), &items);
         slots[live..].iter_mut().for_each(|slot| slot.mark = 1);
         put_bucket(&mut fixture.areas.table, 3, k, live as u32, &slots);
     }
@@ -185,12 +192,12 @@ fn nationals_of_38_bits() {
             assert_eq!(fixture.call(Call::LookUp { tag }).refusal, refusal);
             assert_eq!(fixture.call(Call::Remove { tag }).refusal, refusal);
             let slot = Slot { tag, profile: valued(1), ..Slot::default() };
-            put_bucket(&mut fixture.areas.table, 0, 0, 1, &layout(0, &[slot]));
+            put_bucket(&mut fixture.areas.table, 0, 0, 1, &layout(&Space::plain(0), &[slot]));
             assert_eq!(fixture.call(Call::Range { query: valued(1), radius: 0 }).found, 1);
             assert_eq!(fixture.areas.result[0], [tag, 0]);
             assert_eq!(fixture.call(Call::Remove { tag }).refusal, refusal);
-            put_bucket(&mut fixture.areas.table, 0, 0, 1, &layout(0, &[slot]));
-            fixture.areas.bytes = vec![0; 56];
+            put_bucket(&mut fixture.areas.table, 0, 0, 1, &layout(&Space::plain(0), &[slot]));
+            fixture.areas.bytes = vec![0; 60];
             assert_eq!(fixture.call(Call::Write).refusal, 0);
             assert_eq!(fixture.call(Call::Load).refusal, in_image);
         }
@@ -223,8 +230,8 @@ fn the_four_as_a_list() {
 #[test]
 fn the_worst_measure_decides() {
     let mut fixture = Fixture::new(1);
-    assert_eq!(fixture.call(Call::Fresh { order: 1, metric: 3 }).refusal, 4);
-    assert_eq!(fixture.call(Call::Fresh { order: 1, metric: 2 }).refusal, 0);
+    assert_eq!(fixture.call(Call::Fresh { order: 1, space: Space::plain(3) }).refusal, 4);
+    assert_eq!(fixture.call(Call::Fresh { order: 1, space: Space::plain(2) }).refusal, 0);
     let profile = |measures| Profile { measures, code: [0, 0] };
     for (national, measures) in [(1, [0; 4]), (2, [3, 5, -7, 1])] {
         assert_eq!(fixture.call(Call::Add { tag: tag(national), profile: profile(measures) }).refusal, 0);

@@ -1,8 +1,8 @@
-//! RULES 16, the reference model: an order, a metric and a list of items, with neither buckets nor trees. It is fed a
-//! call's arguments and the lengths of the lent areas, never an answer or what the table holds.
+//! RULES 16, the reference model: an order, a metric, four weights and a list of items, with neither buckets nor trees.
+//! It is fed a call's arguments and the lengths of the lent areas, never an answer or what the table holds.
 
 use crate::image;
-use crate::item::{MAX_METRIC, MAX_ORDER, Profile, check_measures, check_tag, distance};
+use crate::item::{MAX_METRIC, MAX_ORDER, Profile, Space, check_measures, check_tag, check_weights, distance};
 use crate::list::{self, ListRead};
 use crate::refusal::{
     ALREADY_LIVE, BAD_METRIC, BAD_ORDER, FULL, NO_COUNT, NO_ROOM, NOT_LIVE, Refused, SHORT_AREA, ensure,
@@ -16,18 +16,19 @@ pub struct Book {
     /// T.
     pub order: u32,
     /// By which distances are worked out.
-    pub metric: u32,
+    pub space: Space,
     /// As handed over, in any order.
     pub items: Vec<(u64, Profile)>,
 }
 
 impl Book {
-    /// Order and metric as given, no items.
-    pub fn fresh(&mut self, rows: usize, order: u32, metric: u32) -> Result<(), Refused> {
+    /// Order, metric and weights as given, no items.
+    pub fn fresh(&mut self, rows: usize, order: u32, space: Space) -> Result<(), Refused> {
         ensure(order <= MAX_ORDER, BAD_ORDER)?;
-        ensure(metric <= MAX_METRIC, BAD_METRIC)?;
+        ensure(space.metric <= MAX_METRIC, BAD_METRIC)?;
+        check_weights(&space.weights)?;
         ensure(rows >= table_rows(order), SHORT_AREA)?;
-        *self = Book { order, metric, items: vec![] };
+        *self = Book { order, space, items: vec![] };
         Ok(())
     }
 
@@ -35,8 +36,8 @@ impl Book {
     pub fn load(&mut self, rows: usize, bytes: &[u8]) -> Result<(), Refused> {
         let read = image::read(bytes, rows)?;
         let live = read.buckets.iter().flat_map(Bucket::live_items);
-        *self =
-            Book { order: read.order, metric: read.metric, items: live.map(|slot| (slot.tag, slot.profile)).collect() };
+        let items = live.map(|slot| (slot.tag, slot.profile)).collect();
+        *self = Book { order: read.order, space: read.space, items };
         Ok(())
     }
 
@@ -87,7 +88,7 @@ impl Book {
     // Every item by distance, then tag.
     fn by_distance(&self, query: &Profile) -> Vec<Hit> {
         let mut hits: Vec<Hit> =
-            self.items.iter().map(|(tag, profile)| (distance(self.metric, profile, query), *tag)).collect();
+            self.items.iter().map(|(tag, profile)| (distance(&self.space, profile, query), *tag)).collect();
         hits.sort_unstable();
         hits
     }

@@ -1,7 +1,9 @@
 //! The nine calls, on lent areas.
 
 use crate::image;
-use crate::item::{Entry, MAX_METRIC, MAX_ORDER, Profile, ROW_WORDS, Row, Slot, check_measures, check_tag};
+use crate::item::{
+    Entry, MAX_METRIC, MAX_ORDER, Profile, ROW_WORDS, Row, Slot, Space, check_measures, check_tag, check_weights,
+};
 use crate::list::{self, ListRead};
 use crate::refusal::{
     ALREADY_LIVE, BAD_METRIC, BAD_ORDER, FULL, NO_COUNT, NO_ROOM, NOT_LIVE, Refused, SHORT_AREA, ensure,
@@ -14,13 +16,14 @@ pub type Added = (u32, u32);
 /// Number found, and distances.
 pub type Searched = (u32, u32);
 
-/// An empty table of this order and metric.
-pub fn fresh(table: &mut [Row], order: u32, metric: u32) -> Result<(), Refused> {
+/// An empty table of this order, metric and weights.
+pub fn fresh(table: &mut [Row], order: u32, space: Space) -> Result<(), Refused> {
     ensure(order <= MAX_ORDER, BAD_ORDER)?;
-    ensure(metric <= MAX_METRIC, BAD_METRIC)?;
+    ensure(space.metric <= MAX_METRIC, BAD_METRIC)?;
+    check_weights(&space.weights)?;
     ensure(table.len() >= table_rows(order), SHORT_AREA)?;
     let buckets = vec![Bucket::default(); order as usize + 1];
-    put_table(table, &Table { order, metric, buckets });
+    put_table(table, &Table { order, space, buckets });
     Ok(())
 }
 
@@ -101,7 +104,7 @@ fn rebuild(
     for k in gathered {
         put_bucket(rows, table.order, k, 0, &[]);
     }
-    put_bucket(rows, table.order, target, items.len() as u32, &layout(table.metric, items));
+    put_bucket(rows, table.order, target, items.len() as u32, &layout(&table.space, items));
     cost(items.len())
 }
 
@@ -129,7 +132,7 @@ pub fn nearest(rows: &[Row], result: &mut [Entry], query: Profile, k: u32) -> Re
 }
 
 fn search(table: &Table, result: &mut [Entry], query: Profile, wanted: Wanted) -> Result<Searched, Refused> {
-    let mut search = Search::new(table.metric, query, wanted);
+    let mut search = Search::new(table.space, query, wanted);
     for bucket in table.buckets.iter().rev() {
         search.visit(&bucket.slots);
     }

@@ -2,14 +2,19 @@
 
 use std::collections::HashSet;
 
-use crate::item::{MAX_METRIC, MAX_ORDER, Profile, Slot, check_measures, check_tag};
+use crate::item::{MAX_METRIC, MAX_ORDER, Profile, Slot, Space, check_measures, check_tag, check_weights};
 use crate::refusal::{BAD_IMAGE, BAD_LENGTH, BAD_METRIC, BAD_ORDER, BAD_TABLE, Refused, SHORT_AREA, ensure};
 use crate::table::{Bucket, Table, sizes_pass, table_rows};
 use crate::tree::is_layout;
 
-/// The image of a table.
+/// The newest form, the one that is written.
+pub const LAST_FORM: u16 = 1;
+
+/// The image of a table, in the newest form.
 pub fn bytes(table: &Table) -> Vec<u8> {
-    let mut bytes = vec![table.order as u8, table.metric as u8, 0, 0];
+    let mut bytes = vec![table.order as u8, table.space.metric as u8];
+    bytes.extend(LAST_FORM.to_le_bytes());
+    bytes.extend(table.space.weights.map(|weight| weight as u8));
     for bucket in &table.buckets {
         bytes.extend((bucket.built as u16).to_le_bytes());
         bytes.extend((bucket.live as u16).to_le_bytes());
@@ -55,6 +60,17 @@ impl Reader<'_> {
         u64::from_le_bytes(self.take())
     }
 
+    // Form 0 has no weights: they are 1.
+    fn weights(&mut self, form: u16) -> Result<[u32; 4], Refused> {
+        if form == 0 {
+            return Ok([1; 4]);
+        }
+        ensure(self.0.len() >= 4, BAD_LENGTH)?;
+        let weights = self.take().map(|byte: u8| byte as u32);
+        check_weights(&weights)?;
+        Ok(weights)
+    }
+
     fn size(&mut self) -> (u32, u32) {
         let mut one = || u16::from_le_bytes(self.take()) as u32;
         (one(), one())
@@ -71,18 +87,21 @@ impl Reader<'_> {
 pub fn read(bytes: &[u8], rows: usize) -> Result<Table, Refused> {
     ensure(bytes.len() >= 4, BAD_LENGTH)?;
     let mut reader = Reader(bytes);
-    let [order, metric, zeros @ ..] = reader.take::<4>();
+    let [order, metric, form @ ..] = reader.take::<4>();
+    let form = u16::from_le_bytes(form);
     let (order, metric) = (order as u32, metric as u32);
     ensure(order <= MAX_ORDER, BAD_ORDER)?;
     ensure(metric <= MAX_METRIC, BAD_METRIC)?;
-    ensure(zeros == [0; 2], BAD_IMAGE)?;
+    ensure(form <= LAST_FORM, BAD_IMAGE)?;
+    let weights = reader.weights(form)?;
     ensure(reader.0.len() >= 4 * (order as usize + 1), BAD_LENGTH)?;
     let sizes: Vec<_> = (0..=order).map(|_| reader.size()).collect();
     ensure(sizes_pass(order, &sizes), BAD_TABLE)?;
     let total: usize = sizes.iter().map(|size| size.0 as usize).sum();
     ensure(reader.0.len() == 48 * total, BAD_LENGTH)?;
     ensure(rows >= table_rows(order), SHORT_AREA)?;
-    let table = Table { order, metric, buckets: buckets(&mut reader, &sizes, total) };
+    let buckets = buckets(&mut reader, &sizes, total);
+    let table = Table { order, space: Space { metric, weights }, buckets };
     ensure(is_sound(&table), BAD_IMAGE)?;
     Ok(table)
 }
@@ -100,15 +119,15 @@ fn buckets(reader: &mut Reader, sizes: &[(u32, u32)], total: usize) -> Vec<Bucke
 /// Whether fields and trees keep the rules; the sizes are taken to.
 pub fn is_sound(table: &Table) -> bool {
     let live = table.buckets.iter().flat_map(Bucket::live_items);
-    table.buckets.iter().all(|bucket| bucket_is_sound(table.metric, bucket)) && distinct(live)
+    table.buckets.iter().all(|bucket| bucket_is_sound(&table.space, bucket)) && distinct(live)
 }
 
-fn bucket_is_sound(metric: u32, bucket: &Bucket) -> bool {
+fn bucket_is_sound(space: &Space, bucket: &Bucket) -> bool {
     let fields = |slot: &Slot| check_tag(slot.tag).is_ok() && check_measures(&slot.profile).is_ok();
     bucket.slots.iter().all(fields)
         && bucket.marks_pass()
         && distinct(bucket.slots.iter())
-        && is_layout(metric, &bucket.slots)
+        && is_layout(space, &bucket.slots)
 }
 
 fn distinct<'a>(slots: impl Iterator<Item = &'a Slot>) -> bool {

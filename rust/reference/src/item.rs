@@ -1,6 +1,6 @@
 //! Tags, profiles and slots, the three distances, and a slot's row.
 
-use crate::refusal::{BAD_MEASURE, BAD_TAG, Refused, ensure};
+use crate::refusal::{BAD_MEASURE, BAD_TAG, BAD_WEIGHT, Refused, ensure};
 
 /// The words of a row: the header's `VPINDEX_ROW_WORDS`, as `vpindex::ffi::ROW_WORDS` is.
 pub const ROW_WORDS: usize = 12;
@@ -13,6 +13,8 @@ pub type Entry = [u64; 2];
 pub const MAX_ORDER: u32 = 12;
 /// The largest number of a metric.
 pub const MAX_METRIC: u32 = 2;
+/// The largest weight of a measure.
+pub const MAX_WEIGHT: u32 = 100;
 
 const COUNTRY: u64 = 1_000_000_000_000;
 const MAX_NATIONAL: u64 = 274_877_906_943;
@@ -92,12 +94,82 @@ pub fn check_measures(profile: &Profile) -> Result<(), Refused> {
     ensure(profile.measures.iter().all(|m| m.unsigned_abs() <= MAX_MEASURE), BAD_MEASURE)
 }
 
-/// The distance of two profiles by a metric.
-pub fn distance(metric: u32, p: &Profile, q: &Profile) -> u32 {
-    let differences = (0..4).map(|i| p.measures[i].abs_diff(q.measures[i]));
-    match metric {
-        0 => differences.map(u64::from).sum::<u64>().min(u32::MAX as u64) as u32,
+/// The weights' range.
+pub fn check_weights(weights: &[u32; 4]) -> Result<(), Refused> {
+    ensure(weights.iter().all(|weight| *weight <= MAX_WEIGHT), BAD_WEIGHT)
+}
+
+/// What a distance depends on.
+#[derive(Clone, Copy, Debug, Default, PartialEq, Eq)]
+pub struct Space {
+    /// 0, 1 or 2.
+    pub metric: u32,
+    /// By what the difference of each measure is multiplied; metric 1 knows none.
+    pub weights: [u32; 4],
+}
+
+impl Space {
+    /// By this metric, every measure of weight 1.
+    pub fn plain(metric: u32) -> Space {
+        Space { metric, weights: [1; 4] }
+    }
+}
+
+/// The distance of two profiles.
+pub fn distance(space: &Space, p: &Profile, q: &Profile) -> u32 {
+    let weighted = (0..4).map(|i| p.measures[i].abs_diff(q.measures[i]).saturating_mul(space.weights[i]));
+    match space.metric {
+        0 => weighted.fold(0, u32::saturating_add),
         1 => (0..2).map(|i| (p.code[i] ^ q.code[i]).count_ones()).sum(),
-        _ => differences.max().expect("four differences"),
+        _ => weighted.max().expect("four differences"),
+    }
+}
+
+#[cfg(test)]
+mod tests {
+    use super::*;
+
+    fn away(metric: u32, weights: [u32; 4], measures: [i32; 4]) -> u32 {
+        let far = Profile { measures, code: [7, 0] };
+        let space = Space { metric, weights };
+        assert_eq!(distance(&space, &far, &Profile::default()), distance(&space, &Profile::default(), &far));
+        distance(&space, &far, &Profile::default())
+    }
+
+    #[test]
+    fn weights() {
+        for (metric, plain, weighted, none) in [(0, 16, 705, 0), (1, 3, 3, 3), (2, 7, 700, 0)] {
+            assert_eq!(away(metric, [1; 4], [3, 5, -7, 1]), plain);
+            assert_eq!(away(metric, [1, 0, 100, 2], [3, 5, -7, 1]), weighted);
+            assert_eq!(away(metric, [0; 4], [3, 5, -7, 1]), none);
+        }
+        assert_eq!(away(0, [100; 4], [1_000_000, -1_000_000, 1_000_000, -1_000_000]), 400_000_000);
+    }
+
+    // 42,949,672 · 100 + 95 is the largest distance.
+    #[test]
+    fn saturation() {
+        let weights = [100, 1, 0, 1];
+        for (rest, sum) in [(94, u32::MAX - 1), (95, u32::MAX), (96, u32::MAX), (i32::MAX, u32::MAX)] {
+            assert_eq!(away(0, weights, [42_949_672, rest, i32::MIN, 0]), sum);
+        }
+        assert_eq!(away(2, weights, [42_949_672, 95, i32::MIN, 0]), 4_294_967_200);
+        assert_eq!(away(2, weights, [42_949_673, 95, i32::MIN, 0]), u32::MAX);
+        assert_eq!(away(0, weights, [42_949_673, 0, 0, 0]), u32::MAX);
+        assert_eq!(away(0, [100; 4], [i32::MIN; 4]), u32::MAX);
+        assert_eq!(away(2, [100; 4], [i32::MIN; 4]), u32::MAX);
+        assert_eq!(away(0, [1; 4], [i32::MIN; 4]), u32::MAX);
+        assert_eq!(away(2, [1; 4], [i32::MIN; 4]), 1 << 31);
+    }
+
+    #[test]
+    fn weights_in_their_range() {
+        for at in 0..4 {
+            for (weight, reply) in [(0, Ok(())), (100, Ok(())), (101, Err(32)), (u32::MAX, Err(32))] {
+                let mut weights = [1; 4];
+                weights[at] = weight;
+                assert_eq!(check_weights(&weights), reply);
+            }
+        }
     }
 }

@@ -24,12 +24,14 @@ pub const NOT_LIVE: u32 = 21;
 pub const FULL: u32 = 22;
 /// A lent table or work area too short.
 pub const SHORT_AREA: u32 = 23;
-/// Sizes, order, metric or marks break the rules.
+/// Sizes, order, metric, weights or marks break the rules.
 pub const BAD_TABLE: u32 = 24;
 /// A herd list's header differs or lacks its line feed.
 pub const BAD_LIST_HEADER: u32 = 30;
 /// A line of a herd list is not of the form.
 pub const BAD_LIST_LINE: u32 = 31;
+/// A weight above the largest.
+pub const BAD_WEIGHT: u32 = 32;
 
 /// A refusal is an error by its number.
 pub type Refused = u32;

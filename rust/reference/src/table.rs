@@ -1,6 +1,6 @@
 //! A table read from its rows, and the rows written where a call changes them.
 
-use crate::item::{MAX_METRIC, MAX_ORDER, ROW_WORDS, Row, Slot};
+use crate::item::{MAX_METRIC, MAX_ORDER, ROW_WORDS, Row, Slot, Space, check_weights};
 use crate::refusal::{BAD_TABLE, Refused, SHORT_AREA, ensure};
 
 /// A bucket as its size row and its built slots say.
@@ -14,13 +14,13 @@ pub struct Bucket {
     pub slots: Vec<Slot>,
 }
 
-/// A table whose order, metric and sizes pass.
+/// A table whose order, metric, weights and sizes pass.
 #[derive(Clone, Debug, PartialEq, Eq)]
 pub struct Table {
     /// T.
     pub order: u32,
     /// By which distances are worked out.
-    pub metric: u32,
+    pub space: Space,
     /// 0 to T.
     pub buckets: Vec<Bucket>,
 }
@@ -76,17 +76,18 @@ impl Bucket {
 }
 
 impl Table {
-    /// Reads a lent table: no rows, order and metric, length, sizes are checked in this order. `needs` says whether the
-    /// other areas that go by the order are long enough.
+    /// Reads a lent table: no rows, order and metric, length, weights and sizes are checked in this order. `needs` says
+    /// whether the other areas that go by the order are long enough.
     pub fn open(rows: &[Row], needs: impl Fn(u32) -> bool) -> Result<Table, Refused> {
         let header = rows.first().ok_or(SHORT_AREA)?;
-        let (order, metric) = (header[0], header[1]);
+        let &[order, metric, a, b, c, d, ..] = header;
+        let weights = [a, b, c, d];
         ensure(order <= MAX_ORDER && metric <= MAX_METRIC, BAD_TABLE)?;
         ensure(rows.len() >= table_rows(order) && needs(order), SHORT_AREA)?;
         let sizes: Vec<_> = rows[1..=order as usize + 1].iter().map(|row| (row[0], row[1])).collect();
-        ensure(sizes_pass(order, &sizes), BAD_TABLE)?;
+        ensure(check_weights(&weights).is_ok() && sizes_pass(order, &sizes), BAD_TABLE)?;
         let buckets = sizes.into_iter().enumerate().map(|(k, size)| Bucket::read(order, k, size, rows)).collect();
-        Ok(Table { order, metric, buckets })
+        Ok(Table { order, space: Space { metric, weights }, buckets })
     }
 
     /// Reads a lent table that is to be changed: the work area is needed, and the marks are checked too.
@@ -128,7 +129,8 @@ pub fn put_bucket(rows: &mut [Row], order: u32, k: usize, live: u32, slots: &[Sl
 /// Writes a whole table, header row and all.
 pub fn put_table(rows: &mut [Row], table: &Table) {
     rows[0] = [0; ROW_WORDS];
-    rows[0][..2].copy_from_slice(&[table.order, table.metric]);
+    rows[0][..2].copy_from_slice(&[table.order, table.space.metric]);
+    rows[0][2..6].copy_from_slice(&table.space.weights);
     for (k, bucket) in table.buckets.iter().enumerate() {
         put_bucket(rows, table.order, k, bucket.live, &bucket.slots);
     }

@@ -1,24 +1,24 @@
 //! One tree: its layout, what a build costs, and the searches over its slots.
 
-use crate::item::{Profile, Slot, distance};
+use crate::item::{Profile, Slot, Space, distance};
 
 /// The slots of the tree of these items, which rank as they stand.
-pub fn layout(metric: u32, items: &[Slot]) -> Vec<Slot> {
+pub fn layout(space: &Space, items: &[Slot]) -> Vec<Slot> {
     let mut slots = Vec::with_capacity(items.len());
-    place(metric, items.iter().enumerate().collect(), &mut slots);
+    place(space, items.iter().enumerate().collect(), &mut slots);
     slots
 }
 
 // The smallest tag, then the left half of the others and the right one, each laid out likewise.
-fn place(metric: u32, ranked: Vec<(usize, &Slot)>, slots: &mut Vec<Slot>) {
+fn place(space: &Space, ranked: Vec<(usize, &Slot)>, slots: &mut Vec<Slot>) {
     let Some(&(least, first)) = ranked.iter().min_by_key(|(rank, item)| (item.tag, *rank)) else { return };
-    let away = |item: &Slot| distance(metric, &first.profile, &item.profile);
+    let away = |item: &Slot| distance(space, &first.profile, &item.profile);
     let mut left: Vec<_> = ranked.iter().filter(|(rank, _)| *rank != least).copied().collect();
     left.sort_by_key(|(rank, item)| (away(item), item.tag, *rank));
     let right = left.split_off(ranked.len() / 2);
     slots.push(Slot { threshold: left.last().map_or(0, |(_, item)| away(item)), mark: 0, ..*first });
-    place(metric, left, slots);
-    place(metric, right, slots);
+    place(space, left, slots);
+    place(space, right, slots);
 }
 
 /// c(n), the distances that a build of n items works out.
@@ -27,9 +27,9 @@ pub fn cost(n: usize) -> u32 {
 }
 
 /// Whether the slots, marks aside, are the layout of their own items.
-pub fn is_layout(metric: u32, slots: &[Slot]) -> bool {
+pub fn is_layout(space: &Space, slots: &[Slot]) -> bool {
     let unmarked = slots.iter().map(|slot| Slot { mark: 0, ..*slot });
-    unmarked.eq(layout(metric, slots))
+    unmarked.eq(layout(space, slots))
 }
 
 /// A distance and a tag: so they stand in order.
@@ -46,7 +46,7 @@ pub enum Wanted {
 
 /// A search on its way through the trees.
 pub struct Search {
-    metric: u32,
+    space: Space,
     query: Profile,
     wanted: Wanted,
     /// What was found, in order.
@@ -57,14 +57,14 @@ pub struct Search {
 
 impl Search {
     /// Before its first slot.
-    pub fn new(metric: u32, query: Profile, wanted: Wanted) -> Search {
-        Search { metric, query, wanted, hits: vec![], count: 0 }
+    pub fn new(space: Space, query: Profile, wanted: Wanted) -> Search {
+        Search { space, query, wanted, hits: vec![], count: 0 }
     }
 
     /// Goes through one tree.
     pub fn visit(&mut self, slots: &[Slot]) {
         let Some((first, rest)) = slots.split_first() else { return };
-        let d = distance(self.metric, &first.profile, &self.query);
+        let d = distance(&self.space, &first.profile, &self.query);
         self.count += 1;
         if first.is_live() {
             self.take((d, first.tag));

@@ -1,8 +1,9 @@
-//! Adds a small herd, asks both questions, removes one, saves and loads an image, and reads a list of two more.
+//! Adds a small herd, asks both questions, once more where kilos weigh more, removes one, saves and loads an image, and
+//! reads a list of two more.
 //!
 //! It writes what `c/herd.c` writes; `c/herd.expected` has it.
 
-use vpindex::{Hits, ListRefusal, Metric, Order, Profile, Refusal, Table, Tag};
+use vpindex::{Hits, ListRefusal, Metric, Order, Profile, Refusal, Table, Tag, Weights};
 
 // national number; weight, hip height, girth and daily gain, in hundredths
 const ITEMS: [(u64, [i32; 4]); 6] = [
@@ -20,7 +21,8 @@ const LIST: &str = "tag;kg;hip;girth;gain\n\
                     036000000000101;412,50;129,00;185,00;0,95\n";
 
 fn main() -> Result<(), Refusal> {
-    let mut table = Table::new(Order::holding(ITEMS.len())?, Metric::SumOfDifferences);
+    let order = Order::holding(ITEMS.len())?;
+    let mut table = Table::new(order, Metric::SumOfDifferences);
     for (national, measures) in ITEMS {
         let added = table.add(Tag::new(36, national)?, &Profile::new(measures, [0, 0])?)?;
         println!("add {national}: bucket {}, {} distances", added.bucket, added.distances);
@@ -29,6 +31,13 @@ fn main() -> Result<(), Refusal> {
     let query = Profile::new([41_000, 12_900, 18_400, 100], [0, 0])?;
     print("range 500", table.range(&query, 500));
     print("nearest 3", table.nearest(&query, 3)?);
+
+    // kilos ten times, the daily gain not at all
+    let mut weighted = Table::with_weights(order, Metric::SumOfDifferences, Weights::new([10, 1, 1, 0])?);
+    for (national, measures) in ITEMS {
+        weighted.add(Tag::new(36, national)?, &Profile::new(measures, [0, 0])?)?;
+    }
+    print("nearest 3, kilos weigh more", weighted.nearest(&query, 3)?);
 
     let tag = Tag::new(36, 104)?;
     println!("remove {}: {} distances", tag.national(), table.remove(tag)?);

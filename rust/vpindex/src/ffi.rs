@@ -15,6 +15,12 @@ pub struct Profile {
 }
 
 #[repr(C)]
+#[derive(Clone, Copy, Debug, PartialEq, Eq, Hash)]
+pub struct Weights {
+    pub each: [u32; 4],
+}
+
+#[repr(C)]
 #[derive(Clone, Copy, Debug, PartialEq, Eq)]
 pub struct Added {
     pub refusal: u32,
@@ -65,7 +71,7 @@ mod raw {
     use super::*;
 
     unsafe extern "C" {
-        pub fn vpindex_fresh(table: *mut Row, table_rows: usize, order: u32, metric: u32) -> u32;
+        pub fn vpindex_fresh(table: *mut Row, table_rows: usize, order: u32, metric: u32, weights: Weights) -> u32;
         pub fn vpindex_load(table: *mut Row, table_rows: usize, image: *const u8, image_bytes: usize) -> u32;
         pub fn vpindex_add(
             table: *mut Row,
@@ -114,8 +120,8 @@ mod raw {
 // Each call on slices. A slice's pointer is not null, is aligned and valid for its length, and two of them that are
 // lent together do not overlap where one is lent to be written: that is all the calls ask of their caller.
 
-pub fn fresh(table: &mut [Row], order: u32, metric: u32) -> u32 {
-    unsafe { raw::vpindex_fresh(table.as_mut_ptr(), table.len(), order, metric) }
+pub fn fresh(table: &mut [Row], order: u32, metric: u32, weights: Weights) -> u32 {
+    unsafe { raw::vpindex_fresh(table.as_mut_ptr(), table.len(), order, metric, weights) }
 }
 
 pub fn load(table: &mut [Row], image: &[u8]) -> u32 {

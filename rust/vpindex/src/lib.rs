@@ -1,6 +1,7 @@
 //! An index of up to 4,096 items by likeness. An item is a [`Tag`] with a [`Profile`]: four measures and a code of 128
 //! bits. A [`Table`] gives all items within a distance of a query, and the nearest ones, while items are added and
-//! removed. It keeps vantage-point trees in buckets whose sizes are powers of two.
+//! removed, by the rule of its [`Metric`] and with its [`Weights`]. It keeps vantage-point trees in buckets whose sizes
+//! are powers of two.
 //!
 //! The calls below are thin over `libvpindex.a`, whose code is proved: each call ends, its reply is the one that the
 //! rules give for every input, a search finds what a scan of all items would, and all rebuilds of a list of calls
@@ -36,4 +37,4 @@ pub use hits::{Hit, Hits};
 pub use list::{ListRead, ListRefusal};
 pub use refusal::Refusal;
 pub use table::{Added, LookedUp, Table};
-pub use values::{Metric, Order, Profile, Tag};
+pub use values::{Metric, Order, Profile, Tag, Weights};

@@ -31,12 +31,14 @@ pub enum Refusal {
     Full,
     /// A lent area is shorter than the order needs.
     ShortArea,
-    /// The sizes of the image, or of a table, break the rules.
+    /// The sizes of the image, or header, sizes or marks of a table, break the rules.
     BadTable,
     /// The list's first line is not `tag;kg;hip;girth;gain` and a line feed.
     BadListHeader,
     /// A line of a list is not of the form.
     BadListLine,
+    /// A weight is above 100.
+    BadWeight,
     /// A refusal by a number that this crate does not know: the archive is newer.
     Other(u32),
 }
@@ -44,7 +46,7 @@ pub enum Refusal {
 use Refusal::*;
 
 impl Refusal {
-    const KNOWN: [Refusal; 15] = [
+    const KNOWN: [Refusal; 16] = [
         BadTag,
         BadMeasure,
         BadOrder,
@@ -60,6 +62,7 @@ impl Refusal {
         BadTable,
         BadListHeader,
         BadListLine,
+        BadWeight,
     ];
 
     /// The number by which the archive's calls say it.
@@ -90,13 +93,14 @@ impl Refusal {
             NotLive => (21, "the tag is not in the table"),
             Full => (22, "the table holds as many items as its order allows"),
             ShortArea => (23, "a lent area is shorter than the order needs"),
-            BadTable => (24, "the sizes of the image or of the table break the rules"),
+            BadTable => (24, "the sizes of the image, or header, sizes or marks of the table, break the rules"),
             BadListHeader => (30, "the header is not `tag;kg;hip;girth;gain` and a line feed"),
             BadListLine => (
                 31,
                 "not of the form: a tag of 15 digits, then four values, each after one semicolon (a minus or none, \
                  1 to 5 digits, a comma, 2 digits), and a line feed",
             ),
+            BadWeight => (32, "a weight is above 100"),
             Other(number) => (number, "a refusal that this crate does not know"),
         }
     }
@@ -122,14 +126,14 @@ mod tests {
     #[test]
     fn numbers() {
         assert_eq!(Refusal::check(0), Ok(()));
-        for number in (1..=8).chain(20..=24).chain(30..=31) {
+        for number in (1..=8).chain(20..=24).chain(30..=32) {
             let refusal = Refusal::check(number).expect_err("not 0");
             assert_eq!(refusal.number(), number);
             assert_ne!(refusal, Other(number));
         }
-        for number in [9, 19, 25, 29, 32, u32::MAX] {
+        for number in [9, 19, 25, 29, 33, u32::MAX] {
             assert_eq!(Refusal::check(number), Err(Other(number)));
         }
-        assert_eq!(Other(32).to_string(), "a refusal that this crate does not know: 32");
+        assert_eq!(Other(33).to_string(), "a refusal that this crate does not know: 33");
     }
 }

@@ -1,7 +1,7 @@
 //! The table, with the areas that its calls are lent.
 
 use crate::list::{self, ListRead, ListRefusal};
-use crate::{Hits, Metric, Order, Profile, Refusal, Tag, ffi};
+use crate::{Hits, Metric, Order, Profile, Refusal, Tag, Weights, ffi};
 
 /// What an add did.
 #[derive(Clone, Copy, Debug, PartialEq, Eq)]
@@ -23,39 +23,78 @@ pub struct LookedUp {
 
 /// Items that can be asked for by likeness.
 ///
-/// A table allocates when it is made, and [`Table::image`] what it returns; no other call allocates. A table of order T
-/// takes 48·(3·2^T + T + 1) + 16·2^T bytes, some 641 KiB at order 12.
+/// A table allocates when it is made, and [`Table::image`] what it returns; no other call allocates. The areas of
+/// one of order T are 48·(3·2^T + T + 1) + 16·2^T bytes, some 641 KiB at order 12.
 #[derive(Clone, Debug)]
 pub struct Table {
+    header: Header,
     rows: Vec<ffi::Row>,
     work: Vec<ffi::Row>,
     result: Vec<ffi::Entry>,
 }
 
+// What a table's first row says.
+#[derive(Clone, Copy, Debug, PartialEq, Eq)]
+struct Header {
+    order: Order,
+    metric: Metric,
+    weights: Weights,
+}
+
+impl Header {
+    // What a newer archive may take and this crate does not know is refused, as the making of such a value is.
+    fn of(row: &ffi::Row) -> Result<Header, Refusal> {
+        let &[order, metric, a, b, c, d, ..] = row;
+        let (order, metric) = (Order::new(order)?, Metric::try_from(metric)?);
+        Ok(Header { order, metric, weights: Weights::new([a, b, c, d])? })
+    }
+}
+
 impl Table {
-    /// An empty table.
+    /// An empty table in which every measure counts as it is: of weights [`Weights::ONE`].
     pub fn new(order: Order, metric: Metric) -> Table {
-        let mut table = Table::blank(order);
-        let refusal = ffi::fresh(&mut table.rows, order.get(), metric.get());
-        assert_eq!(refusal, 0, "order and metric are valid, and the area is as long as the order needs");
+        Table::with_weights(order, metric, Weights::ONE)
+    }
+
+    /// An empty table in which some measures count more than others.
+    ///
+    /// ```
+    /// use vpindex::{Metric, Order, Profile, Table, Tag, Weights};
+    ///
+    /// // kilos count ten times, the daily gain not at all
+    /// let weights = Weights::new([10, 1, 1, 0])?;
+    /// let mut table = Table::with_weights(Order::new(4)?, Metric::SumOfDifferences, weights);
+    /// table.add(Tag::new(36, 1)?, &Profile::new([41_250, 12_900, 18_500, 95], [0, 0])?)?;
+    /// let query = Profile::new([41_000, 12_900, 18_400, 40], [0, 0])?;
+    /// assert_eq!(table.nearest(&query, 1)?[0].distance(), 2_600);
+    /// # Ok::<(), vpindex::Refusal>(())
+    /// ```
+    pub fn with_weights(order: Order, metric: Metric, weights: Weights) -> Table {
+        let mut table = Table::blank(Header { order, metric, weights });
+        let refusal = ffi::fresh(&mut table.rows, order.get(), metric.get(), weights.raw());
+        assert_eq!(refusal, 0, "order, metric and weights are valid, and the area is as long as the order needs");
         table
     }
 
-    /// The table that the image was written from, with [`Table::image`] or with the C call.
+    /// The table that the image was written from, with [`Table::image`] or with the C call. Images from before there
+    /// were weights load with [`Weights::ONE`].
     ///
     /// The image is checked whole. [`Refusal::BadLength`], [`Refusal::BadOrder`], [`Refusal::BadMetric`],
-    /// [`Refusal::BadTable`] and [`Refusal::BadImage`] say what is wrong with it.
+    /// [`Refusal::BadWeight`], [`Refusal::BadTable`] and [`Refusal::BadImage`] say what is wrong with it.
     pub fn load(image: &[u8]) -> Result<Table, Refusal> {
         // an order that is not valid is refused before the area's length is looked at
         let order = image.first().and_then(|&byte| Order::new(byte as u32).ok()).unwrap_or(Order::MIN);
-        let mut table = Table::blank(order);
+        let mut table = Table::blank(Header { order, metric: Metric::SumOfDifferences, weights: Weights::ONE });
         Refusal::check(ffi::load(&mut table.rows, image))?;
+        table.header = Header::of(&table.rows[0])?;
         Ok(table)
     }
 
     // Areas of the lengths that the order needs, not a table yet.
-    fn blank(order: Order) -> Table {
+    fn blank(header: Header) -> Table {
+        let order = header.order;
         Table {
+            header,
             rows: vec![[0; ffi::ROW_WORDS]; order.table_rows()],
             work: vec![[0; ffi::ROW_WORDS]; order.capacity()],
             result: vec![[0; 2]; order.capacity()],
@@ -140,7 +179,7 @@ impl Table {
 
     fn image_bytes(&self) -> usize {
         let built: usize = self.sizes().map(|size| size[0] as usize).sum();
-        4 + 4 * self.sizes().len() + 48 * built
+        8 + 4 * self.sizes().len() + 48 * built
     }
 
     // the size rows of the buckets: built, live
@@ -150,12 +189,17 @@ impl Table {
 
     /// The order that it was made with.
     pub fn order(&self) -> Order {
-        Order::new(self.rows[0][0]).expect("a table's order is valid")
+        self.header.order
     }
 
     /// The metric that it was made with.
     pub fn metric(&self) -> Metric {
-        Metric::try_from(self.rows[0][1]).expect("a table's metric is valid")
+        self.header.metric
+    }
+
+    /// The weights that it was made with.
+    pub fn weights(&self) -> Weights {
+        self.header.weights
     }
 
     /// How many items there are.
@@ -166,5 +210,30 @@ impl Table {
     /// Whether there are none.
     pub fn is_empty(&self) -> bool {
         self.len() == 0
+    }
+}
+
+#[cfg(test)]
+mod tests {
+    use super::*;
+
+    // Rows that a newer archive could leave: none of them makes a table here, and nothing panics.
+    #[test]
+    fn a_header_that_is_not_known() {
+        let row = |front: [u32; 6]| {
+            let mut row = [9; ffi::ROW_WORDS];
+            row[..6].copy_from_slice(&front);
+            Header::of(&row)
+        };
+        let weights = Weights::new([0, 1, 7, 100]).expect("in range");
+        let known = Header { order: Order::MAX, metric: Metric::LargestDifference, weights };
+        assert_eq!(row([12, 2, 0, 1, 7, 100]), Ok(known));
+        assert_eq!(row([13, 2, 0, 1, 7, 100]), Err(Refusal::BadOrder));
+        assert_eq!(row([12, 3, 0, 1, 7, 100]), Err(Refusal::BadMetric));
+        for at in 2..6 {
+            let mut front = [12, 2, 0, 1, 7, 100];
+            front[at] = 101;
+            assert_eq!(row(front), Err(Refusal::BadWeight));
+        }
     }
 }

@@ -90,6 +90,43 @@ impl Profile {
     }
 }
 
+/// What the difference of each measure is multiplied by before it counts, 0 to 100: of a measure of weight 0 the
+/// distance knows nothing. A table by [`Metric::DifferingBits`] keeps its weights and has no use for them.
+#[derive(Clone, Copy, Debug, PartialEq, Eq, Hash)]
+pub struct Weights(ffi::Weights);
+
+impl Weights {
+    /// The largest weight.
+    pub const MAX: u32 = 100;
+    /// Every measure counts as it is.
+    pub const ONE: Weights = Weights(ffi::Weights { each: [1; 4] });
+
+    /// Of the four measures in their order, each at most [`Weights::MAX`]; else [`Refusal::BadWeight`].
+    pub fn new(each: [u32; 4]) -> Result<Weights, Refusal> {
+        if each.iter().all(|&weight| weight <= Weights::MAX) {
+            Ok(Weights(ffi::Weights { each }))
+        } else {
+            Err(Refusal::BadWeight)
+        }
+    }
+
+    /// Of the four measures in their order.
+    pub fn each(self) -> [u32; 4] {
+        self.0.each
+    }
+
+    pub(crate) fn raw(self) -> ffi::Weights {
+        self.0
+    }
+}
+
+/// [`Weights::ONE`].
+impl Default for Weights {
+    fn default() -> Weights {
+        Weights::ONE
+    }
+}
+
 /// How large a table is: one of order T has buckets 0 to T and holds at most 2^T items.
 #[derive(Clone, Copy, Debug, PartialEq, Eq, PartialOrd, Ord, Hash)]
 pub struct Order(u32);
@@ -130,11 +167,11 @@ impl Order {
 #[non_exhaustive]
 #[repr(u32)]
 pub enum Metric {
-    /// The sum of the absolute differences of the four measures.
+    /// The sum of the absolute differences of the four measures, each multiplied by its weight.
     SumOfDifferences = 0,
     /// The number of bits in which the codes differ.
     DifferingBits = 1,
-    /// The largest of the absolute differences of the four measures.
+    /// The largest of the absolute differences of the four measures, each multiplied by its weight.
     LargestDifference = 2,
 }
 

@@ -1,6 +1,6 @@
 //! What a Rust caller meets: values that are checked when they are made, and refusals.
 
-use vpindex::{ListRead, ListRefusal, Metric, Order, Profile, Refusal, Table, Tag};
+use vpindex::{ListRead, ListRefusal, Metric, Order, Profile, Refusal, Table, Tag, Weights};
 
 #[test]
 fn tags() {
@@ -47,6 +47,41 @@ fn orders_and_metrics() {
 }
 
 #[test]
+fn weights() {
+    assert_eq!(Weights::new([1; 4]), Ok(Weights::ONE));
+    assert_eq!(Weights::default(), Weights::ONE);
+    for at in 0..4 {
+        for (weight, fits) in [(0, true), (100, true), (101, false), (256, false), (u32::MAX, false)] {
+            let mut each = [1; 4];
+            each[at] = weight;
+            let made = Weights::new(each).map(Weights::each);
+            assert_eq!(made, if fits { Ok(each) } else { Err(Refusal::BadWeight) });
+        }
+    }
+}
+
+// Each measure has its own weight, and an image keeps them.
+#[test]
+fn a_weighted_table() {
+    let (tag, order) = (Tag::new(36, 1).expect("valid"), Order::new(2).expect("valid"));
+    let weights = Weights::new([2, 0, 100, 1]).expect("in range");
+    let item = Profile::new([3, 5, -7, 1], [7, 0]).expect("in range");
+    for (metric, plain, weighted) in
+        [(Metric::SumOfDifferences, 16, 707), (Metric::DifferingBits, 3, 3), (Metric::LargestDifference, 7, 700)]
+    {
+        let tables = [Table::new(order, metric), Table::with_weights(order, metric, weights)];
+        for (mut table, (each, distance)) in tables.into_iter().zip([([1; 4], plain), ([2, 0, 100, 1], weighted)]) {
+            table.add(tag, &item).expect("room");
+            let mut loaded = Table::load(&table.image()).expect("an image that was written");
+            for table in [&mut table, &mut loaded] {
+                assert_eq!((table.order(), table.metric(), table.weights().each()), (order, metric, each));
+                assert_eq!(table.nearest(&Profile::default(), 1).expect("room")[0].distance(), distance);
+            }
+        }
+    }
+}
+
+#[test]
 fn a_table_refuses() {
     let mut table = Table::new(Order::MIN, Metric::DifferingBits);
     let (tag, other) = (Tag::new(36, 1).expect("valid"), Tag::new(36, 2).expect("valid"));
@@ -60,6 +95,7 @@ fn a_table_refuses() {
     assert_eq!(table.nearest(&profile, 0).err(), Some(Refusal::NoCount));
     assert_eq!(table.nearest(&profile, u32::MAX).map(|hits| hits.len()), Ok(1));
     assert_eq!((table.len(), table.order(), table.metric()), (1, Order::MIN, Metric::DifferingBits));
+    assert_eq!(table.weights(), Weights::ONE);
 }
 
 #[test]
@@ -76,8 +112,12 @@ fn images_refused() {
     assert_eq!(refused(&|image| image[0] = 13), Some(Refusal::BadOrder));
     assert_eq!(refused(&|image| image[1] = 2), None);
     assert_eq!(refused(&|image| image[1] = 3), Some(Refusal::BadMetric));
-    assert_eq!(refused(&|image| image[2] = 1), Some(Refusal::BadImage));
-    assert_eq!(refused(&|image| image[4] = 1), Some(Refusal::BadTable));
+    assert_eq!(refused(&|image| image[2] = 2), Some(Refusal::BadImage));
+    assert_eq!(refused(&|image| image[3] = 1), Some(Refusal::BadImage));
+    assert_eq!(refused(&|image| image.truncate(7)), Some(Refusal::BadLength));
+    assert_eq!(refused(&|image| image[7] = 100), None);
+    assert_eq!(refused(&|image| image[7] = 101), Some(Refusal::BadWeight));
+    assert_eq!(refused(&|image| image[8] = 1), Some(Refusal::BadTable));
 }
 
 fn read(table: &mut Table, list: &str) -> Result<u32, String> {
@@ -146,4 +186,5 @@ fn a_stop_is_told_in_words() {
 fn a_refusal_says_what_was_wrong() {
     assert_eq!(Refusal::Full.to_string(), "the table holds as many items as its order allows");
     assert_eq!((Refusal::BadTag.number(), Refusal::BadTable.number(), Refusal::BadListLine.number()), (1, 24, 31));
+    assert_eq!((Refusal::BadWeight.number(), Refusal::BadWeight.to_string().as_str()), (32, "a weight is above 100"));
 }

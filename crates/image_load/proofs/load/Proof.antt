@@ -17,7 +17,8 @@ use Rattle.image_rules.specs.Load.{loadRefusal}
 use Rattle.image_rules.proofs.Accepting.{Accepted, accepted}
 use Rattle.image_read.specs.InImage.{Whole}
 use Rattle.table_buckets.specs.OfOrder.{OfOrder}
-use Rattle.image_load.proofs.Steps.{load-short, load-later}
+use Rattle.image_load.specs.Steps.{startRefusal}
+use Rattle.image_load.proofs.Steps.{load-short, load-first, load-later, start-passed}
 use Rattle.image_load.proofs.Loading.{fresh-accepted, fresh-lent, load-puts, accepted-whole, load-stops}
 use Rattle.image_load.proofs.load.Statement.{statement}
 use Rattle.image_load.proofs.load.Tie as tie
@@ -35,20 +36,33 @@ enough c =
     let b = c .before .has-bytes in
     omega (arith, leb-true (0 + 4) (length (c .before .before .before .args .image .now)) (sym (b .ensures) ∙ not-false (b .result) (c .if1 .left)))
 
--- the refusal of the whole call
-known : (c : tie.After-load-refusal) → c .load-refusal .result ≡ loadRefusal (length (c .before .before .before .before .before .args .table .now)) (c .before .before .before .before .before .args .image .now)
-known c = let a = c .before .before .before .before .before .args in c .load-refusal .ensures ∙ sym (load-later (length (a .table .now)) (a .image .now) (enough (c .before .before)))
+-- the start passed
+start-zero : (c : tie.Else2) → startRefusal (c .before .before .before .before .before .before .args .image .now) ≡ 0
+start-zero c = sym (c .before .start-refusal .ensures) ∙ c .if2 .left
+
+-- and the refusal of the whole call is the one behind it
+abbrev begun : tie.After-load-refusal → tie.Start
+begun c = c .before .before .before .before .before .before .before .before
+
+known : (c : tie.After-load-refusal) → c .load-refusal .result ≡ loadRefusal (length (begun c .args .table .now)) (begun c .args .image .now)
+known c =
+    let a = begun c .args in
+    let e = c .before .before in
+    c .load-refusal .ensures ∙ sym (load-later (length (a .table .now)) (a .image .now) (enough (e .before .before .before)) (start-zero e))
 
 -- an accepted image
-module _ (c : tie.Else2) where
-  goes : loadRefusal (length (c .before .before .before .before .before .before .args .table .now)) (c .before .before .before .before .before .before .args .image .now) ≡ 0
-  goes = sym (known (c .before)) ∙ c .if2 .left
+abbrev start-of : tie.Else3 → tie.Start
+start-of c = begun (c .before)
 
-  ok : Accepted (length (c .before .before .before .before .before .before .args .table .now)) (c .before .before .before .before .before .before .args .image .now)
-  ok = accepted (length (c .before .before .before .before .before .before .args .table .now)) (c .before .before .before .before .before .before .args .image .now) goes
+module _ (c : tie.Else3) where
+  goes : loadRefusal (length (start-of c .args .table .now)) (start-of c .args .image .now) ≡ 0
+  goes = sym (known (c .before)) ∙ c .if3 .left
 
-  whole : Whole (c .before .before .before .before .before .before .args .image .now) (c .before .before .header-in .result)
-  whole = accepted-whole (c .before .before .before .before .before .before .args .image .now) (c .before .before .before .before .before .before .args .table .now) ok (c .before .before .header-in .result) (c .before .before .header-in .ensures)
+  ok : Accepted (length (start-of c .args .table .now)) (start-of c .args .image .now)
+  ok = accepted (length (start-of c .args .table .now)) (start-of c .args .image .now) goes
+
+  whole : Whole (start-of c .args .image .now) (c .before .before .header-in .result)
+  whole = accepted-whole (start-of c .args .image .now) (start-of c .args .table .now) ok (c .before .before .header-in .result) (c .before .before .header-in .ensures)
 
 returns : tie.Need-returns
 returns c =
@@ -56,42 +70,56 @@ returns c =
     let e : 7 ≡ loadRefusal (length (a .table .now)) (a .image .now) = sym (load-short (length (a .table .now)) (a .image .now) (short c)) in
     (e, load-stops (a .image .now) (a .table .now) 7 e (λ z. omega arith))
 
-header-in-requires : tie.Need-header-in-requires
-header-in-requires c κs = enough c
-
-load-refusal-requires : tie.Need-load-refusal-requires
-load-refusal-requires c κs = c .header-in .ensures
+start-in-requires : tie.Need-start-in-requires
+start-in-requires c κs = enough c
 
 returns-2 : tie.Need-returns-2
 returns-2 c =
-    let a = c .before .before .before .before .before .before .args in
-    (known (c .before), load-stops (a .image .now) (a .table .now) (c .before .load-refusal .result) (known (c .before)) (c .if2 .taken))
+    let f = c .before in
+    let a = f .before .before .before .before .before .args in
+    let e : f .start-refusal .result ≡ loadRefusal (length (a .table .now)) (a .image .now) =
+    load-first (length (a .table .now)) (a .image .now) (enough (f .before .before)) (f .start-refusal .result) (f .start-refusal .ensures) (c .if2 .taken) in
+    (e, load-stops (a .image .now) (a .table .now) (f .start-refusal .result) e (c .if2 .taken))
+
+header-in-requires : tie.Need-header-in-requires
+header-in-requires c κs = (c .before .before .start-in .ensures, start-passed (c .before .before .before .before .before .before .args .image .now) (start-zero c) .1)
+
+load-refusal-requires : tie.Need-load-refusal-requires
+load-refusal-requires c κs = (c .header-in .ensures, start-passed (c .before .before .before .before .before .before .before .args .image .now) (start-zero (c .before)) .0)
+
+returns-3 : tie.Need-returns-3
+returns-3 c =
+    let a = begun (c .before) .args in
+    (known (c .before), load-stops (a .image .now) (a .table .now) (c .before .load-refusal .result) (known (c .before)) (c .if3 .taken))
 
 all-slots-requires : tie.Need-all-slots-requires
 all-slots-requires c κs = whole (c .before .before .before .before)
 
 -- the table once it is fresh
 fresh-known : (c : tie.After-fresh)
-    → c .fresh .last .0 ≡ freshTable (orderIn (c .before .before .before .before .before .before .before .before .args .image .now)) (spaceIn (c .before .before .before .before .before .before .before .before .args .image .now)) (c .before .before .before .before .before .before .before .before .args .table .now)
+    → let a = start-of (c .before .before) .args in c .fresh .last .0 ≡ freshTable (orderIn (a .image .now)) (spaceIn (a .image .now)) (a .table .now)
 fresh-known c =
-    let a = c .before .before .before .before .before .before .before .before .args in
-    let h = c .before .before .before .before .header-in .ensures in
-    c .fresh .ensures .1
+    let e = c .before .before in
+    let a = start-of e .args in
+    let read = e .before .before .header-in in
+    let h = read .ensures in
+    let made : c .fresh .last .0 ≡ tableAfterFresh (read .result .order .t) (read .result .space) (a .table .now) = c .fresh .ensures .1 in
+    made
     ∙ ap₂ (λ (o : ℕ) (s : Space). tableAfterFresh o s (a .table .now)) (h .order) (h .space)
-    ∙ fresh-accepted (a .image .now) (a .table .now) (ok (c .before .before))
+    ∙ fresh-accepted (a .image .now) (a .table .now) (ok e)
 
 put-buckets-requires : tie.Need-put-buckets-requires
 put-buckets-requires c κs =
-    let a = c .before .before .before .before .before .before .before .before .before .before .before .args in
-    let image = a .image .now in
     let e = c .before .before .before .before .before in
+    let a = start-of e .args in
+    let image = a .image .now in
     (subst (λ (t : Table). OfOrder t (orderIn image)) (sym (fresh-known (c .before .before .before))) (fresh-lent image (a .table .now) (ok e)), whole e, c .all-slots .ensures .0)
 
-returns-3 : tie.Need-returns-3
-returns-3 c =
-    let a = c .before .before .before .before .before .before .before .before .before .before .before .before .before .args in
-    let image = a .image .now in
-    let e = c .before .before .before .before .before .before .before in (
+returns-4 : tie.Need-returns-4
+returns-4 c =
+    let e = c .before .before .before .before .before .before .before in
+    let a = start-of e .args in
+    let image = a .image .now in (
       sym (goes e),
       load-puts image (a .table .now) (ok e) (goes e) _
           (c .before .put-buckets .ensures ∙ ap (λ (u : Table). foldl (λ v k. putBucket k (bucketIn image k) (liveIn image k) v) u (bucketsOf (orderIn image))) (fresh-known (c .before .before .before .before .before))),
@@ -103,11 +131,14 @@ load-spec =
     (tie.spec
     (λ c κs. search needs)
     returns
+    start-in-requires
+    (λ c κs. search needs)
+    returns-2
     header-in-requires
     load-refusal-requires
-    returns-2
+    returns-3
     (λ c κs. search needs)
     all-slots-requires
     put-buckets-requires
     (λ c. search needs)
-    returns-3)
+    returns-4)

@@ -6,11 +6,13 @@ use Rattle.lists.specs.Lists.{every}
 use Rattle.metric_rules.specs.declared.Space.{Space}
 use Rattle.metric_rules.specs.Distance.{spaceOf}
 use Rattle.table_rules.specs.Geometry.{bucketsOf}
+use Rattle.table_rules.specs.Table.{headerOf}
+use Rattle.table_rules.proofs.Changes.{header-space}
 use Rattle.image_rules.specs.Read.{orderIn, spaceIn}
+use Rattle.image_rules.proofs.Loaded.{four-weights}
 use Rattle.image_fields.specs.SlotsRead.{slotsRead}
 use Rattle.image_test.specs.Trees.{bucketRead, treesFault}
 use Rattle.image_test.proofs.Checked.{fields-found, fields-passed}
-use Rattle.image_load.proofs.Loading.{header-space}
 use Rattle.image_load.proofs.slots_fault.Statement.{statement}
 use Rattle.image_load.proofs.slots_fault.Tie as tie
 
@@ -38,7 +40,7 @@ returns-2 c =
     let r = c .before .before .before .before in
     let made = c .before .before .header-row in
     let space : spaceOf (made .result) ≡ spaceIn image =
-    ap spaceOf (made .ensures) ∙ header-space _ _ ∙ s .pre .0 .headed .space in
+    ap spaceOf (made .ensures ∙ ap (headerOf _) (s .pre .0 .headed .space)) ∙ header-space _ (spaceIn image) (four-weights image) in
     c .trees-fault .ensures
     ∙ ap (λ (s : Space). treesFault s image) space
     ∙ fields-passed image (r .buckets-read .result) (read-tested r) (not-false (r .buckets-read .result) (c .before .before .before .if1 .left))

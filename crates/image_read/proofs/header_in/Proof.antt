@@ -1,28 +1,31 @@
--- `image_read::header_in` meets its contract: the three fields of the start, one after the other.
-use mathlib.Core.Path.{ap}
-use native.Mathlib.Omega.{arith}
-use Rattle.lists.specs.Lists.{total}
-use Rattle.image_rules.specs.Bytes.{startFields, startBytes}
-use Rattle.image_rules.specs.Read.{fieldsAt, startNumbers, orderIn, spaceIn, formIn}
+-- `image_read::header_in` meets its contract: order, metric and form as they were read, and the weights by the form.
+use Prim.Native.Nat.{ℕ, _≤_}
+use mathlib.Core.Path.{_≡_, sym, ap, ap₂, _∙_, subst}
+use lib.ListN.{length}
+use Rattle.metric_rules.specs.declared.Weights.{Weights}
+use Rattle.metric_rules.specs.declared.Space.{Space}
+use Rattle.image_rules.specs.Bytes.{headerBytes}
+use Rattle.image_rules.specs.Read.{weightsAs, spaceIn}
 use Rattle.image_read.proofs.header_in.Statement.{statement}
 use Rattle.image_read.proofs.header_in.Tie as tie
 
-two-from-requires : tie.Need-two-from-requires
-unfolding startBytes startFields total
-two-from-requires c κs = (omega arith, omega arith, omega (arith, c .before .pre))
-
-two-from-requires-2 : tie.Need-two-from-requires-2
-unfolding startBytes startFields total
-two-from-requires-2 c κs = (omega arith, omega arith, omega (arith, c .before .before .pre))
+weights-in-requires : tie.Need-weights-in-requires
+weights-in-requires c κs =
+    let s = c .before .before .before in
+    subst (λ (f : ℕ). headerBytes f ≤ length (s .args .image .now)) (sym (s .pre .0 .form)) (s .pre .1)
 
 returns : tie.Need-returns
-unfolding orderIn spaceIn formIn startNumbers startFields fieldsAt
+unfolding spaceIn
 returns c =
+    let s = c .before .before .before .before in
+    let start = s .pre .0 in
     record {
-      order = ap (λ two. two .first) (c .before .two-from .ensures);
-      space = ap (λ two. record { metric = two .second }) (c .before .two-from .ensures);
-      form = ap (λ two. two .second) (c .two-from2 .ensures);
+      order = start .order;
+      space =
+          ap₂ {C = Space} (λ (m : ℕ) (w : Weights). record { metric = m; weights = w }) (start .metric)
+          (c .weights-in .ensures ∙ ap (λ (f : ℕ). weightsAs f (s .args .image .now)) (start .form));
+      form = start .form;
     }
 
 pub header-in-spec : {M : Type 1} → statement M
-header-in-spec = tie.close (tie.spec two-from-requires two-from-requires-2 returns)
+header-in-spec = tie.close (tie.spec weights-in-requires returns)

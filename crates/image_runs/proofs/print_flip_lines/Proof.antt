@@ -1,15 +1,15 @@
 -- `image_runs::print_flip_lines` goes through the bytes of the image.
--- The loop's number is at most 352, and the measure is what is left up to it.
+-- The loop's number is at most the image's length, and the measure is what is left up to it.
 use Prim.Native.Nat.{_≤_, _-_}
 use borrow.Author.Needs.{needs}
 use Rattle.image_runs.proofs.print_flip_lines.Statement.{statement}
 use Rattle.image_runs.proofs.print_flip_lines.Tie as tie
 
 abbrev Inv-loop : tie.InvT-loop
-Inv-loop metric at₀ at = at ≤ 352
+Inv-loop form metric length at₀ at = at ≤ length
 
 abbrev μ-loop : tie.MeasureT-loop
-μ-loop metric at₀ at = 352 - at
+μ-loop form metric length at₀ at = length - at
 
 pub print-flip-lines-spec : {M : Type 1} → statement M
 print-flip-lines-spec =

@@ -6,10 +6,10 @@ use Rattle.image_runs.proofs.print_flips.Statement.{statement}
 use Rattle.image_runs.proofs.print_flips.Tie as tie
 
 abbrev Inv-loop : tie.InvT-loop
-Inv-loop metric at bit₀ bit = bit ≤ 8
+Inv-loop form metric at bit₀ bit = bit ≤ 8
 
 abbrev μ-loop : tie.MeasureT-loop
-μ-loop metric at bit₀ bit = 8 - bit
+μ-loop form metric at bit₀ bit = 8 - bit
 
 pub print-flips-spec : {M : Type 1} → statement M
 print-flips-spec =

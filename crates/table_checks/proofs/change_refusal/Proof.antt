@@ -1,16 +1,17 @@
--- `table_checks::change_refusal` meets its contract: the frame, the work area, the sizes, and then the marks.
+-- `table_checks::change_refusal` meets its contract: the frame, the work area, the weights and sizes, and then the marks.
 use native.Mathlib.Omega.{arith}
-use Prim.Native.Nat.{ℕ}
 use borrow.Author.Tests.{not-true, not-false, lt-leb, le-leb}
 use mathlib.Core.Path.{_≡_, sym, _∙_, ap}
 use mathlib.Core.Bool.{true, false}
 use lib.Dec.{leb}
+use Rattle.lists.proofs.Tests.{and-second}
+use Rattle.metric_rules.specs.Distance.{validWeights}
 use Rattle.table_rules.specs.Geometry.{workRows}
-use Rattle.table_rules.specs.Table.{Table, orderOf, builtOf, liveOf}
-use Rattle.table_rules.specs.Checks.{sizesPass, frameRefusal, changeRefusal}
+use Rattle.table_rules.specs.Table.{orderOf, tableSpace}
+use Rattle.table_rules.specs.Checks.{frameRefusal, headerPasses, changeRefusal}
 use Rattle.table_rules.proofs.Chains.{stops-first}
 use Rattle.table_rules.proofs.Passing.{frame-rows, framed}
-use Rattle.table_checks.proofs.Framing.{sizes-asked, area-stops, header-stops, marks-decide}
+use Rattle.table_checks.proofs.Framing.{header-asked, area-stops, header-stops, marks-decide}
 use borrow.Author.Needs.{needs}
 use Rattle.table_checks.proofs.change_refusal.Statement.{statement}
 use Rattle.table_checks.proofs.change_refusal.Tie as tie
@@ -45,46 +46,40 @@ returns-2 c =
     let a = at .before .before .args in
     sym (area-stops (a .table .now) (stands at) (a .rows) (lt-leb (workRows (orderOf (a .table .now))) (a .rows) (omega (arith, work-known (c .before)))))
 
-sizes-pass-requires : tie.Need-sizes-pass-requires
-sizes-pass-requires c κs =
+header-passes-requires : tie.Need-header-passes-requires
+header-passes-requires c κs =
     let at = c .before .before .before in
-    sizes-asked (at .before .before .args .table .now) (stands at) (c .before .before .order-in .result .t) (c .before .before .order-in .ensures)
+    header-asked (at .before .before .args .table .now) (stands at) (c .before .before .order-in .result .t) (c .before .before .order-in .ensures)
 
-abbrev table-of : tie.After-sizes-pass → Table
-table-of c = c .before .before .before .before .before .before .args .table .now
+header-tested : (c : tie.After-header-passes) → headerPasses (c .before .before .before .before .before .before .args .table .now) ≡ c .header-passes .result
+header-tested c = sym (c .header-passes .ensures)
 
-sizes-tested : (c : tie.After-sizes-pass) → let t = table-of c in sizesPass (orderOf t) (builtOf t) (liveOf t) ≡ c .sizes-pass .result
-sizes-tested c =
-    let t = table-of c in
-    ap (λ (o : ℕ). sizesPass o (builtOf t) (liveOf t)) (sym (c .before .before .before .order-in .ensures)) ∙ sym (c .sizes-pass .ensures)
-
-sizes-passed :
-    (c : tie.Else3) → let t = table-of (c .before) in sizesPass (orderOf t) (builtOf t) (liveOf t) ≡ true
-sizes-passed c = sizes-tested (c .before) ∙ not-false (c .before .sizes-pass .result) (c .if3 .left)
+header-passed : (c : tie.Else3) → headerPasses (c .before .before .before .before .before .before .before .args .table .now) ≡ true
+header-passed c = header-tested (c .before) ∙ not-false (c .before .header-passes .result) (c .if3 .left)
 
 returns-3 : tie.Need-returns-3
 returns-3 c =
     let at = c .before .before .before .before .before in
     let a = at .before .before .args in
-    sym (header-stops (a .table .now) (stands at) (a .rows) (room-known (c .before .before)) (sizes-tested (c .before) ∙ not-true (c .before .sizes-pass .result) (c .if3 .taken)))
+    sym (header-stops (a .table .now) (stands at) (a .rows) (room-known (c .before .before)) (header-tested (c .before) ∙ not-true (c .before .header-passes .result) (c .if3 .taken)))
 
 marks-pass-requires : tie.Need-marks-pass-requires
 marks-pass-requires c κs =
     let at = c .before .before .before .before .before in
-    (c .before .before .before .before .order-in .ensures, record { framed = framed (at .before .before .args .table .now) (stands at); sizes = sizes-passed c })
+    (c .before .before .before .before .order-in .ensures, record { framed = framed (at .before .before .args .table .now) (stands at); sizes = and-second (validWeights (tableSpace (at .before .before .args .table .now) .weights)) _ (header-passed c) })
 
 returns-4 : tie.Need-returns-4
 returns-4 c =
     let at = c .before .before .before .before .before .before .before in
     let a = at .before .before .args in
-    sym (marks-decide (a .table .now) (stands at) (a .rows) false (room-known (c .before .before .before .before)) (sizes-passed (c .before .before))
+    sym (marks-decide (a .table .now) (stands at) (a .rows) false (room-known (c .before .before .before .before)) (header-passed (c .before .before))
     (sym (c .before .marks-pass .ensures) ∙ not-true (c .before .marks-pass .result) (c .if4 .taken)))
 
 returns-5 : tie.Need-returns-5
 returns-5 c =
     let at = c .before .before .before .before .before .before .before in
     let a = at .before .before .args in
-    sym (marks-decide (a .table .now) (stands at) (a .rows) true (room-known (c .before .before .before .before)) (sizes-passed (c .before .before))
+    sym (marks-decide (a .table .now) (stands at) (a .rows) true (room-known (c .before .before .before .before)) (header-passed (c .before .before))
     (sym (c .before .marks-pass .ensures) ∙ not-false (c .before .marks-pass .result) (c .if4 .left)))
 
 pub change-refusal-spec : {M : Type 1} → statement M
@@ -96,7 +91,7 @@ change-refusal-spec =
     order-in-requires
     work-rows-requires
     returns-2
-    sizes-pass-requires
+    header-passes-requires
     returns-3
     marks-pass-requires
     returns-4

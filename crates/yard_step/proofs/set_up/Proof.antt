@@ -2,6 +2,7 @@
 use Prim.Native.Nat.{_≤_, _<_}
 use mathlib.Core.Path.{sym, _∙_}
 use native.Mathlib.Omega.{arith}
+use Rattle.metric_rules.specs.Distance.{weightsOne}
 use Rattle.yard_step.proofs.Opening.{large-refusal, large-table, small-refusal, small-table}
 use borrow.Author.Needs.{needs}
 use Rattle.yard_step.proofs.set_up.Statement.{statement}
@@ -14,6 +15,7 @@ returns c =
     (sym (large-refusal (a .order) (a .metric) (a .table .now) large), sym (large-table (a .order) (a .metric) (a .table .now) large))
 
 returns-2 : tie.Need-returns-2
+unfolding weightsOne
 returns-2 c =
     let a = c .before .before .before .before .args in
     let r = c .before .fresh .ensures in
