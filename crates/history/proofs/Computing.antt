@@ -1,7 +1,7 @@
 -- A call's outcome with every definition that it goes by opened, so that antt computes it. Proofs about the definitions open one at a time;
 -- the worked lines, which are runs, open them all, and this is the one place that lists them.
 use mathlib.Core.List.{flatten}
-use Rattle.lists.specs.Lists.{countFrom, total, select, every, alike, distinct, sameNumbers}
+use Rattle.lists.specs.Lists.{countFrom, total, last, select, every, alike, distinct, sameNumbers}
 use Rattle.metric_rules.specs.Row.{rowWidth, tagAt, measuresAt, codeAt, thresholdAt, markAt, zeroRow, word, wide, words, tagOf, profileOf, thresholdOf, markOf, isLive, measure, codeWord, rowOf, withThreshold, withMark}
 use Rattle.metric_rules.specs.Validity.{nationals, countryOf, nationalOf, lastCountry, lastNational, validTag, measureLimit, validMeasure, validMeasures}
 use Rattle.metric_rules.specs.Distance.{mostDistance, saturated, gap, weight, weighted, measureDistance, differing, codeDistance, largest, worstDistance, distanceBy, distance, metricAt, weightsAt, weightsOf, spaceOf, weightsOne, lastMetric, validMetric, mostWeight, validWeights}
@@ -35,7 +35,7 @@ pub record Performed (c : Call) : Type 0 where
 
 unfoldable pub performed : (c : Call) → Table → Areas c → Performed c
 unfolding
-    countFrom total select every flatten alike sameNumbers rowWidth tagAt measuresAt codeAt thresholdAt markAt zeroRow word wide words tagOf
+    countFrom total last select every flatten alike sameNumbers rowWidth tagAt measuresAt codeAt thresholdAt markAt zeroRow word wide words tagOf
     profileOf thresholdOf markOf measure codeWord rowOf withThreshold withMark nationals countryOf nationalOf lastCountry lastNational validTag
     measureLimit validMeasure validMeasures mostDistance saturated gap weight weighted measureDistance differing codeDistance largest worstDistance distanceBy distance
     metricAt weightsAt weightsOf spaceOf weightsOne lastMetric validMetric mostWeight validWeights keyLe insertBy sortBy leftSize costWithin cost rankedFrom tagKey placed fromPivot nearKey lastDistance

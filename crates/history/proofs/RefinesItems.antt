@@ -7,7 +7,7 @@ use lib.Dec.{eqb}
 use lib.ListN.{length, length-map}
 use borrow.Author.Tests.{eqb-true}
 use Rattle.lists.specs.Lists.{every, total, All}
-use Rattle.lists.proofs.Lists.{all-weaken, perm-length, perm-map}
+use Rattle.lists.proofs.Lists.{all-weaken, perm-length, perm-map, map-where}
 use Rattle.lists.proofs.Tests.{and-second, every-all}
 use Rattle.metric_rules.specs.declared.Profile.{Profile}
 use Rattle.metric_rules.specs.Row.{tagOf}
@@ -26,7 +26,7 @@ use Rattle.table_rules.specs.Search.{rangeAnswer, nearestAnswer}
 use Rattle.history.specs.Model.{Item, itemOf, Model, withTag, scanned, modelRange, modelNearest}
 use Rattle.history.specs.Represents.{itemsIn}
 use Rattle.history.proofs.Invariant.{Invariant}
-use Rattle.history.proofs.RefinesLists.{map-where, select-perm, select-map, select-once, perm-of-one}
+use Rattle.history.proofs.RefinesLists.{select-perm, select-map, select-once, perm-of-one}
 use Rattle.history.proofs.RefinesSearch.{within-permuted, entry-pairs}
 use Rattle.history.proofs.RefinesTable.{liveEntries, range-scans, nearest-scans}
 use Rattle.history.proofs.RefinesFinding.{tagged, rowFound, find-row}

@@ -112,10 +112,6 @@ module _ {A : Type 0} (test : A → Bool) where
       go false e = e
 
 -- functions that agree on a list's elements
-pub map-where : {A B : Type 0} (f g : A → B) (xs : List A) → All (λ x. f x ≡ g x) xs → map f xs ≡ map g xs
-map-where f g [] h = refl
-map-where f g (x ∷ xs) h = ap₂ _∷_ (h .0) (map-where f g xs (h .1))
-
 pub every-where : {A : Type 0} (f g : A → Bool) (xs : List A) → All (λ x. f x ≡ g x) xs → every f xs ≡ every g xs
 unfolding every
 every-where f g [] h = refl

@@ -8,6 +8,7 @@ use lib.Dec.{leb}
 use lib.ListN.{length, take}
 use native.Mathlib.Omega.{arith}
 use Rattle.lists.specs.Lists.{every, total, distinct, All}
+use Rattle.lists.proofs.Lists.{map-where}
 use Rattle.metric_rules.specs.Row.{Row, IsRow, tagOf}
 use Rattle.metric_rules.specs.declared.Space.{Space}
 use Rattle.metric_rules.specs.Distance.{distance, validSpace}
@@ -21,7 +22,7 @@ use Rattle.image_rules.specs.Load.{fieldsPass}
 use Rattle.history.specs.Model.{Model, itemOf}
 use Rattle.history.specs.Represents.{itemsIn}
 use Rattle.history.proofs.Invariant.{Invariant}
-use Rattle.history.proofs.RefinesLists.{map-where, every-where}
+use Rattle.history.proofs.RefinesLists.{every-where}
 use Rattle.history.proofs.InvariantForms.{invariant-roomy}
 use Rattle.image_rules.proofs.EachBucket.{buckets-all}
 use Rattle.history.proofs.RefinesItems.{Matches}

@@ -4,12 +4,12 @@ use native.Mathlib.Nat.{add-comm}
 use native.Mathlib.Numerals.{add-one}
 use native.Mathlib.Omega.{arith}
 use mathlib.Core.Path.{_≡_, refl, sym, _∙_, ap, ap₂, subst}
-use mathlib.Core.List.{List, [], _∷_, _++_, map, foldl, foldl-append, List·Permᴰ, Permᴰ·symm}
+use mathlib.Core.List.{List, [], _∷_, _++_, map, List·Permᴰ, Permᴰ·symm}
 use lib.ListN.{length, length-drop, getD, take, drop}
 use lib.Seq.{take-suc, getD-take, getD-drop}
 use borrow.Rule.Slice.PartMut.{putMid}
 use Rattle.lists.specs.Lists.{All}
-use Rattle.lists.proofs.Lists.{all-append, all-weaken, all-map, all-perm}
+use Rattle.lists.proofs.Lists.{all-append, all-weaken, all-map, all-perm, last-taken}
 use Rattle.metric_rules.specs.declared.Profile.{Profile}
 use Rattle.metric_rules.specs.Row.{Row}
 use Rattle.tree_rules.proofs.Parts.{part-rest, put-rest}
@@ -35,8 +35,7 @@ pub last-entry : (es : List Entry) (l : ℕ) → l < length es → (l ≡ 0 → 
 unfolding lastOf
 last-entry es zero h n = absurd (n refl)
 last-entry es (suc k) h n =
-    ap (foldl (λ m e. entryDistance e) 0) (take-suc (drop 1 es) k [] (omega (arith, length-drop 1 es)))
-    ∙ foldl-append (λ (m : ℕ) (e : Entry). entryDistance e) 0 (take k (drop 1 es)) (getD (drop 1 es) k [] ∷ [])
+    last-taken entryDistance 0 (drop 1 es) [] k (omega (arith, length-drop 1 es))
     ∙ ap entryDistance (getD-drop 1 es k [] ∙ ap (λ (i : ℕ). getD es i []) (add-comm 1 k ∙ add-one k))
 
 module _ (slot : ℕ → Row) (dist : Profile → Profile → ℕ) (n : ℕ) where

@@ -5,12 +5,12 @@ use native.Mathlib.Omega.{arith}
 use mathlib.Core.Path.{_≡_, refl, sym, _∙_, ap, ap₂, subst}
 use mathlib.Core.Logic.{⊎-elim}
 use mathlib.Core.Bool.{Bool, true, false}
-use mathlib.Core.List.{List, [], _∷_, _++_, map, foldl, map-map, List·Permᴰ, Permᴰ·symm}
+use mathlib.Core.List.{List, [], _∷_, _++_, map, map-map, List·Permᴰ, Permᴰ·symm}
 use lib.Dec.{leb, ltb, eqb}
 use lib.ListN.{length, length-map, getD, take, drop}
 use borrow.Author.Tests.{ltb-true, ltb-false, leb-true, le-leb}
-use Rattle.lists.specs.Lists.{All}
-use Rattle.lists.proofs.Lists.{Pairs, all-always, all-weaken, all-both, all-map, all-perm, all-take, pairs-map, pairs-of-all, perm-map, map-take, map-drop, map-alike}
+use Rattle.lists.specs.Lists.{last, All}
+use Rattle.lists.proofs.Lists.{Pairs, all-always, all-weaken, all-both, all-map, all-perm, all-take, pairs-map, pairs-of-all, perm-map, map-take, map-drop, map-alike, map-where}
 use Rattle.lists.proofs.Tests.{pass-alike}
 use Rattle.metric_rules.specs.declared.Profile.{Profile}
 use Rattle.metric_rules.specs.Row.{Row, profileOf}
@@ -137,14 +137,10 @@ module _ (slot : ℕ → Row) where
           (es : List Entry) → All (λ e. entryDistance e ≡ fromPivot dist (rankedIn slot v) (rankedIn slot e)) es
           → lastDistance dist (rankedIn slot v) (map (rankedIn slot) es) ≡ lastOf es
       unfolding lastDistance lastOf
-      last-measured = from 0
-        where
-          from :
-              (m : ℕ) (es : List Entry) → All (λ e. entryDistance e ≡ fromPivot dist (rankedIn slot v) (rankedIn slot e)) es
-              → foldl (λ k x. fromPivot dist (rankedIn slot v) x) m (map (rankedIn slot) es) ≡ foldl (λ k e. entryDistance e) m es
-          from m [] h = refl
-          from m (e ∷ es) h =
-              ap (λ (k : ℕ). foldl (λ j x. fromPivot dist (rankedIn slot v) x) k (map (rankedIn slot) es)) (sym (h .0)) ∙ from (entryDistance e) es (h .1)
+      last-measured es h =
+          ap (last 0)
+          (map-map (fromPivot dist (rankedIn slot v)) (rankedIn slot) es
+          ∙ sym (map-where entryDistance (λ e. fromPivot dist (rankedIn slot v) (rankedIn slot e)) es h))
 
       split-measured :
           (near : List Entry) → All (λ e. entryDistance e ≡ fromPivot dist (rankedIn slot v) (rankedIn slot e)) near

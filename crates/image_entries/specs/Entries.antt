@@ -2,9 +2,9 @@
 -- a distance. Sorted as entries are, they stand by distance, tag and place. A row is read by the place when it is asked for.
 use Prim.Native.Nat.{ℕ, suc, _+_, _*_, _/_, _%_, _^_, _<_}
 use mathlib.Core.Path.{_≡_}
-use mathlib.Core.List.{List, [], _∷_, _++_, map, foldl}
+use mathlib.Core.List.{List, [], _∷_, _++_, map}
 use lib.ListN.{length, take, drop, getD}
-use Rattle.lists.specs.Lists.{countFrom, sameNumbers}
+use Rattle.lists.specs.Lists.{countFrom, last, sameNumbers}
 use Rattle.metric_rules.specs.declared.Profile.{Profile}
 use Rattle.metric_rules.specs.Row.{Row, tagOf, profileOf, withMark}
 use Rattle.tree_rules.specs.Layout.{leftSize, Ranked, placed, layoutWithin}
@@ -31,7 +31,7 @@ Fresh e = Pair e × (entryDistance e ≡ 0)
 
 -- the distance of the last of some entries, or 0 where there is none
 unfoldable pub lastOf : List Entry → ℕ
-lastOf es = foldl (λ m e. entryDistance e) 0 es
+lastOf es = last 0 (map entryDistance es)
 
 module _ (slot : ℕ → Row) where
   -- an entry of one of n slots

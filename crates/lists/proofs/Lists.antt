@@ -5,7 +5,7 @@ use native.Mathlib.Omega.{arith}
 use mathlib.Core.Path.{_≡_, refl, _∙_, ap, ap₂, subst}
 use mathlib.Core.List.{List, [], _∷_, _++_, map, List·Permᴰ, List·Permᴰ·nil, List·Permᴰ·cons, List·Permᴰ·swap, List·Permᴰ·trans, Permᴰ·refl, Permᴰ·append-left, Permᴰ·append-right}
 use lib.ListN.{length, take, drop, getD}
-use Rattle.lists.specs.Lists.{All}
+use Rattle.lists.specs.Lists.{last, All}
 
 module _ {A : Type 0} where
   -- R holds of every element and each element after it
@@ -148,9 +148,25 @@ module _ {A B : Type 0} (f : A → B) where
   pairs-of-map R [] h = tt
   pairs-of-map R (x ∷ xs) h = (all-of-map (R (f x)) xs (h .0), pairs-of-map R xs (h .1))
 
+pub map-where : {A B : Type 0} (f g : A → B) (xs : List A) → All (λ x. f x ≡ g x) xs → map f xs ≡ map g xs
+map-where f g [] h = refl
+map-where f g (x ∷ xs) h = ap₂ _∷_ (h .0) (map-where f g xs (h .1))
+
 pub map-alike : {A B : Type 0} {f g : A → B} → ((x : A) → f x ≡ g x) → (xs : List A) → map f xs ≡ map g xs
-map-alike h [] = refl
-map-alike h (x ∷ xs) = ap₂ _∷_ (h x) (map-alike h xs)
+map-alike {f = f} {g = g} h xs = map-where f g xs (all-always h xs)
+
+-- what holds of z and of all elements holds of the last
+pub last-all : {A : Type 0} (P : A → Type 0) (z : A) (xs : List A) → P z → All P xs → P (last z xs)
+unfolding last
+last-all P z [] h a = h
+last-all P z (x ∷ xs) h a = last-all P x xs (a .0) (a .1)
+
+-- the last value of the first k + 1 elements is that of element k
+pub last-taken : {A B : Type 0} (f : A → B) (z : B) (xs : List A) (d : A) (k : ℕ) → k < length xs → last z (map f (take (suc k) xs)) ≡ f (getD xs k d)
+unfolding last
+last-taken f z [] d k h = absurd (omega arith)
+last-taken f z (x ∷ xs) d zero h = refl
+last-taken f z (x ∷ xs) d (suc k) h = last-taken f (f x) xs d k (omega arith)
 
 pub all-swap : {A B : Type 0} (R : A → B → Type 0) (xs : List A) (ys : List B) → All (λ x. All (R x) ys) xs → All (λ y. All (λ x. R x y) xs) ys
 all-swap R [] ys h = all-always (λ y. tt) ys

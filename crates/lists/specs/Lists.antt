@@ -14,6 +14,11 @@ total [] = 0
 total (n ∷ ns) = n + total ns
 
 module _ {A : Type 0} where
+  -- the last element, or z where there is none
+  unfoldable pub last : A → List A → A
+  last z [] = z
+  last z (x ∷ xs) = last x xs
+
   -- the elements that pass a test, in their order
   unfoldable pub select : (A → Bool) → List A → List A
   select test [] = []

@@ -3,11 +3,11 @@
 use Prim.Native.Nat.{ℕ, zero, suc, _≤_, _<_, min}
 use mathlib.Core.Path.{_≡_, refl, sym, ap, _∙_}
 use mathlib.Core.Bool.{Bool, true, false}
-use mathlib.Core.List.{List, [], _∷_, _++_, foldl, List·Permᴰ, List·Permᴰ·trans, Permᴰ·middle}
+use mathlib.Core.List.{List, [], _∷_, _++_, map, List·Permᴰ, List·Permᴰ·trans, Permᴰ·middle}
 use lib.ListN.{length, take, length-take}
 use lib.Seq.{take-take, take-all, take-at}
 use native.Mathlib.Omega.{arith}
-use Rattle.lists.specs.Lists.{All}
+use Rattle.lists.specs.Lists.{last, All}
 use Rattle.lists.proofs.Lists.{all-weaken, all-always, all-append, all-take, all-perm, pairs-of-all, pairs-take}
 use Rattle.tree_rules.specs.Sorting.{keyLe, insertBy, sortBy}
 use Rattle.search_rules.specs.Range.{Entry, entryDistance, entryKey, ordered, Pair}
@@ -96,7 +96,8 @@ farther-after x y h = go (keyLe (entryKey x) (entryKey y)) refl
 
 -- no entry of a list in order is farther than its last
 worst-from : (d : ℕ) (es : List Entry) → Sorted entryKey es → All (λ e. d ≤ entryDistance e) es
-    → (d ≤ foldl (λ n e. entryDistance e) d es) × All (λ e. entryDistance e ≤ foldl (λ n x. entryDistance x) d es) es
+    → (d ≤ last d (map entryDistance es)) × All (λ e. entryDistance e ≤ last d (map entryDistance es)) es
+unfolding last
 worst-from d [] s h = (omega arith, tt)
 worst-from d (e ∷ es) s h =
     let r = worst-from (entryDistance e) es (s .1) (all-weaken (λ z. not-after-distance e z) es (s .0)) in

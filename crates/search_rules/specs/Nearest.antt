@@ -1,9 +1,10 @@
 -- RULES 11, nearest: the visit of one tree's slots with the k best so far passed through every step.
 use Prim.Native.Nat.{ℕ, zero, suc}
 use mathlib.Core.Bool.{Bool, true, false, _||_}
-use mathlib.Core.List.{List, [], _∷_, foldl}
+use mathlib.Core.List.{List, [], _∷_, map}
 use lib.ListN.{length, take, drop}
 use lib.Dec.{leb, ltb}
+use Rattle.lists.specs.Lists.{last}
 use Rattle.metric_rules.specs.declared.Profile.{Profile}
 use Rattle.metric_rules.specs.Row.{Row, thresholdOf}
 use Rattle.tree_rules.specs.Layout.{leftSize}
@@ -19,10 +20,10 @@ pub record Tally : Type 0 where
   pub kept : List Entry
   pub count : ℕ
 
--- RULES 11.7: the distance of the worst entry kept
+-- RULES 11.7: the distance of the worst entry kept, the last in their order
 unfoldable pub worst : List Entry → ℕ
-unfolding entryDistance
-worst kept = foldl (λ d e. entryDistance e) 0 kept
+unfolding last entryDistance
+worst kept = last 0 (map entryDistance kept)
 
 -- RULES 11.7: with fewer than k items found both tests pass; after that r is the worst distance kept. `enters` is a side's test
 unfoldable pub opens : ℕ → (ℕ → Bool) → List Entry → Bool

@@ -5,11 +5,11 @@ use native.Mathlib.Nat.{add-comm}
 use native.Mathlib.Numerals.{add-one}
 use native.Mathlib.Omega.{arith}
 use mathlib.Core.Path.{_≡_, refl, sym, _∙_, ap, ap₂, subst}
-use mathlib.Core.List.{List, [], _∷_, _++_, map, foldl, foldl-append, map-map, List·Permᴰ, Permᴰ·symm}
+use mathlib.Core.List.{List, [], _∷_, _++_, map, map-map, List·Permᴰ, Permᴰ·symm}
 use lib.ListN.{length, length-map, length-drop, length-set, getD, take, drop}
 use lib.Seq.{take-suc, getD-drop}
-use Rattle.lists.specs.Lists.{All}
-use Rattle.lists.proofs.Lists.{Pairs, all-append, all-always, all-weaken, all-perm, all-take, all-map, pairs-weaken, pairs-perm, pairs-map, perm-map, map-take, map-drop, map-alike}
+use Rattle.lists.specs.Lists.{last, All}
+use Rattle.lists.proofs.Lists.{Pairs, all-append, all-always, all-weaken, all-perm, all-take, all-map, pairs-weaken, pairs-perm, pairs-map, perm-map, map-take, map-drop, map-alike, map-where, last-taken}
 use Rattle.metric_rules.specs.declared.Profile.{Profile}
 use Rattle.metric_rules.specs.Row.{Row, rowWidth, thresholdAt, markAt, thresholdOf, markOf, withThreshold, withMark}
 use Rattle.metric_rules.proofs.Codec.{threshold-with-threshold, tag-with-threshold, mark-with-threshold, mark-with-mark}
@@ -149,15 +149,11 @@ module _ (dist : Profile → Profile → ℕ) where
 
     last-measured : (rs : List Row) → Whole rs → lastDistance dist (rankedOf v) (map rankedOf rs) ≡ lastMeasured (map (measuredFrom dist v) rs)
     unfolding lastDistance lastMeasured
-    last-measured = from 0
-      where
-        from :
-            (m : ℕ) (rs : List Row) → Whole rs
-            → foldl (λ k x. fromPivot dist (rankedOf v) x) m (map rankedOf rs) ≡ foldl (λ k r. thresholdOf r) m (map (measuredFrom dist v) rs)
-        from m [] w = refl
-        from m (r ∷ rs) w =
-            from (fromPivot dist (rankedOf v) (rankedOf r)) rs (w .1)
-            ∙ ap (λ (k : ℕ). foldl (λ j s. thresholdOf s) k (map (measuredFrom dist v) rs)) (sym (written r (w .0)))
+    last-measured rs w =
+        ap (last 0)
+        (map-map (fromPivot dist (rankedOf v)) rankedOf rs
+        ∙ sym (map-map thresholdOf (measuredFrom dist v) rs
+        ∙ map-where (λ r. thresholdOf (measuredFrom dist v r)) (λ r. fromPivot dist (rankedOf v) (rankedOf r)) rs (all-weaken written rs w)))
 
     -- v over its rest in order, which is measured from v
     split-measured :
@@ -254,8 +250,7 @@ pub last-row : (rows : List Row) (l : ℕ) → l < length rows → (l ≡ 0 → 
 unfolding lastMeasured
 last-row rows zero h n = absurd (n refl)
 last-row rows (suc k) h n =
-    ap (foldl (λ m r. thresholdOf r) 0) (take-suc (drop 1 rows) k [] (omega (arith, length-drop 1 rows)))
-    ∙ foldl-append (λ (m : ℕ) (r : Row). thresholdOf r) 0 (take k (drop 1 rows)) (getD (drop 1 rows) k [] ∷ [])
+    last-taken thresholdOf 0 (drop 1 rows) [] k (omega (arith, length-drop 1 rows))
     ∙ ap thresholdOf (getD-drop 1 rows k [] ∙ ap (λ (i : ℕ). getD rows i []) (add-comm 1 k ∙ add-one k))
 
 pub ranks-written-whole : (n : ℕ) (rows : List Row) → Whole rows → Whole (ranksWritten n rows)

@@ -1,15 +1,17 @@
 -- The bound tells how many entries are kept, and the entries kept tell the bound: each is worked out from the other.
 -- The bound is at 2^32 or above just while fewer than k are kept, as no distance is so far.
-use Prim.Native.Nat.{ℕ, _+_, _-_, _≤_, _<_, _^_}
-use mathlib.Core.Path.{_≡_, refl, sym, ap, ap₂, _∙_}
+use Prim.Native.Nat.{ℕ, suc, _+_, _-_, _≤_, _<_, _^_}
+use mathlib.Core.Path.{_≡_, sym, ap, ap₂, _∙_}
 use mathlib.Core.Bool.{Bool, true, false, _||_, or-true}
-use mathlib.Core.List.{List, [], _∷_, _++_, foldl}
+use mathlib.Core.List.{List, [], _++_, map}
 use lib.ListN.{length, getD, length-take, take-append-drop, drop}
+use lib.Seq.{take-all}
 use lib.Dec.{leb, ltb}
 use borrow.Author.Tests.{lt-ltb, le-ltb, le-leb, lt-leb}
 use native.Mathlib.Decide.{decLe}
 use native.Mathlib.Omega.{arith}
-use Rattle.lists.specs.Lists.{All}
+use Rattle.lists.specs.Lists.{last, All}
+use Rattle.lists.proofs.Lists.{all-map, last-all, last-taken}
 use Rattle.search_rules.specs.Range.{Entry, entryDistance, entersLeft}
 use Rattle.search_rules.specs.Nearest.{worst, opens}
 use Rattle.tree_nearest.specs.Nearby.{boundOf, keptUnder, keptOf, Held, inFront}
@@ -18,25 +20,16 @@ use Rattle.tree_nearest.specs.Nearby.{boundOf, keptUnder, keptOf, Held, 
 abbrev pub Near : List Entry → Type 0
 Near es = All (λ e. entryDistance e < 2 ^ 32) es
 
-last-from : (d : ℕ) (e : Entry) (es : List Entry) → foldl (λ n x. entryDistance x) d (e ∷ es) ≡ entryDistance (getD (e ∷ es) (length es) [])
-last-from d e [] = refl
-last-from d e (x ∷ es) = last-from (entryDistance e) x es
-
 -- the worst distance kept is the last entry's
 pub worst-last : (es : List Entry) → 0 < length es → worst es ≡ entryDistance (getD es (length es - 1) [])
 unfolding worst
-worst-last [] h = absurd (omega arith)
-worst-last (e ∷ es) h =
-    let n : length es ≡ length (e ∷ es) - 1 = omega arith in
-    last-from 0 e es ∙ ap (λ (i : ℕ). entryDistance (getD (e ∷ es) i [])) n
-
-near-from : (d : ℕ) (es : List Entry) → d < 2 ^ 32 → Near es → foldl (λ n x. entryDistance x) d es < 2 ^ 32
-near-from d [] h n = h
-near-from d (e ∷ es) h n = near-from (entryDistance e) es (n .0) (n .1)
+worst-last es h =
+    ap (λ (l : List Entry). last 0 (map entryDistance l)) (sym (take-all (suc (length es - 1)) es (omega arith)))
+    ∙ last-taken entryDistance 0 es [] (length es - 1) (omega arith)
 
 worst-near : (es : List Entry) → Near es → worst es < 2 ^ 32
 unfolding worst
-worst-near es n = near-from 0 es (omega arith) n
+worst-near es n = last-all (λ d. d < 2 ^ 32) 0 (map entryDistance es) (omega arith) (all-map entryDistance (λ d. d < 2 ^ 32) es n)
 
 module _ (k : ℕ) where
   pub bound-below : (es : List Entry) → length es < k → boundOf k es ≡ 2 ^ 32 + length es

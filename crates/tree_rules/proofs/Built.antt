@@ -3,9 +3,9 @@
 use Prim.Native.Nat.{ℕ, _^_, _<_}
 use native.Mathlib.Omega.{arith}
 use mathlib.Core.Path.{_≡_, sym, subst}
-use mathlib.Core.List.{List, [], _∷_, foldl, Permᴰ·symm}
+use mathlib.Core.List.{List, [], _∷_, map, Permᴰ·symm}
 use Rattle.lists.specs.Lists.{All}
-use Rattle.lists.proofs.Lists.{all-append, all-append-left, all-append-right, all-perm}
+use Rattle.lists.proofs.Lists.{all-always, all-append, all-append-left, all-append-right, all-perm, all-map, last-all}
 use Rattle.metric_rules.specs.declared.Profile.{Profile}
 use Rattle.metric_rules.specs.Row.{Row, IsRow, markOf, withThreshold}
 use Rattle.metric_rules.proofs.Codec.{mark-with-mark, with-mark-fits, with-threshold-fits}
@@ -26,11 +26,7 @@ placed-fresh m row h r =
 module _ (dist : Profile → Profile → ℕ) (fits : (p q : Profile) → dist p q < 2 ^ 32) where
   last-fits : (v : Ranked) (xs : List Ranked) → lastDistance dist v xs < 2 ^ 32
   unfolding lastDistance fromPivot
-  last-fits v xs = from 0 (omega arith) xs
-    where
-      from : (m : ℕ) → m < 2 ^ 32 → (ys : List Ranked) → foldl (λ k x. fromPivot dist v x) m ys < 2 ^ 32
-      from m h [] = h
-      from m h (x ∷ ys) = from (fromPivot dist v x) (fits _ _) ys
+  last-fits v xs = last-all (λ m. m < 2 ^ 32) 0 (map (fromPivot dist v) xs) (omega arith) (all-map (fromPivot dist v) (λ m. m < 2 ^ 32) xs (all-always (λ x. fits _ _) xs))
 
   layout-of-fresh : (xs : List Ranked) → All (λ x. IsRow (x .row)) xs → All Fresh (layoutOf dist xs)
   layout-of-fresh =

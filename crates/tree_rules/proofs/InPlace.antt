@@ -5,11 +5,11 @@ use native.Mathlib.Omega.{arith}
 use mathlib.Core.Path.{_≡_, refl, sym, _∙_, ap, ap₂, subst}
 use mathlib.Core.Logic.{⊎-elim}
 use mathlib.Core.Bool.{Bool, true, _&&_}
-use mathlib.Core.List.{List, [], _∷_, _++_, map, foldl, map-append, map-map, Permᴰ·symm}
+use mathlib.Core.List.{List, [], _∷_, _++_, map, map-append, map-map, Permᴰ·symm}
 use lib.Dec.{leb, eqb}
 use lib.ListN.{length, length-map, getD, take, drop, length-take, length-drop, take-append-drop}
 use borrow.Author.Tests.{leb-true, le-leb, eqb-true, eq-eqb}
-use Rattle.lists.specs.Lists.{every, All}
+use Rattle.lists.specs.Lists.{last, every, All}
 use Rattle.lists.proofs.Lists.{Pairs, all-weaken, all-always, all-both, all-append, all-append-left, all-append-right, all-perm, all-map, all-of-map, all-swap, pairs-split, pairs-take, pairs-drop, pairs-weaken, pairs-map, pairs-left, pairs-right, pairs-of-map, pairs-perm, map-take, map-drop, map-alike, perm-map}
 use Rattle.lists.proofs.Tests.{and-first, and-second, and-pass, every-all, all-every, every-map, same-rows, rows-same}
 use Rattle.metric_rules.specs.declared.Profile.{Profile}
@@ -238,8 +238,8 @@ module _ (dist : Profile → Profile → ℕ) where
 
     last-from :
         (s : List ℕ) (xs : List Ranked) → All (λ x. keyLe s (rowKey x) ≡ true) xs → Sorted (nearKey dist v) xs
-        → foldl (λ m x. fromPivot dist v x) (getD s 0 0) xs ≡ getD (lastOf s (map rowKey xs)) 0 0
-    unfolding rowKey slotKey fromPivot
+        → last (getD s 0 0) (map (fromPivot dist v) xs) ≡ getD (lastOf s (map rowKey xs)) 0 0
+    unfolding last rowKey slotKey fromPivot
     last-from s [] a o = refl
     last-from s (x ∷ xs) a o =
         last-from (rowKey x) xs (all-weaken (λ y. near-row x y) xs (o .0)) (o .1)

@@ -3,11 +3,11 @@
 use Prim.Native.Nat.{ℕ, zero, suc, _+_, _-_, _≤_, _<_}
 use native.Mathlib.Omega.{arith}
 use mathlib.Core.Path.{_≡_, refl, sym, _∙_, ap, ap₂, subst}
-use mathlib.Core.List.{List, [], _∷_, _++_, map, foldl, map-append, List·Permᴰ, List·Permᴰ·nil, List·Permᴰ·cons, List·Permᴰ·trans, Permᴰ·symm}
+use mathlib.Core.List.{List, [], _∷_, _++_, map, map-append, map-map, List·Permᴰ, List·Permᴰ·nil, List·Permᴰ·cons, List·Permᴰ·trans, Permᴰ·symm}
 use lib.ListN.{length, length-map, getD, take, drop, length-take, length-drop, length-append, take-append-drop}
 use lib.Seq.{take-at, drop-at}
-use Rattle.lists.specs.Lists.{All}
-use Rattle.lists.proofs.Lists.{Pairs, all-always, all-perm, all-map, all-of-map, pairs-weaken, perm-length, perm-of-eq, perm-both, perm-map, map-take, map-drop}
+use Rattle.lists.specs.Lists.{last, All}
+use Rattle.lists.proofs.Lists.{Pairs, all-always, all-perm, all-map, all-of-map, pairs-weaken, perm-length, perm-of-eq, perm-both, perm-map, map-take, map-drop, map-alike}
 use Rattle.metric_rules.specs.declared.Profile.{Profile}
 use Rattle.metric_rules.specs.Row.{Row, tagOf}
 use Rattle.tree_rules.specs.Sorting.{sortBy}
@@ -198,13 +198,7 @@ module _ (dist : Profile → Profile → ℕ) where
 
     last-strips : (xs : List Ranked) → lastDistance dist (stripped v) (map stripped xs) ≡ lastDistance dist v xs
     unfolding lastDistance
-    last-strips = from 0
-      where
-        from :
-            (m : ℕ) (xs : List Ranked)
-            → foldl (λ k x. fromPivot dist (stripped v) x) m (map stripped xs) ≡ foldl (λ k x. fromPivot dist v x) m xs
-        from m [] = refl
-        from m (x ∷ xs) = ap (λ (k : ℕ). foldl (λ j y. fromPivot dist (stripped v) y) k (map stripped xs)) (pivot-strips x) ∙ from (fromPivot dist v x) xs
+    last-strips xs = ap (last 0) (map-map (fromPivot dist (stripped v)) stripped xs ∙ map-alike pivot-strips xs)
 
     split-strips :
         (below : List Ranked → List Row) → ((ys : List Ranked) → below (map stripped ys) ≡ below ys) → (near : List Ranked)

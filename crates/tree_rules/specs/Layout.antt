@@ -1,10 +1,10 @@
 -- RULES 6: how a tree of n items fills its slots, and how many distances its build works out.
 use Prim.Native.Nat.{ℕ, zero, suc, _+_, _-_, _/_}
 use mathlib.Core.Bool.{Bool, true, false}
-use mathlib.Core.List.{List, [], _∷_, _++_, map, foldl}
+use mathlib.Core.List.{List, [], _∷_, _++_, map}
 use lib.ListN.{length, take, drop}
 use lib.Dec.{leb}
-use Rattle.lists.specs.Lists.{alike, sameNumbers}
+use Rattle.lists.specs.Lists.{last, alike, sameNumbers}
 use Rattle.metric_rules.specs.declared.Profile.{Profile}
 use Rattle.metric_rules.specs.Row.{Row, tagOf, profileOf, withThreshold, withMark}
 use Rattle.tree_rules.specs.Sorting.{sortBy}
@@ -56,8 +56,8 @@ module _ (dist : Profile → Profile → ℕ) where
 
   -- RULES 6.3: the distance of the last of the left half, or 0 where that half is empty
   unfoldable pub lastDistance : Ranked → List Ranked → ℕ
-  unfolding fromPivot
-  lastDistance v left = foldl (λ m x. fromPivot v x) 0 left
+  unfolding last fromPivot
+  lastDistance v left = last 0 (map (fromPivot v) left)
 
   -- RULES 6.4: a first slot v with its rest in order, the halves laid out by `below`
   unfoldable pub split : (List Ranked → List Row) → Ranked → List Ranked → List Row

@@ -1,7 +1,7 @@
 -- A conversation with every definition that it goes by opened, so that antt computes it; the one place that lists them.
 use Prim.Native.Nat.{ℕ}
 use mathlib.Core.List.{List, flatten}
-use Rattle.lists.specs.Lists.{countFrom, total, select, every}
+use Rattle.lists.specs.Lists.{countFrom, total, last, select, every}
 use Rattle.metric_rules.specs.Row.{rowWidth, tagAt, measuresAt, codeAt, thresholdAt, markAt, zeroRow, word, wide, words, tagOf, profileOf, thresholdOf, markOf, isLive, measure, codeWord, rowOf, withThreshold, withMark}
 use Rattle.metric_rules.specs.Validity.{nationals, countryOf, nationalOf, lastCountry, lastNational, validTag, measureLimit, validMeasure, validMeasures}
 use Rattle.metric_rules.specs.Distance.{mostDistance, saturated, gap, weight, weighted, measureDistance, differing, codeDistance, largest, worstDistance, distanceBy, distance, metricAt, weightsAt, weightsOf, spaceOf, weightsOne, lastMetric, validMetric, mostWeight, validWeights}
@@ -26,7 +26,7 @@ use Rattle.yard_rules.specs.Conversation.{otherText, mostYardOrder, head
 
 unfoldable pub computed : Areas → List ℕ → List ℕ
 unfolding
-    flatten countFrom total select every rowWidth tagAt measuresAt codeAt thresholdAt markAt zeroRow word wide words tagOf profileOf thresholdOf
+    flatten countFrom total last select every rowWidth tagAt measuresAt codeAt thresholdAt markAt zeroRow word wide words tagOf profileOf thresholdOf
     markOf measure codeWord rowOf withThreshold withMark nationals countryOf nationalOf lastCountry lastNational validTag measureLimit
     validMeasure validMeasures mostDistance saturated gap weight weighted measureDistance differing codeDistance largest worstDistance distanceBy distance metricAt weightsAt weightsOf spaceOf
     weightsOne lastMetric validMetric mostWeight validWeights keyLe insertBy sortBy leftSize costWithin cost rankedFrom tagKey placed fromPivot nearKey lastDistance split node

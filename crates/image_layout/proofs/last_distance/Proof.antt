@@ -3,6 +3,7 @@ use borrow.Author.Needs.{needs}
 use mathlib.Core.Path.{sym, ap}
 use Prim.Native.Nat.{ℕ}
 use lib.ListN.{take, drop}
+use Rattle.lists.specs.Lists.{last}
 use Rattle.search_rules.specs.Range.{entryDistance}
 use Rattle.image_entries.specs.Entries.{lastOf}
 use Rattle.image_entries.proofs.Arranging.{last-entry}
@@ -10,7 +11,7 @@ use Rattle.image_layout.proofs.last_distance.Statement.{statement}
 use Rattle.image_layout.proofs.last_distance.Tie as tie
 
 returns : tie.Need-returns
-unfolding lastOf
+unfolding lastOf last
 returns c = ap (λ (l : ℕ). lastOf (take l (drop 1 (c .before .args .entries .now)))) (sym (c .if1 .taken))
 
 returns-2 : tie.Need-returns-2

@@ -1,7 +1,7 @@
 -- `image_load::sizes_refusal` meets its contract: each test in its order.
-use Prim.Native.Nat.{ℕ, _+_, _≤_}
+use Prim.Native.Nat.{ℕ, _+_}
 use mathlib.Core.Path.{_≡_, refl, sym, ap, ap₂, _∙_}
-use mathlib.Core.Bool.{Bool, true}
+use mathlib.Core.Bool.{true}
 use mathlib.Core.List.{List}
 use native.Mathlib.Omega.{arith}
 use borrow.Author.Needs.{needs}
@@ -12,7 +12,6 @@ use Rattle.table_rules.specs.Geometry.{tableRows}
 use Rattle.table_rules.specs.Checks.{sizesPass}
 use Rattle.image_rules.specs.Bytes.{sizesEnd, imageLength}
 use Rattle.image_rules.specs.Read.{formIn, orderIn, builtIn, liveIn, slotsIn}
-use Rattle.image_form.specs.declared.Form.{Form}
 use Rattle.image_read.specs.InImage.{HasSizes}
 use Rattle.image_read.proofs.Places.{slots-few}
 use Rattle.image_load.specs.Steps.{sizesBy, sizesRefusal}

@@ -1,10 +1,7 @@
 -- The buckets one by one, and then the live tags of all slots, in the same array.
 use borrow.Author.Tests.{not-true, not-false}
-use native.Mathlib.Omega.{arith}
-use Prim.Native.Nat.{ℕ}
 use mathlib.Core.Path.{_≡_, refl, sym, ap, _∙_}
 use mathlib.Core.Bool.{Bool}
-use mathlib.Core.List.{List}
 use Rattle.metric_rules.specs.Distance.{spaceOf}
 use Rattle.image_entries.specs.Faults.{noFault, faultUnless}
 use Rattle.image_entries.specs.Entries.{places}

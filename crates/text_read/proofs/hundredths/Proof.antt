@@ -1,5 +1,5 @@
 -- `text_read::hundredths` meets its contract: both parts are numbers of their digits, and seven digits fit.
-use Prim.Native.Nat.{_-_, _^_, _<_}
+use Prim.Native.Nat.{_^_, _<_}
 use mathlib.Core.Path.{sym}
 use native.Mathlib.Omega.{arith}
 use lib.Seq.{length-take-le}
