@@ -1,6 +1,6 @@
-/* Adds a small herd, asks both questions, once more where kilos weigh more, removes one, saves and loads an image, and
- * reads a list of two more. It writes what the Rust example rust/vpindex/examples/herd.rs writes; herd.expected has it.
- */
+/* Adds a small herd, asks both questions, once more of those weighed of late and once where kilos weigh more, removes
+ * one, saves and loads an image, and reads a list of two more. It writes what the Rust example
+ * rust/vpindex/examples/herd.rs writes; herd.expected has it. */
 #include <inttypes.h>
 #include <stdio.h>
 
@@ -9,16 +9,19 @@
 #define ORDER 3
 #define ITEMS 6
 
-/* national number; weight, hip height, girth and daily gain, in hundredths */
+/* national number; weight, hip height, girth and daily gain, in hundredths; the day of the year */
 static const struct {
     uint64_t national;
     int32_t measures[4];
+    uint16_t day;
 } items[ITEMS] = {
-    {101, {41250, 12900, 18500, 95}},  {102, {39800, 12700, 18100, 90}},  {103, {55600, 13800, 20700, 120}},
-    {104, {40900, 12850, 18450, 102}}, {105, {56100, 13750, 20900, 118}}, {106, {28300, 11400, 15600, 88}},
+    {101, {41250, 12900, 18500, 95}, 305},  {102, {39800, 12700, 18100, 90}, 305},
+    {103, {55600, 13800, 20700, 120}, 291}, {104, {40900, 12850, 18450, 102}, 212},
+    {105, {56100, 13750, 20900, 118}, 305}, {106, {28300, 11400, 15600, 88}, 298},
 };
 
-/* the second is in the table already */
+/* of day 306; the second is in the table already */
+#define LIST_DAY 306
 static const char list[] = VPINDEX_LIST_HEADER
     "036000000000107;402,50;128,00;183,00;-0,35\n"
     "036000000000101;412,50;129,00;185,00;0,95\n";
@@ -36,7 +39,8 @@ static vpindex_added add_item(uint32_t (*to)[VPINDEX_ROW_WORDS], size_t i) {
         profile.measures[j] = items[i].measures[j];
     }
     uint64_t tag = VPINDEX_TAG(36, items[i].national);
-    return vpindex_add(to, VPINDEX_TABLE_ROWS(ORDER), work, VPINDEX_WORK_ROWS(ORDER), tag, profile);
+    return vpindex_add(to, VPINDEX_TABLE_ROWS(ORDER), work, VPINDEX_WORK_ROWS(ORDER), tag, profile,
+                       items[i].day);
 }
 
 static uint32_t add_items(void) {
@@ -81,12 +85,19 @@ static void remove_twice(uint64_t national) {
 
 static void read_more(void) {
     vpindex_list_read read = vpindex_read_list(loaded, VPINDEX_TABLE_ROWS(ORDER), work, VPINDEX_WORK_ROWS(ORDER),
-                                               (const uint8_t *)list, sizeof list - 1);
+                                               (const uint8_t *)list, sizeof list - 1, LIST_DAY);
     printf("list: %" PRIu32 " added, %" PRIu32 " distances", read.added, read.distances);
     if (read.refusal != VPINDEX_ACCEPTED) {
         printf("; line %" PRIu32 ": refusal %" PRIu32, read.line, read.refusal);
     }
     printf("\n");
+}
+
+static void print_day(uint64_t national) {
+    vpindex_looked_up found = vpindex_look_up(loaded, VPINDEX_TABLE_ROWS(ORDER), VPINDEX_TAG(36, national));
+    if (found.refusal == VPINDEX_ACCEPTED) {
+        printf("look up %" PRIu64 ": weighed on day %" PRIu32 "\n", national, found.day);
+    }
 }
 
 int main(void) {
@@ -98,12 +109,13 @@ int main(void) {
         add_items() != VPINDEX_ACCEPTED) {
         return 1;
     }
-    print("range 500", vpindex_range(table, rows, result, room, query, 500));
-    print("nearest 3", vpindex_nearest(table, rows, result, room, query, 3));
+    print("range 500", vpindex_range(table, rows, result, room, query, 500, VPINDEX_ANY_DAY));
+    print("nearest 3", vpindex_nearest(table, rows, result, room, query, 3, VPINDEX_ANY_DAY));
+    print("nearest 3, since day 290", vpindex_nearest(table, rows, result, room, query, 3, 290));
     if (make_weighted() != VPINDEX_ACCEPTED) {
         return 1;
     }
-    print("nearest 3, kilos weigh more", vpindex_nearest(weighted, rows, result, room, query, 3));
+    print("nearest 3, kilos weigh more", vpindex_nearest(weighted, rows, result, room, query, 3, VPINDEX_ANY_DAY));
     remove_twice(104);
 
     vpindex_written written = vpindex_write(table, rows, image, sizeof image);
@@ -111,8 +123,9 @@ int main(void) {
         return 1;
     }
     printf("image: %" PRIu32 " bytes\n", written.length);
-    print("nearest 3, loaded", vpindex_nearest(loaded, rows, result, room, query, 3));
+    print("nearest 3, loaded", vpindex_nearest(loaded, rows, result, room, query, 3, VPINDEX_ANY_DAY));
     read_more();
-    print("nearest 3, with the list", vpindex_nearest(loaded, rows, result, room, query, 3));
+    print_day(107);
+    print("nearest 3, with the list", vpindex_nearest(loaded, rows, result, room, query, 3, VPINDEX_ANY_DAY));
     return 0;
 }

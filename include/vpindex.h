@@ -1,6 +1,7 @@
 /*
- * vpindex: an index of up to 4,096 items by likeness. An item is a tag with a profile: four measures and a code of 128
- * bits. The index gives all items within a distance of a query, and the nearest ones, while items come and go. It keeps
+ * vpindex: an index of up to 4,096 items by likeness. An item is a tag with a profile, which is four measures and a
+ * code of 128 bits, and with the day on which it was weighed. The index gives all items within a distance of a query,
+ * and the nearest ones, of all items or of those weighed on a given day or later, while items come and go. It keeps
  * vantage-point trees in buckets whose sizes are powers of two.
  *
  * Link with libvpindex.a. The calls allocate nothing, keep nothing between calls and call nothing but the C library's
@@ -40,6 +41,8 @@ extern "C" {
 #define VPINDEX_LARGEST_DIFFERENCE 2     /* metric 2: the largest of the weighted differences of the four measures */
 #define VPINDEX_MAX_WEIGHT 100           /* a measure's absolute difference is multiplied by its weight, 0 to 100 */
 #define VPINDEX_MAX_MEASURE 1000000      /* a measure is -1,000,000 to 1,000,000 hundredths */
+#define VPINDEX_MAX_DAY 65535            /* a day is 1 to 65,535, counted from a date that the caller chooses */
+#define VPINDEX_ANY_DAY 0                /* the first day of a search that leaves no item out */
 #define VPINDEX_MIN_TAG VPINDEX_TAG(1, 0)
 #define VPINDEX_MAX_NATIONAL UINT64_C(274877906943)  /* the largest national number: 38 bits, as ISO 11784 stores it */
 #define VPINDEX_MAX_TAG VPINDEX_TAG(999, VPINDEX_MAX_NATIONAL)
@@ -49,7 +52,7 @@ extern "C" {
 
 /* ---- Areas ----------------------------------------------------------------------------------------------------- */
 
-#define VPINDEX_ROW_WORDS 12             /* 32-bit words in a row of the table or of the work area */
+#define VPINDEX_ROW_WORDS 13             /* 32-bit words in a row of the table or of the work area */
 #define VPINDEX_ENTRY_WORDS 2            /* 64-bit words in an entry of the result area */
 
 /* The order that these sizes are given for must be at most VPINDEX_MAX_ORDER. */
@@ -65,7 +68,7 @@ extern "C" {
 #define VPINDEX_RESULT_ENTRIES(order) ((size_t)1 << (order))
 
 /* As many bytes as any image of this order can have: every slot of every bucket built. */
-#define VPINDEX_IMAGE_BYTES(order) (8 + 4 * ((size_t)(order) + 1) + 48 * (((size_t)2 << (order)) - 1))
+#define VPINDEX_IMAGE_BYTES(order) (8 + 4 * ((size_t)(order) + 1) + 50 * (((size_t)2 << (order)) - 1))
 
 /* The first line of a herd list; vpindex_read_list says what follows it. */
 #define VPINDEX_LIST_HEADER "tag;kg;hip;girth;gain\n"
@@ -88,6 +91,7 @@ extern "C" {
 #define VPINDEX_BAD_LENGTH 7             /* the image's length is wrong */
 #define VPINDEX_BAD_IMAGE 8              /* an image of no known form, or its fields or trees break a rule */
 #define VPINDEX_BAD_WEIGHT 32            /* a weight above 100 */
+#define VPINDEX_BAD_DAY 33               /* an item's day is 0 */
 
 /* by the state */
 #define VPINDEX_ALREADY_LIVE 20          /* the tag is in the table */
@@ -129,6 +133,7 @@ typedef struct {
     uint32_t refusal;
     uint32_t bucket;                     /* the bucket that the item is in */
     vpindex_profile profile;
+    uint32_t day;                        /* on which the item was weighed */
 } vpindex_looked_up;
 
 typedef struct {
@@ -162,18 +167,21 @@ uint32_t vpindex_fresh(uint32_t (*table)[VPINDEX_ROW_WORDS], size_t table_rows, 
 
 /* Makes the table the one that the image was written from; it may have held anything. The image is checked whole before
  * the first row is written, so a refused load changes nothing. Bytes 2 and 3 of an image are the number of its form.
- * Form 1 has the four weights next, a byte each; form 0, from before there were weights, loads with weights 1.
- * Returns 0 or a refusal: BAD_LENGTH (under 4 bytes), BAD_ORDER, BAD_METRIC, BAD_IMAGE (form above 1), in form 1
+ * Form 2 has the four weights next, a byte each, and a day at the end of each record. Form 1, from before there were
+ * days, loads with day 1 in every item; form 0, from before there were weights, with day 1 and weights 1.
+ * Returns 0 or a refusal: BAD_LENGTH (under 4 bytes), BAD_ORDER, BAD_METRIC, BAD_IMAGE (form above 2), in forms 1 and 2
  * BAD_LENGTH (weights cut short) and BAD_WEIGHT, BAD_LENGTH (sizes cut short), BAD_TABLE (sizes), BAD_LENGTH (not the
- * length that the sizes give), SHORT_AREA, BAD_IMAGE (tags, measures, marks or trees). */
+ * length that the sizes give), SHORT_AREA, in form 2 BAD_DAY (in any record, a removed item's too), BAD_IMAGE (tags,
+ * measures, marks or trees). */
 uint32_t vpindex_load(uint32_t (*table)[VPINDEX_ROW_WORDS], size_t table_rows, const uint8_t *image,
                       size_t image_bytes);
 
-/* Adds an item. The work area's first VPINDEX_WORK_ROWS(order) rows are zero after an accepted call.
+/* Adds an item that was weighed on this day. The work area's first VPINDEX_WORK_ROWS(order) rows are zero after an
+ * accepted call.
  * Refusals: SHORT_AREA (no rows), BAD_TABLE (order, metric), SHORT_AREA (table, work), BAD_TABLE (weights, sizes,
- * marks), BAD_TAG, BAD_MEASURE, ALREADY_LIVE, FULL. */
+ * marks), BAD_TAG, BAD_MEASURE, BAD_DAY, ALREADY_LIVE, FULL. */
 vpindex_added vpindex_add(uint32_t (*table)[VPINDEX_ROW_WORDS], size_t table_rows, uint32_t (*work)[VPINDEX_ROW_WORDS],
-                          size_t work_rows, uint64_t tag, vpindex_profile profile);
+                          size_t work_rows, uint64_t tag, vpindex_profile profile, uint16_t day);
 
 /* Removes the item with this tag. The work area's first VPINDEX_WORK_ROWS(order) rows are zero after an accepted call.
  * Refusals: SHORT_AREA (no rows), BAD_TABLE (order, metric), SHORT_AREA (table, work), BAD_TABLE (weights, sizes,
@@ -181,28 +189,29 @@ vpindex_added vpindex_add(uint32_t (*table)[VPINDEX_ROW_WORDS], size_t table_row
 vpindex_removed vpindex_remove(uint32_t (*table)[VPINDEX_ROW_WORDS], size_t table_rows,
                                uint32_t (*work)[VPINDEX_ROW_WORDS], size_t work_rows, uint64_t tag);
 
-/* Gives the profile of the item with this tag. No area is changed.
+/* Gives the profile and the day of the item with this tag. No area is changed.
  * Refusals: SHORT_AREA (no rows), BAD_TABLE (order, metric), SHORT_AREA, BAD_TABLE (weights, sizes), BAD_TAG,
  * NOT_LIVE. */
 vpindex_looked_up vpindex_look_up(VPINDEX_READ uint32_t (*table)[VPINDEX_ROW_WORDS], size_t table_rows, uint64_t tag);
 
-/* Finds all items whose distance from the query is at most the radius. The result area gets an entry for each, tag then
- * distance, by distance and then tag, and zeros after them to its end.
+/* Finds all items that were weighed on the first day or later and whose distance from the query is at most the radius.
+ * The first day is any number; VPINDEX_ANY_DAY leaves no item out. The result area gets an entry for each item found,
+ * tag then distance, by distance and then tag, and zeros after them to its end.
  * Refusals: SHORT_AREA (no rows), BAD_TABLE (order, metric), SHORT_AREA, BAD_TABLE (weights, sizes), BAD_MEASURE,
  * NO_ROOM. */
 vpindex_searched vpindex_range(VPINDEX_READ uint32_t (*table)[VPINDEX_ROW_WORDS], size_t table_rows,
                                uint64_t (*result)[VPINDEX_ENTRY_WORDS], size_t result_entries, vpindex_profile query,
-                               uint32_t radius);
+                               uint32_t radius, uint16_t first_day);
 
-/* Finds the k items nearest to the query, or all where there are fewer; of items at the same distance the lower tag
- * goes first. The result area as in vpindex_range.
+/* Of the items that were weighed on the first day or later, finds the k nearest to the query, or all where there are
+ * fewer; of items at the same distance the lower tag goes first. First day and result area as in vpindex_range.
  * Refusals: SHORT_AREA (no rows), BAD_TABLE (order, metric), SHORT_AREA, BAD_TABLE (weights, sizes), BAD_MEASURE,
  * NO_COUNT, NO_ROOM. */
 vpindex_searched vpindex_nearest(VPINDEX_READ uint32_t (*table)[VPINDEX_ROW_WORDS], size_t table_rows,
                                  uint64_t (*result)[VPINDEX_ENTRY_WORDS], size_t result_entries, vpindex_profile query,
-                                 uint32_t k);
+                                 uint32_t k, uint16_t first_day);
 
-/* Writes the table's image, of form 1, which vpindex_load reads.
+/* Writes the table's image, of form 2, which vpindex_load reads.
  * Refusals: SHORT_AREA (no rows), BAD_TABLE (order, metric), SHORT_AREA, BAD_TABLE (weights, sizes), NO_ROOM. */
 vpindex_written vpindex_write(VPINDEX_READ uint32_t (*table)[VPINDEX_ROW_WORDS], size_t table_rows, uint8_t *image,
                               size_t image_bytes);
@@ -211,14 +220,15 @@ vpindex_written vpindex_write(VPINDEX_READ uint32_t (*table)[VPINDEX_ROW_WORDS],
  *     036000000000101;412,50;129,00;185,00;-0,95
  * A line is a tag of 15 digits and four measures, parted by single semicolons, and ends in one line feed, the last line
  * too. A measure is 1 to 5 digits, a comma and 2 digits, so that 412,50 is 41250 hundredths; one minus may stand before
- * it and covers all digits. The code is zero. Each line is an add, in the order of the list. The first line that is
- * refused ends the reading: the lines before it stay added, and table and work area are as those adds left them. Where
- * no line follows the header, nothing more is checked and the reply is all zeros.
+ * it and covers all digits. The code is zero, and all items are of the one day given. Each line is an add, in the order
+ * of the list. The first line that is refused ends the reading: the lines before it stay added, and table and work area
+ * are as those adds left them. Where no line follows the header, nothing more is checked, not the day either, and the
+ * reply is all zeros.
  * Refusals: BAD_LIST_HEADER, before anything of the table or the work area is looked at; then line by line
  * BAD_LIST_LINE, also for bytes after the last line feed, and those of vpindex_add in their order. */
 vpindex_list_read vpindex_read_list(uint32_t (*table)[VPINDEX_ROW_WORDS], size_t table_rows,
                                     uint32_t (*work)[VPINDEX_ROW_WORDS], size_t work_rows, const uint8_t *list,
-                                    size_t list_bytes);
+                                    size_t list_bytes, uint16_t day);
 
 #ifdef __cplusplus
 }

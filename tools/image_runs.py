@@ -6,8 +6,8 @@ With --check it writes nothing and fails where a file differs from what it would
 
 Every bucket of the images is in use, two of them with dead slots. Nationals, measures and codes are such that one bit makes tags alike within a bucket
 and across buckets, that items lie equally far from the first of bucket 2, that measures stand at both limits, and that the trees are the same by
-every metric and by the weights of both forms: the bits are flipped in the image of form 1 by each metric and in the image of form 0. One bit makes a weight
-101, and one measure has weight 0.
+every metric and by the weights of every form: the bits are flipped in the image of form 2 by each metric and in those of forms 1 and 0. One bit makes a weight
+101, one measure has weight 0, and one bit makes the day of a live slot 0, or of a dead one.
 """
 import struct
 import sys
@@ -18,41 +18,47 @@ CRATE = Path(__file__).resolve().parent.parent / "crates" / "image_runs"
 COUNTRY = 36 * 10**12
 ORDER, ROWS = 2, 11
 LIVE, DEAD = 0, 1
-LAST_FORM, MOST_WEIGHT, MOST_DISTANCE = 1, 100, 2**32 - 1
+MOST_WEIGHT, MOST_DISTANCE = 100, 2**32 - 1
+
+# Of each form where the sizes begin, since form 0 has no weights, and how a record is laid out, which has a day in form 2 alone.
+Form = namedtuple("Form", "front record")
+FORMS = [Form(4, "<4i2Q2I"), Form(8, "<4i2Q2I"), Form(8, "<4i2Q2IH")]
+LAST_FORM = len(FORMS) - 1
 
 # What a distance depends on, and the weights that leave every measure as it is.
 Space = namedtuple("Space", "metric weights")
 ONES = (1, 1, 1, 1)
 
-# Of the image of form 1; in the measures of the second and third no two items of a bucket differ.
+# Of the images of forms 1 and 2; in the measures of the second and third no two items of a bucket differ.
 WEIGHTS = (1, 100, 0, 1)
 
-# Of each bucket its slots: national, measures, code, threshold, mark.
+# Of each bucket its slots: national, measures, code, threshold, mark, day.
 BUCKETS = [
-    [(8, (10**6, -(10**6), 0, 0), (0, 0), 0, LIVE)],
-    [(9, (-5, 0, 0, 7), (0, 0), 2, LIVE), (26, (-3, 0, 0, 7), (1, 1 << 63), 0, DEAD)],
+    [(8, (10**6, -(10**6), 0, 0), (0, 0), 0, LIVE, 1)],
+    [(9, (-5, 0, 0, 7), (0, 0), 2, LIVE, 300), (26, (-3, 0, 0, 7), (1, 1 << 63), 0, DEAD, 1 << 8)],
     [
-        (10, (10, 0, -9, 0), (0, 0), 3, DEAD),
-        (11, (13, 0, -9, 0), (7, 0), 6, LIVE),
-        (24, (7, 0, -9, 0), (1 << 63, 3), 0, LIVE),
-        (40, (10, 0, -9, -3), (0, 28), 0, DEAD),
+        (10, (10, 0, -9, 0), (0, 0), 3, DEAD, 1),
+        (11, (13, 0, -9, 0), (7, 0), 6, LIVE, 2**16 - 1),
+        (24, (7, 0, -9, 0), (1 << 63, 3), 0, LIVE, 1 << 15),
+        (40, (10, 0, -9, -3), (0, 28), 0, DEAD, 2),
     ],
 ]
 
 
-def image_of(order, metric, buckets, weights=None):
-    """The bytes: order, metric, form, in form 1 the weights as the writer gives them, sizes, tags, records."""
-    slots = [s for b in buckets for s in b]
-    sizes = [struct.pack("<HH", len(b), sum(s[4] == LIVE for s in b)) for b in buckets]
+def image_of(form, metric):
+    """The bytes: order, metric, form, from form 1 on the weights, sizes, tags, records, each as far as the form has it."""
+    slots = [s for b in BUCKETS for s in b]
+    start = bytes([ORDER, metric, form, 0, *WEIGHTS])[: FORMS[form].front]
+    sizes = [struct.pack("<HH", len(b), sum(s[4] == LIVE for s in b)) for b in BUCKETS]
     tags = [struct.pack("<Q", COUNTRY + s[0]) for s in slots]
-    records = [struct.pack("<4i2Q2I", *s[1], *s[2], s[3], s[4]) for s in slots]
-    form = bytes([0, 0]) if weights is None else bytes([1, 0, *weights])
-    return b"".join([bytes([order, metric]), form, *sizes, *tags, *records])
+    records = [struct.pack(FORMS[LAST_FORM].record, *s[1], *s[2], *s[3:])[: struct.calcsize(FORMS[form].record)] for s in slots]
+    return b"".join([start, *sizes, *tags, *records])
 
 
 class Slot:
-    def __init__(self, place, tag, record):
-        *self.measures, word, other, self.threshold, self.mark = struct.unpack("<4i2Q2I", record)
+    def __init__(self, form, place, tag, record):
+        fields = (*struct.unpack(form.record, record), 1)  # the day where the form has none
+        *self.measures, word, other, self.threshold, self.mark, self.day = fields[:9]
         self.place, self.tag, self.code = place, tag, (word, other)
 
     def is_valid(self):
@@ -100,14 +106,18 @@ def sizes_stand(order, sizes):
     return all(size_stands(k, *pair) for k, pair in enumerate(sizes)) and sum(live for _, live in sizes) <= 2**order
 
 
-def buckets_of(sizes, body):
-    """Tags first, then records; slots by bucket from 0 up."""
-    count = sum(built for built, _ in sizes)
-    tags, records, at = body[: 8 * count], body[8 * count :], 0
+def slots_of(form, count, body):
+    """Tags first, then records."""
+    tags, width = struct.iter_unpack("<Q", body[: 8 * count]), struct.calcsize(form.record)
+    records = (body[at : at + width] for at in range(8 * count, len(body), width))
+    return [Slot(form, place, tag, record) for place, ((tag,), record) in enumerate(zip(tags, records))]
+
+
+def buckets_of(sizes, slots):
+    """Slots by bucket from 0 up."""
+    at = 0
     for built, _ in sizes:
-        yield [
-            Slot(i, int.from_bytes(tags[8 * i : 8 * i + 8], "little"), records[40 * i : 40 * i + 40]) for i in range(at, at + built)
-        ]
+        yield slots[at : at + built]
         at += built
 
 
@@ -120,34 +130,38 @@ def load(rows, image):
         return 3
     if metric > 2:
         return 4
-    form = int.from_bytes(image[2:4], "little")
-    if form > LAST_FORM:
+    number = int.from_bytes(image[2:4], "little")
+    if number > LAST_FORM:
         return 8
-    front = 4 if form == 0 else 8
-    if len(image) < front:
+    form = FORMS[number]
+    if len(image) < form.front:
         return 7
-    weights = ONES if form == 0 else tuple(image[4:8])
+    weights = tuple(image[4 : form.front]) or ONES
     if max(weights) > MOST_WEIGHT:
         return 32
-    end = front + 4 * (order + 1)
+    end = form.front + 4 * (order + 1)
     if len(image) < end:
         return 7
-    sizes = [struct.unpack("<HH", image[front + 4 * k : front + 4 * k + 4]) for k in range(order + 1)]
+    sizes = list(struct.iter_unpack("<HH", image[form.front : end]))
     if not sizes_stand(order, sizes):
         return 24
-    if len(image) != end + 48 * sum(built for built, _ in sizes):
+    count = sum(built for built, _ in sizes)
+    if len(image) != end + (8 + struct.calcsize(form.record)) * count:
         return 7
     if rows < order + 1 + 2 ** (order + 1):
         return 23
-    buckets = list(buckets_of(sizes, image[end:]))
+    slots = slots_of(form, count, image[end:])
+    if not all(s.day for s in slots):
+        return 33
+    buckets = list(buckets_of(sizes, slots))
     stand = all(bucket_stands(Space(metric, weights), live, slots) for (_, live), slots in zip(sizes, buckets))
     return 0 if stand and distinct([s.tag for b in buckets for s in b if s.mark == LIVE]) else 8
 
 
 def reply(rows, image):
-    """The refusal; and of an accepted image that its bytes come back, since a table has one image of form 1 only, or those of its translation to form 1."""
+    """The refusal; and of an accepted image that its bytes come back, since a table has one image of form 2 only, or those of its translation to form 2."""
     refusal = load(rows, image)
-    return f" {refusal}" if refusal else " 0=" if image[2] else " 0+"
+    return f" {refusal}" if refusal else " 0=" if image[2] == LAST_FORM else " 0+"
 
 
 def flipped(image, at, bit):
@@ -164,15 +178,19 @@ def flip_lines(image):
 
 
 def output():
-    newest = [image_of(ORDER, metric, BUCKETS, WEIGHTS) for metric in (0, 1, 2)]
-    older = image_of(ORDER, 0, BUCKETS)
+    newest = [image_of(LAST_FORM, metric) for metric in (0, 1, 2)]
     lines = cut_lines(newest[0]) + [line for image in newest for line in flip_lines(image)]
-    return "\n".join(lines + cut_lines(older) + flip_lines(older)) + "\n"
+    for form in reversed(range(LAST_FORM)):
+        lines += cut_lines(image_of(form, 0)) + flip_lines(image_of(form, 0))
+    return "\n".join(lines) + "\n"
 
 
-def constants(name, image):
+def constants(form):
     """The image with a byte behind it, its length, and the number of lengths from 0 to one more than that."""
+    image, name = image_of(form, 0), "" if form == LAST_FORM else f"FORM_{form}_"
     return [
+        "",
+        f"// Of form {form}.",
         f"pub const {name}LENGTH: usize = {len(image)};",
         "",
         f"pub const {name}CUTS: usize = {len(image) + 2};",
@@ -185,14 +203,10 @@ def constants(name, image):
 
 def source():
     lines = [
-        "// A sound image, and behind it one byte that is no part of it, as tools/image_runs.py writes them: its length, the lengths from 0 to one more",
-        "// than that, and the bytes. First of form 1.",
-        *constants("", image_of(ORDER, 0, BUCKETS, WEIGHTS)),
-        "",
-        "// Of form 0, with the same slots.",
-        *constants("OLDER_", image_of(ORDER, 0, BUCKETS)),
+        "// A sound image of each form, all of the same slots, and behind it one byte that is no part of it, as tools/image_runs.py writes them: its length, the",
+        "// lengths from 0 to one more than that, and the bytes.",
     ]
-    return "\n".join(lines) + "\n"
+    return "\n".join(lines + [line for form in reversed(range(len(FORMS))) for line in constants(form)]) + "\n"
 
 
 def main():

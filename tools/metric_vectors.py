@@ -21,6 +21,8 @@ MOST_DISTANCE = 2**32 - 1
 ONES = (1, 1, 1, 1)
 # With the first a difference of 2^31 is the least that saturates, and of 2^31 - 1 the largest that does not.
 WEIGHTS = ((2, 1, 1, 1), (3, 0, 100, 1), (100, 100, 100, 100))
+# Of the objects in turn: a row holds any 32 bits there.
+DAYS = (1, 2**16 - 1, 0, 2**16, 2**32 - 1, 300, 2**31)
 
 
 def valid_tag(tag):
@@ -39,14 +41,14 @@ def distance(metric, weights, p, q):
     return min(sum(weighted), MOST_DISTANCE) if metric == 0 else max(weighted)
 
 
-def row(tag, profile, threshold, mark):
-    """The record of the image, tag first, as little-endian words."""
-    fields = struct.pack("<Q4i2Q2I", tag, *profile[0], *profile[1], threshold, mark)
+def row(tag, profile, threshold, mark, day):
+    """The record of the image, tag first, as little-endian words, the day as a whole one."""
+    fields = struct.pack("<Q4i2Q3I", tag, *profile[0], *profile[1], threshold, mark, day)
     return struct.unpack(f"<{len(fields) // 4}I", fields)
 
 
 def objects():
-    """Tag, measures, code, threshold, mark. Those that are next to each other are compared."""
+    """Tag, measures, code, threshold, mark, day. Those that are next to each other are compared."""
     first, last = NATIONALS, 999 * NATIONALS + LAST_NATIONAL
     items = [
         (first, [0, 0, 0, 0], [0, 0], 0, 0),
@@ -85,7 +87,8 @@ def objects():
             draw.getrandbits(32),
             draw.getrandbits(k),
         ))
-    return [(tag, (measures, code), threshold, mark) for tag, measures, code, threshold, mark in items]
+    days = (DAYS[i % len(DAYS)] for i in range(len(items)))
+    return [(tag, (measures, code), threshold, mark, day) for (tag, measures, code, threshold, mark), day in zip(items, days)]
 
 
 def tags():
@@ -106,6 +109,7 @@ def table(items, tag_list):
     lines += constant("CODES", "u64", [c for o in items for c in o[1][1]])
     lines += constant("THRESHOLDS", "u32", [o[2] for o in items])
     lines += constant("MARKS", "u32", [o[3] for o in items])
+    lines += constant("DAYS", "u32", [o[4] for o in items])
     lines += constant("WORDS", "u32", [w for o in items for w in row(*o)])
     lines += ["// Numbers that are tags, or nearly.", f"pub const NEAR_COUNT: usize = {len(tag_list)};", ""]
     lines += constant("NEAR_TAGS", "u64", tag_list)
@@ -115,11 +119,11 @@ def table(items, tag_list):
 def output(items, tag_list):
     lines = []
     for item in items:
-        tag, profile, threshold, mark = item
+        tag, profile, threshold, mark, day = item
         words = " ".join(f"{w:08x}" for w in row(*item))
         code = " ".join(f"{c:016x}" for c in profile[1])
-        lines += [words, f"{tag} 1 1 1 1 {code} {threshold} {mark} {valid_tag(tag):d} {valid_measures(profile[0]):d}"]
-    for i, (_, p, _, _) in enumerate(items):
+        lines += [words, f"{tag} 1 1 1 1 {code} {threshold} {mark} {day} {valid_tag(tag):d} {valid_measures(profile[0]):d}"]
+    for i, (_, p, *_) in enumerate(items):
         for step in STEPS:
             q = items[(i + step) % len(items)][1]
             found = [distance(m, ONES, p, q) for m in (*METRICS, NO_METRIC, *METRICS)]

@@ -4,8 +4,8 @@
 Writes crates/table_runs/src/steps.rt (the steps) and crates/table_runs/stdout (what the program must print).
 With --check it writes nothing and fails where a file differs from what it would write.
 
-A step is an operation and two numbers: fresh (order, metric), add or remove (first national, how many), range with the largest radius, nearest (k).
-The program makes every table with the same weights. Nothing that it prints depends on them.
+A step is an operation and two numbers: fresh (order, metric), add or remove (first national, how many), range with the largest radius (first day), nearest
+(first day, k). An item's day is its national. The program makes every table with the same weights. Nothing that it prints depends on them.
 """
 import sys
 from pathlib import Path
@@ -29,7 +29,7 @@ class Table:
     """Buckets with their live items. Where an item's slot lies plays no part in sizes, refusals and builds."""
 
     def fresh(self, order, metric):
-        self.order = order
+        self.order, self.days = order, {}
         self.buckets = [Bucket() for _ in range(order + 1)]
         return 0, 0, 0
 
@@ -42,11 +42,14 @@ class Table:
     def home(self, tag):
         return next((k for k, b in enumerate(self.buckets) if tag in b.live), None)
 
-    def add(self, tag):
+    def add(self, tag, day):
+        if day == 0:
+            return 33, 0, 0
         if self.home(tag) is not None:
             return 20, 0, 0
         if sum(len(b.live) for b in self.buckets) == 2**self.order:
             return 22, 0, 0
+        self.days[tag] = day
         k = next((j for j, b in enumerate(self.buckets) if b.built == 0), self.order + 1)
         items = [tag] + [i for b in self.buckets[:k] for i in b.live]
         target = k if 2 * len(items) > 2**k else k - 1
@@ -72,13 +75,14 @@ class Table:
             return 0, NO_BUCKET, self.build((k, k - 2), k - 1, here.live + self.buckets[k - 2].live)
         return 0, NO_BUCKET, self.build((k,), k - 2, here.live)
 
-    def range(self):
-        """With the largest radius every slot is visited and every live item reported."""
-        return 0, sum(len(b.live) for b in self.buckets), sum(b.built for b in self.buckets)
+    def range(self, first_day):
+        """With the largest radius every slot is visited, and every live item reported that is not of an earlier day."""
+        found = sum(self.days[tag] >= first_day for b in self.buckets for tag in b.live)
+        return 0, found, sum(b.built for b in self.buckets)
 
-    def nearest(self, k):
+    def nearest(self, first_day, k):
         """With k as large as the table both tests pass at every slot."""
-        return (5, 0, 0) if k == 0 else self.range()
+        return (5, 0, 0) if k == 0 else self.range(first_day)
 
 
 def removals(k):
@@ -102,12 +106,17 @@ def all_in_use(order, metric):
     return [s for s in steps if s[0] == FRESH or s[2]] + [(ADD, first, 1)]
 
 
+def since(day):
+    """Searches from this day on, from the next, and from the last that there is."""
+    return [(RANGE, day, 0), (RANGE, day + 1, 0), (NEAREST, day, 4096), (NEAREST, 2**16 - 1, 4096)]
+
+
 def runs():
-    yield [(FRESH, 3, 0), (RANGE, 0, 0), (NEAREST, 0, 5), (NEAREST, 0, 0)]
-    yield [(FRESH, 0, 0), (ADD, 1, 1), (ADD, 2, 1), (ADD, 1, 1), (RANGE, 0, 0), (REMOVE, 1, 2)]
+    yield [(FRESH, 3, 0), (RANGE, 0, 0), (NEAREST, 0, 5), (NEAREST, 0, 0), (NEAREST, 1, 5)]
+    yield [(FRESH, 0, 0), (ADD, 0, 1), (ADD, 1, 1), (ADD, 2, 1), (ADD, 1, 1), (ADD, 0, 1), (RANGE, 0, 0), (REMOVE, 1, 2)]
     for k in (2, 3, 12):
         for steps in removals(k):
-            yield steps + [(RANGE, 0, 0), (NEAREST, 0, 4096)]
+            yield steps + [(RANGE, 0, 0), (NEAREST, 0, 4096)] + since(2**k)
     for order, metric in ((2, 1), (3, 2), (12, 1)):
         yield all_in_use(order, metric) + [(RANGE, 0, 0)]
 
@@ -118,12 +127,12 @@ def outcome(table, step):
     if kind == FRESH:
         return table.fresh(a, b), 0
     if kind == RANGE:
-        return table.range(), 0
+        return table.range(a), 0
     if kind == NEAREST:
-        return table.nearest(b), 0
+        return table.nearest(a, b), 0
     last, total = (0, 0, 0), 0
     for tag in range(a, a + b):
-        last = table.add(tag) if kind == ADD else table.remove(tag)
+        last = table.add(tag, tag) if kind == ADD else table.remove(tag)
         total += last[2]
     return last, total
 

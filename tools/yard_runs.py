@@ -30,13 +30,16 @@ TAG = rb"([0-9]{15})"
 MEASURE = rb"(-?[0-9]{1,5}\.[0-9]{2})"
 CODE = rb"(-|[0-9a-f]{32})"
 PROFILE = b" ".join([MEASURE] * 4 + [CODE])
+DAY = rb"(?: ([0-9]{1,5}))?"
 HEADER = re.compile(NUMBER + b" " + NUMBER)
 COMMANDS = [
-    (b"A", re.compile(b"A " + TAG + b" " + PROFILE)),
+    (b"A", re.compile(b"A " + TAG + b" " + PROFILE + DAY)),
     (b"R", re.compile(b"R " + TAG)),
-    (b"W", re.compile(b"W " + NUMBER + b" " + PROFILE)),
-    (b"N", re.compile(b"N " + NUMBER + b" " + PROFILE)),
+    (b"W", re.compile(b"W " + NUMBER + b" " + PROFILE + DAY)),
+    (b"N", re.compile(b"N " + NUMBER + b" " + PROFILE + DAY)),
 ]
+# The day of a line that has none: an item's, and the first of a search.
+USUAL_DAY = {"A": 1, "W": 0, "N": 0}
 
 
 class Table(table_runs.Table):
@@ -56,7 +59,7 @@ class Table(table_runs.Table):
             if bucket.built:
                 yield bucket.slots, set(bucket.live)
 
-    def within(self, query, radius):
+    def within(self, query, radius, first_day):
         found, count = [], 0
 
         def visit(slots, live):
@@ -66,7 +69,7 @@ class Table(table_runs.Table):
             (item, threshold), half = slots[0], 1 + len(slots) // 2
             d = distance(self.space, item, query)
             count += 1
-            if item.tag in live and d <= radius:
+            if item.tag in live and self.days[item.tag] >= first_day and d <= radius:
                 found.append((d, item.tag))
             if d <= threshold + radius:
                 visit(slots[1:half], live)
@@ -77,7 +80,7 @@ class Table(table_runs.Table):
             visit(slots, live)
         return sorted(found), count
 
-    def closest(self, query, k):
+    def closest(self, query, k, first_day):
         kept, count = [], 0
 
         def enters_left(d, threshold):
@@ -93,7 +96,7 @@ class Table(table_runs.Table):
             (item, threshold), half = slots[0], 1 + len(slots) // 2
             d = distance(self.space, item, query)
             count += 1
-            if item.tag in live:
+            if item.tag in live and self.days[item.tag] >= first_day:
                 kept.append((d, item.tag))
                 kept.sort()
                 del kept[k:]
@@ -135,14 +138,14 @@ def accepted_or_refused(letter, refusal, *numbers):
     return line_of(letter, refusal) if refusal else line_of(letter, 0, *numbers)
 
 
-def added(table, tag, profile):
+def added(table, tag, profile, day):
     if bad_tag(tag):
         return line_of("A", 1)
     if bad_measure(profile):
         return line_of("A", 2)
     if table.home(tag) is None:
         table.items[tag] = SimpleNamespace(tag=tag, **vars(profile))
-    refusal, bucket, distances = table.add(tag)
+    refusal, bucket, distances = table.add(tag, day)
     return accepted_or_refused("A", refusal, bucket, distances)
 
 
@@ -153,19 +156,26 @@ def removed(table, tag):
     return accepted_or_refused("R", refusal, distances)
 
 
-def searched(letter, table, number, profile):
+def searched(letter, table, number, profile, first_day):
     if bad_measure(profile):
         return line_of(letter, 2)
     if letter == "N" and number == 0:
         return line_of(letter, 5)
-    found, count = table.within(profile, number) if letter == "W" else table.closest(profile, number)
+    search = table.within if letter == "W" else table.closest
+    found, count = search(profile, number, first_day)
     return line_of(letter, 0, len(found), count) + b"".join(line_of(f"{tag:015}", d) for d, tag in found)
+
+
+def fits(letter, first, *profile_and_day):
+    """Whether the numbers of a line are within their bits."""
+    day = profile_and_day[-1] if profile_and_day else None
+    return (letter in b"AR" or int(first) < 2**32) and int(day or 0) < 2**16
 
 
 def command_in(line):
     for letter, form in COMMANDS:
         match = form.fullmatch(line)
-        if match and (letter in b"AR" or int(match[1]) < 2**32):
+        if match and fits(letter, *match.groups()):
             return letter.decode(), int(match[1]), match.groups()[1:]
     return None
 
@@ -177,9 +187,11 @@ def answer(table, number, line):
     letter, first, fields = command
     if letter == "R":
         return removed(table, first)
+    *profile, day = fields
+    day = USUAL_DAY[letter] if day is None else int(day)
     if letter == "A":
-        return added(table, first, profile_in(fields))
-    return searched(letter, table, first, profile_in(fields))
+        return added(table, first, profile_in(profile), day)
+    return searched(letter, table, first, profile_in(profile), day)
 
 
 def refused_header(line):
@@ -323,7 +335,7 @@ MALFORMED = talk(
     f"W 00000000001 {FLAT}",
     f"N 4294967296 {FLAT}",
     f"N 0x1 {FLAT}",
-    f"N 1 {FLAT} 1",
+    f"N 1 {FLAT} 1 1",
     f"M 1 {FLAT}",
     f"W {tag_of(7)} {FLAT}",
     f"A 4294967295 {FLAT}",
@@ -378,6 +390,51 @@ TIES = talk(
 )
 
 
+FIRST_DAYS = ("", " 0", " 1", " 2", " 299", " 300", " 00301", " 302", " 65535")
+DAYS = talk(
+    "3 0",
+    add(1, 10),
+    add(2, 20) + " 300",
+    add(3, 30) + " 301",
+    add(4, 40) + " 65535",
+    add(5, 50) + " 00001",
+    add(6, 60) + " 0",
+    add(1, 10) + " 0",
+    f"A {tag_of(1, country=0)} {at(10)} 0",
+    f"A {tag_of(6)} 10000.01 0.00 0.00 0.00 - 0",
+    add(1, 10) + " 65535",
+    *(f"{letter} {number} {FLAT}{day}" for day in FIRST_DAYS for letter, number in (("W", 35), ("W", 4294967295), ("N", 1), ("N", 3), ("N", 9))),
+    f"N 0 {FLAT} 0",
+    f"N 1 10000.01 0.00 0.00 0.00 - 0",
+    f"W 1 0.00 0.00 0.00 -10000.01 - 65535",
+    *(add(n, 10 * n) + f" {300 + n}" for n in (6, 7, 8)),
+    add(9, 90) + " 0",
+    add(9, 90) + " 1",
+    f"R {tag_of(3)}",
+    f"N 8 {FLAT} 301",
+    add(3, 30),
+    f"N 8 {FLAT} 301",
+    f"N 8 {FLAT} 1",
+    *(f"R {tag_of(n)}" for n in (1, 2, 4, 5, 6)),
+    f"W 4294967295 {FLAT} 1",
+    f"W 4294967295 {FLAT} 307",
+    f"N 2 {at(80)} 308",
+)
+
+NO_DAYS = (" 65536", " 99999", " 000001", " 065535", " 100000", " ", "  1", " 1 ", " 1 1", "\t1", " -1", " -0", " +1", " 1.00", " 1,0", " 0x1", " a", " -", " 1\r")
+DAYS_MALFORMED = talk(
+    "2 0",
+    GOOD + " 7",
+    *(f"{line}{day}" for day in NO_DAYS for line in (GOOD.replace("7", "8"), f"W 9 {FLAT}", f"N 9 {FLAT}")),
+    *(f"R {tag_of(7)} {day}" for day in (0, 1, 7, 65535, 65536)),
+    *(f"{front} 7 {FLAT}" for front in (f"A {tag_of(8)}", "W 9", "N 9")),
+    *(f"{front} 0.00 0.00 0.00 0.00 7" for front in (f"A {tag_of(8)}", "W 9", "N 9")),
+    *(f"{front} 0.00 0.00 0.00 0.00 7 -" for front in (f"A {tag_of(8)}", "W 9", "N 9")),
+    f"N 9 {FLAT} 7",
+    f"N 9 {FLAT} 8",
+)
+
+
 def full():
     lines = ["2 0"] + [add(n, v) for n, v in ((1, 10), (2, 13), (3, 13), (4, 20))]
     lines += [add(5, 1), add(4, 1), f"W 0 {at(13)}", f"W 5 {at(30)}", f"N 1 {at(13)}", f"N 1 {at(30)}"]
@@ -407,26 +464,31 @@ def drawn_profile(draws):
     return " ".join(texts + [digits if draws.below(5) else "-"])
 
 
-def at_order_8(metric, seed, count):
-    """Adds, removals and searches of items that fill a table of order 8."""
+def at_order_8(metric, seed, count, days=0):
+    """Adds, removals and searches of items that fill a table of order 8; with days below this number, where it is not 0, on most of the lines."""
     draws, lines = Draws(seed), [f"8 {metric}"]
+
+    def profile():
+        text = drawn_profile(draws)
+        return f"{text} {draws.below(days)}" if days and draws.below(4) else text
+
     for i in range(count):
         kind = draws.below(20)
         tag = tag_of(draws.below(320))
         if i % 300 > 280 or kind < 3:
             lines.append(f"R {tag}")
         elif kind < 18:
-            lines.append(f"A {tag} {drawn_profile(draws)}")
+            lines.append(f"A {tag} {profile()}")
         elif kind == 18:
-            lines.append(f"N {1 + draws.below(6)} {drawn_profile(draws)}")
+            lines.append(f"N {1 + draws.below(6)} {profile()}")
         else:
-            lines.append(f"W {draws.below((1500, 60, 800)[metric])} {drawn_profile(draws)}")
-    lines += [f"A {tag_of(n)} {drawn_profile(draws)}" for n in range(1000, 1300)]
+            lines.append(f"W {draws.below((1500, 60, 800)[metric])} {profile()}")
+    lines += [f"A {tag_of(n)} {profile()}" for n in range(1000, 1300)]
     return talk(*lines, f"W 4294967295 {FLAT}", f"N 300 {FLAT}")
 
 
-LONGEST = f"A {tag_of(9)} -10000.00 -10000.00 -10000.00 -10000.00 {'a' * 32}"
-assert len(LONGEST) == 90
+LONGEST = f"A {tag_of(9)} -10000.00 -10000.00 -10000.00 -10000.00 {'a' * 32} 65535"
+assert len(LONGEST) == 96
 
 
 def long_lines():
@@ -474,11 +536,14 @@ def runs():
     yield "numbers", NUMBERS
     yield "codes", CODES
     yield "ties", TIES
+    yield "days", DAYS
+    yield "days_malformed", DAYS_MALFORMED
     yield "full", full()
     yield "smallest", smallest()
     yield "order_8_by_measures", at_order_8(0, 1, 900)
     yield "order_8_by_codes", at_order_8(1, 2, 900)
     yield "order_8_by_largest", at_order_8(2, 3, 900)
+    yield "order_8_by_days", at_order_8(0, 4, 900, days=40)
     yield "long_lines", long_lines()
     yield "strange_bytes", strange_bytes()
     yield "empty", b""

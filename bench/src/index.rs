@@ -4,7 +4,7 @@ use std::hint::black_box;
 
 use vpindex::ffi;
 
-use crate::items::Profile;
+use crate::items::{DAY, Profile, Query};
 
 /// A distance and a tag.
 pub type Hit = (u32, u64);
@@ -15,6 +15,11 @@ pub fn weights() -> [u32; 4] {
     black_box([1; 4])
 }
 
+/// The first day of every query, which leaves no item out. The plain programs are kept from knowing it too.
+pub fn first_day() -> u16 {
+    black_box(ffi::ANY_DAY)
+}
+
 /// The calls, each of which must be accepted. Changes and searches give the number of distances.
 pub trait Index {
     fn new(order: u32, metric: u32) -> Self;
@@ -22,8 +27,8 @@ pub trait Index {
     fn remove(&mut self, tag: u64) -> u32;
     fn look_up(&mut self, tag: u64) -> Profile;
     /// `room` is the length of the result area, where there is one.
-    fn range(&mut self, query: &Profile, radius: u32, room: usize) -> u32;
-    fn nearest(&mut self, query: &Profile, k: usize) -> u32;
+    fn range(&mut self, query: &Query, radius: u32, room: usize) -> u32;
+    fn nearest(&mut self, query: &Query, k: usize) -> u32;
     /// Of the last search.
     fn hits(&self) -> Vec<Hit>;
     fn write(&mut self);
@@ -59,12 +64,12 @@ impl Index for Archive {
         let n = 1 << order;
         let mut table = vec![[0; ffi::ROW_WORDS]; order as usize + 1 + 2 * n];
         assert_eq!(ffi::fresh(&mut table, order, metric, ffi::Weights { each: weights() }), 0);
-        let image = vec![0; 8 + 4 * (order as usize + 1) + 48 * (2 * n - 1)];
+        let image = vec![0; 8 + 4 * (order as usize + 1) + 50 * (2 * n - 1)];
         Archive { table, work: vec![[0; ffi::ROW_WORDS]; n], result: vec![[0; 2]; n], found: 0, image, length: 0 }
     }
 
     fn add(&mut self, tag: u64, profile: &Profile) -> u32 {
-        let reply = ffi::add(&mut self.table, &mut self.work, tag, raw(profile));
+        let reply = ffi::add(&mut self.table, &mut self.work, tag, raw(profile), DAY);
         assert_eq!(reply.refusal, 0);
         reply.distances
     }
@@ -81,13 +86,15 @@ impl Index for Archive {
         Profile { measures: reply.profile.measures, code: reply.profile.code }
     }
 
-    fn range(&mut self, query: &Profile, radius: u32, room: usize) -> u32 {
-        let reply = ffi::range(&self.table, &mut self.result[..room], raw(query), radius);
+    fn range(&mut self, query: &Query, radius: u32, room: usize) -> u32 {
+        let result = &mut self.result[..room];
+        let reply = ffi::range(&self.table, result, raw(&query.profile), radius, query.first_day);
         self.searched(reply)
     }
 
-    fn nearest(&mut self, query: &Profile, k: usize) -> u32 {
-        let reply = ffi::nearest(&self.table, &mut self.result[..k], raw(query), k as u32);
+    fn nearest(&mut self, query: &Query, k: usize) -> u32 {
+        let result = &mut self.result[..k];
+        let reply = ffi::nearest(&self.table, result, raw(&query.profile), k as u32, query.first_day);
         self.searched(reply)
     }
 

@@ -7,6 +7,16 @@ pub struct Profile {
     pub code: [u64; 2],
 }
 
+/// What is asked for: likeness to a profile, among items not weighed before the first day.
+#[derive(Clone, Copy)]
+pub struct Query {
+    pub profile: Profile,
+    pub first_day: u16,
+}
+
+/// On which every item was weighed.
+pub const DAY: u16 = 1;
+
 /// xorshift64*
 pub struct Random(pub u64);
 

@@ -2,7 +2,7 @@
 //! shrunk by the same rules, with no check of what it wrote itself. And the scans.
 
 use crate::index::{Hit, Index, weights};
-use crate::items::Profile;
+use crate::items::{DAY, Profile, Query};
 
 #[derive(Clone, Copy, Default)]
 pub struct Slot {
@@ -10,6 +10,7 @@ pub struct Slot {
     pub profile: Profile,
     threshold: u32,
     mark: u32,
+    day: u16,
 }
 
 #[derive(Clone, Default)]
@@ -130,7 +131,7 @@ impl Index for Plain {
         assert!(self.find(tag).is_none());
         let k = self.buckets.iter().position(|bucket| bucket.slots.is_empty()).unwrap_or(self.order + 1);
         let mut items = Vec::with_capacity(1 << k);
-        items.push(Slot { tag, profile: *profile, ..Slot::default() });
+        items.push(Slot { tag, profile: *profile, day: DAY, ..Slot::default() });
         for lower in 0..k {
             self.gather(lower, &mut items);
         }
@@ -150,7 +151,7 @@ impl Index for Plain {
         self.buckets[k].slots[slot].profile
     }
 
-    fn range(&mut self, query: &Profile, radius: u32, _room: usize) -> u32 {
+    fn range(&mut self, query: &Query, radius: u32, _room: usize) -> u32 {
         let mut hits = std::mem::take(&mut self.hits);
         hits.clear();
         let mut count = 0;
@@ -162,7 +163,7 @@ impl Index for Plain {
         count
     }
 
-    fn nearest(&mut self, query: &Profile, k: usize) -> u32 {
+    fn nearest(&mut self, query: &Query, k: usize) -> u32 {
         let mut hits = std::mem::take(&mut self.hits);
         hits.clear();
         let mut count = 0;
@@ -180,7 +181,7 @@ impl Index for Plain {
     fn write(&mut self) {
         let image = &mut self.image;
         image.clear();
-        image.extend([self.order as u8, self.space.metric as u8, 1, 0]);
+        image.extend([self.order as u8, self.space.metric as u8, 2, 0]);
         image.extend(self.space.weights.map(|weight| weight as u8));
         for bucket in &self.buckets {
             image.extend((bucket.slots.len() as u16).to_le_bytes());
@@ -194,6 +195,7 @@ impl Index for Plain {
             image.extend(slot.profile.code.map(u64::to_le_bytes).as_flattened());
             image.extend(slot.threshold.to_le_bytes());
             image.extend(slot.mark.to_le_bytes());
+            image.extend(slot.day.to_le_bytes());
         }
     }
 
@@ -219,6 +221,7 @@ impl Index for Plain {
             slot.profile.measures = [0; 4].map(|_| word(take(4)) as i32);
             slot.profile.code = [0; 2].map(|_| word(take(8)));
             (slot.threshold, slot.mark) = (word(take(4)) as u32, word(take(4)) as u32);
+            slot.day = word(take(2)) as u16;
         }
         for bucket in &self.buckets {
             let mut again = bucket.slots.clone();
@@ -229,11 +232,17 @@ impl Index for Plain {
     }
 }
 
-fn tree_range(space: &Space, slots: &[Slot], query: &Profile, radius: u32, hits: &mut Vec<Hit>, count: &mut u32) {
+impl Slot {
+    fn may_report(&self, query: &Query) -> bool {
+        self.mark == 0 && self.day >= query.first_day
+    }
+}
+
+fn tree_range(space: &Space, slots: &[Slot], query: &Query, radius: u32, hits: &mut Vec<Hit>, count: &mut u32) {
     let Some((slot, rest)) = slots.split_first() else { return };
-    let d = distance(space, &slot.profile, query);
+    let d = distance(space, &slot.profile, &query.profile);
     *count += 1;
-    if slot.mark == 0 && d <= radius {
+    if d <= radius && slot.may_report(query) {
         hits.push((d, slot.tag));
     }
     let (left, right) = rest.split_at(slots.len() / 2);
@@ -246,11 +255,11 @@ fn tree_range(space: &Space, slots: &[Slot], query: &Profile, radius: u32, hits:
     }
 }
 
-fn tree_nearest(space: &Space, slots: &[Slot], query: &Profile, k: usize, best: &mut Vec<Hit>, count: &mut u32) {
+fn tree_nearest(space: &Space, slots: &[Slot], query: &Query, k: usize, best: &mut Vec<Hit>, count: &mut u32) {
     let Some((slot, rest)) = slots.split_first() else { return };
-    let d = distance(space, &slot.profile, query);
+    let d = distance(space, &slot.profile, &query.profile);
     *count += 1;
-    if slot.mark == 0 && (best.len() < k || (d, slot.tag) < best[k - 1]) {
+    if (best.len() < k || (d, slot.tag) < best[k - 1]) && slot.may_report(query) {
         insert(best, k, (d, slot.tag));
     }
     let (left, right) = rest.split_at(slots.len() / 2);
@@ -278,21 +287,22 @@ fn insert(best: &mut Vec<Hit>, k: usize, hit: Hit) {
 
 /// A scan that keeps the k best. The metric is told before the loop and the worst one kept is at hand: asked at each
 /// slot, either made the scan slower.
-pub fn scan_nearest(space: &Space, slots: &[Slot], query: &Profile, k: usize, best: &mut Vec<Hit>) {
+pub fn scan_nearest(space: &Space, slots: &[Slot], query: &Query, k: usize, best: &mut Vec<Hit>) {
     let by = |metric| Space { metric, ..*space };
+    let (asked, first_day) = (&query.profile, query.first_day);
     match space.metric {
-        0 => keep_best(slots, k, best, |p| distance(&by(0), p, query)),
-        1 => keep_best(slots, k, best, |p| distance(&by(1), p, query)),
-        _ => keep_best(slots, k, best, |p| distance(&by(2), p, query)),
+        0 => keep_best(slots, first_day, k, best, |p| distance(&by(0), p, asked)),
+        1 => keep_best(slots, first_day, k, best, |p| distance(&by(1), p, asked)),
+        _ => keep_best(slots, first_day, k, best, |p| distance(&by(2), p, asked)),
     }
 }
 
-fn keep_best(slots: &[Slot], k: usize, best: &mut Vec<Hit>, distance_of: impl Fn(&Profile) -> u32) {
+fn keep_best(slots: &[Slot], first_day: u16, k: usize, best: &mut Vec<Hit>, distance_of: impl Fn(&Profile) -> u32) {
     best.clear();
     let mut worst = (u32::MAX, u64::MAX);
     for slot in slots {
         let hit = (distance_of(&slot.profile), slot.tag);
-        if hit < worst {
+        if hit < worst && slot.day >= first_day {
             insert(best, k, hit);
             if best.len() == k {
                 worst = best[k - 1];
@@ -302,11 +312,11 @@ fn keep_best(slots: &[Slot], k: usize, best: &mut Vec<Hit>, distance_of: impl Fn
 }
 
 /// A scan that sorts its hits.
-pub fn scan_range(space: &Space, slots: &[Slot], query: &Profile, radius: u32, hits: &mut Vec<Hit>) {
+pub fn scan_range(space: &Space, slots: &[Slot], query: &Query, radius: u32, hits: &mut Vec<Hit>) {
     hits.clear();
     for slot in slots {
-        let d = distance(space, &slot.profile, query);
-        if d <= radius {
+        let d = distance(space, &slot.profile, &query.profile);
+        if d <= radius && slot.day >= query.first_day {
             hits.push((d, slot.tag));
         }
     }

@@ -2,8 +2,8 @@
 
 use std::hint::black_box;
 
-use crate::index::{Archive, Hit, Index};
-use crate::items::{Profile, Spread, profiles, tag};
+use crate::index::{Archive, Hit, Index, first_day};
+use crate::items::{Query, Spread, profiles, tag};
 use crate::measure::turns;
 use crate::plain::{Plain, Slot, Space, scan_nearest, scan_range};
 
@@ -26,7 +26,7 @@ pub struct Full {
     archive: Archive,
     plain: Plain,
     items: Vec<Slot>,
-    queries: Vec<Profile>,
+    queries: Vec<Query>,
     space: Space,
 }
 
@@ -34,7 +34,8 @@ impl Full {
     pub fn new(seed: u64, spread: Spread, order: u32, metric: u32) -> Full {
         let n = 1 << order;
         let mut added = profiles(seed, spread, n + QUERIES);
-        let queries = added.split_off(n);
+        let asked = added.split_off(n);
+        let queries = asked.into_iter().map(|profile| Query { profile, first_day: first_day() }).collect();
         let (mut archive, mut plain) = (Archive::new(order, metric), Plain::new(order, metric));
         for (i, profile) in added.iter().enumerate() {
             assert_eq!(archive.add(tag(i), profile), plain.add(tag(i), profile));
@@ -74,7 +75,7 @@ impl Full {
     }
 
     // The radius within which a query has so many hits, or a few more at the same distance.
-    fn radius(&self, query: &Profile, hits: usize) -> u32 {
+    fn radius(&self, query: &Query, hits: usize) -> u32 {
         let mut best = vec![];
         scan_nearest(&self.space, &self.items, query, hits, &mut best);
         best.last().map_or(0, |hit| hit.0)

@@ -42,55 +42,55 @@ tableBegun (load image) t = tableAfterLoad image t
 
 -- RULES 8, 9, 13: the calls that change a table. Each is lent a work area; a herd list's bytes are an argument
 pub data Change : Type 0 where
-  add : (tag : ℕ) (profile : Profile) → Change
+  add : (tag : ℕ) (profile : Profile) (day : ℕ) → Change
   remove : (tag : ℕ) → Change
-  readList : (list : List ℕ) → Change
+  readList : (list : List ℕ) (day : ℕ) → Change
 
 abbrev pub ChangeReply : Change → Type 0
-ChangeReply (add tag profile) = Added
+ChangeReply (add tag profile day) = Added
 ChangeReply (remove tag) = Removed
-ChangeReply (readList list) = ListRead
+ChangeReply (readList list day) = ListRead
 
 abbrev pub changeReply : (c : Change) → Table → List Row → ChangeReply c
-changeReply (add tag profile) t work = addReply t work tag profile
+changeReply (add tag profile day) t work = addReply t work tag profile day
 changeReply (remove tag) t work = removeReply t work tag
-changeReply (readList list) t work = readListReply t work list
+changeReply (readList list day) t work = readListReply t work list day
 
 abbrev pub tableChanged : Change → Table → List Row → Table
-tableChanged (add tag profile) t work = tableAfterAdd t work tag profile
+tableChanged (add tag profile day) t work = tableAfterAdd t work tag profile day
 tableChanged (remove tag) t work = tableAfterRemove t work tag
-tableChanged (readList list) t work = tableAfterReadList t work list
+tableChanged (readList list day) t work = tableAfterReadList t work list day
 
 abbrev pub workChanged : Change → Table → List Row → List Row
-workChanged (add tag profile) t work = workAfterAdd t work tag profile
+workChanged (add tag profile day) t work = workAfterAdd t work tag profile day
 workChanged (remove tag) t work = workAfterRemove t work tag
-workChanged (readList list) t work = workAfterReadList t work list
+workChanged (readList list day) t work = workAfterReadList t work list day
 
 -- RULES 10, 11: the calls that only ask. They leave the table as it is. Each is lent areas of its own to answer in
 pub data Ask : Type 0 where
   lookUp : (tag : ℕ) → Ask
-  range : (query : Profile) (radius : ℕ) → Ask
-  nearest : (query : Profile) (k : ℕ) → Ask
+  range : (query : Profile) (radius : ℕ) (firstDay : ℕ) → Ask
+  nearest : (query : Profile) (k : ℕ) (firstDay : ℕ) → Ask
 
 abbrev pub AskAreas : Ask → Type 0
 AskAreas (lookUp tag) = Unit {0}
-AskAreas (range query radius) = List Entry
-AskAreas (nearest query k) = List Entry
+AskAreas (range query radius firstDay) = List Entry
+AskAreas (nearest query k firstDay) = List Entry
 
 abbrev pub AskReply : Ask → Type 0
 AskReply (lookUp tag) = LookedUp
-AskReply (range query radius) = Searched
-AskReply (nearest query k) = Searched
+AskReply (range query radius firstDay) = Searched
+AskReply (nearest query k firstDay) = Searched
 
 abbrev pub askReply : (q : Ask) → Table → AskAreas q → AskReply q
 askReply (lookUp tag) t none = lookUpReply t tag
-askReply (range query radius) t result = rangeReply t result query radius
-askReply (nearest query k) t result = nearestReply t result query k
+askReply (range query radius firstDay) t result = rangeReply t result query radius firstDay
+askReply (nearest query k firstDay) t result = nearestReply t result query k firstDay
 
 abbrev pub areasAnswered : (q : Ask) → Table → AskAreas q → AskAreas q
 areasAnswered (lookUp tag) t none = none
-areasAnswered (range query radius) t result = resultAfterRange t result query radius
-areasAnswered (nearest query k) t result = resultAfterNearest t result query k
+areasAnswered (range query radius firstDay) t result = resultAfterRange t result query radius firstDay
+areasAnswered (nearest query k firstDay) t result = resultAfterNearest t result query k firstDay
 
 -- The four groups as one, with writing (RULES 12.2): a call, the areas lent to it besides the table, and what it leaves
 pub data Call : Type 0 where

@@ -11,12 +11,12 @@ use Rattle.table_rules.specs.LookUp.{noProfile}
 use Rattle.call_rules.specs.Calls.{Call}
 use Rattle.call_rules.specs.Calls.Call.{write}
 use Rattle.history.specs.Trace.{Step, Shown, zeroed, shows, overlaid, leftBy, beginShown, changeShown, askShown, shown, noSums, plus, starting, begunSums, ifAccepted, counted, sumsAfter, stateAfter, shownAt, stateAfterAll, trace}
-use Rattle.history.specs.Trace.Payload.{bare, aProfile, someEntries, aListRead}
-use Rattle.history.specs.Model.{itemOf, withTag, isIn, with, without, profileIn, scanned, modelRange, modelNearest, canRead, canChange, tagRefusal, itemRefusal, addRefusalOf, removeRefusalOf, fits, questionRefusal, askRefusal, found, answerTo, showsUnless, afterUnless, stopsAt, oneMoreAdded, linesAnswered, listAnswered, modelBegun, beginAnswer, changeAnswer, answer, answerAt, modelAfterAll, modelTrace}
+use Rattle.history.specs.Trace.Payload.{bare, aWeighing, someEntries, aListRead}
+use Rattle.history.specs.Model.{itemOf, withTag, isIn, with, without, weighedIn, scanned, modelRange, modelNearest, canRead, canChange, tagRefusal, itemRefusal, addRefusalOf, removeRefusalOf, fits, questionRefusal, askRefusal, found, answerTo, showsUnless, afterUnless, stopsAt, oneMoreAdded, linesAnswered, listAnswered, modelBegun, beginAnswer, changeAnswer, answer, answerAt, modelAfterAll, modelTrace}
 use Rattle.history.specs.History.{before, blankModel}
 use Rattle.history.proofs.Computing.{performed}
 use Rattle.history.proofs.Running.{fresh, load, add, remove, readList, lookUp, range, nearest, weighing, by, tag, valued, measured, areasFor, scratch, adding, removing, listOf, itemLine}
-use Rattle.history.proofs.Imaged.{oneImage, deadImage, olderImage}
+use Rattle.history.proofs.Imaged.{oneAs, oneImage, deadImage, unweightedImage}
 
 -- calls in roomy areas, each lent its own; and one in areas of these lengths
 roomy : List Call → List Step
@@ -29,24 +29,29 @@ unfolding areasFor
 lentOnly rows n c = record { call = c; table = replicate rows (1 ∷ 2 ∷ []); areas = areasFor n c }
 
 steps : List Step
-unfolding roomy lentOnly tag valued adding removing deadImage listOf itemLine
+unfolding roomy lentOnly tag valued adding removing oneAs oneImage deadImage listOf itemLine
 steps =
     roomy (fresh 2 (by 0) ∷ adding 7 (1 ∷ 2 ∷ 3 ∷ 4 ∷ 5 ∷ 4 ∷ []) ++ (lookUp (tag 2) ∷ lookUp (tag 9) ∷ lookUp 9 ∷ []))
-    ++ (lentOnly 11 2 (range (valued 14) 7)
-    ∷ lentOnly 11 3 (range (valued 14) 7)
-    ∷ lentOnly 11 1 (nearest (valued 14) 1)
-    ∷ lentOnly 10 1 (nearest (valued 14) 1)
+    ++ (lentOnly 11 2 (range (valued 14) 7 0)
+    ∷ lentOnly 11 3 (range (valued 14) 7 0)
+    ∷ lentOnly 11 1 (nearest (valued 14) 1 0)
+    ∷ lentOnly 10 1 (nearest (valued 14) 1 0)
     ∷ lentOnly 11 3 (remove (tag 1))
-    ∷ lentOnly 0 9 (add (tag 6) (valued 1))
+    ∷ lentOnly 0 9 (add (tag 6) (valued 1) 1)
     ∷ [])
-    ++ roomy (removing (1 ∷ 1 ∷ 2 ∷ 3 ∷ []) ++ (write ∷ range (valued 14) 99 ∷ fresh 13 (by 0) ∷ load deadImage ∷ load [] ∷ []))
-    ++ roomy (nearest (valued 13) 2 ∷ lookUp (tag 4) ∷ remove (tag 3) ∷ adding 7 (8 ∷ []) ++ (range (valued 0) 99 ∷ nearest (valued 90) 2 ∷ []))
-    ++ roomy (remove (tag 1) ∷ readList (listOf (itemLine 5 35 ∷ itemLine 6 42 ∷ itemLine 2 14 ∷ itemLine 7 49 ∷ [])) ∷ range (valued 0) 99 ∷ [])
-    ++ (lentOnly 0 0 (readList [])
-    ∷ lentOnly 0 0 (readList (listOf []))
-    ∷ lentOnly 10 4 (readList (listOf ((lineFeed ∷ []) ∷ [])))
-    ∷ lentOnly 10 4 (readList (listOf (itemLine 7 49 ∷ [])))
+    ++ roomy (removing (1 ∷ 1 ∷ 2 ∷ 3 ∷ []) ++ (write ∷ range (valued 14) 99 0 ∷ fresh 13 (by 0) ∷ []))
+    ++ roomy (load oneImage ∷ lookUp (tag 1) ∷ nearest (valued 10) 1 515 ∷ nearest (valued 10) 1 516 ∷ load (oneAs 1 []) ∷ lookUp (tag 1) ∷ [])
+    ++ roomy (load deadImage ∷ load [] ∷ [])
+    ++ roomy (nearest (valued 13) 2 0 ∷ lookUp (tag 4) ∷ remove (tag 3) ∷ adding 7 (8 ∷ []) ++ (range (valued 0) 99 0 ∷ nearest (valued 90) 2 0 ∷ []))
+    ++ roomy (remove (tag 1) ∷ readList (listOf (itemLine 5 35 ∷ itemLine 6 42 ∷ itemLine 2 14 ∷ itemLine 7 49 ∷ [])) 300 ∷ range (valued 0) 99 0 ∷ [])
+    ++ (lentOnly 0 0 (readList [] 0)
+    ∷ lentOnly 0 0 (readList (listOf []) 0)
+    ∷ lentOnly 10 4 (readList (listOf ((lineFeed ∷ []) ∷ [])) 0)
+    ∷ lentOnly 10 4 (readList (listOf (itemLine 7 49 ∷ [])) 0)
     ∷ [])
+    ++ roomy (range (valued 0) 99 300 ∷ range (valued 0) 99 301 ∷ nearest (valued 13) 1 2 ∷ lookUp (tag 5) ∷ lookUp (tag 2) ∷ [])
+    ++ (lentOnly 11 2 (nearest (valued 13) 9 2) ∷ lentOnly 11 1 (nearest (valued 13) 9 2) ∷ lentOnly 11 0 (nearest (valued 13) 9 301) ∷ [])
+    ++ roomy (remove (tag 8) ∷ add (tag 7) (valued 49) 0 ∷ readList (listOf (itemLine 7 49 ∷ [])) 0 ∷ add (tag 7) (valued 49) 65_535 ∷ range (valued 0) 99 65_535 ∷ [])
 
 -- worked out by hand: what each call shows
 changed : ℕ → Shown
@@ -54,7 +59,7 @@ changed n = shows n bare
 
 noProfileFor : ℕ → Shown
 unfolding noProfile
-noProfileFor n = shows n (aProfile noProfile)
+noProfileFor n = shows n (aWeighing noProfile 0)
 
 noneFor : ℕ → Shown
 noneFor n = shows n (someEntries 0 [])
@@ -70,7 +75,7 @@ unfolding changed noProfileFor noneFor listed finds valued tag
 expected =
     -- a full table at the fifth add, and a tag that is live
     map changed (0 ∷ 0 ∷ 0 ∷ 0 ∷ 0 ∷ 22 ∷ 20 ∷ [])
-    ++ (shows 0 (aProfile (valued 14)) ∷ noProfileFor 21 ∷ noProfileFor 1 ∷ [])
+    ++ (shows 0 (aWeighing (valued 14) 1) ∷ noProfileFor 21 ∷ noProfileFor 1 ∷ [])
     -- three entries for an area of two, for one of three; and short table and work areas
     ++ (noneFor 6
     ∷ finds ((tag 2 ∷ 0 ∷ []) ∷ (tag 1 ∷ 7 ∷ []) ∷ (tag 3 ∷ 7 ∷ []) ∷ [])
@@ -79,20 +84,41 @@ expected =
     ∷ changed 23
     ∷ changed 23
     ∷ [])
-    -- a removal twice; one item left; a load in the place of the table, and one refused
+    -- a removal twice; one item left
     ++ map changed (0 ∷ 21 ∷ 0 ∷ 0 ∷ 0 ∷ [])
-    ++ (finds ((tag 4 ∷ 14 ∷ []) ∷ []) ∷ map changed (3 ∷ 0 ∷ 7 ∷ []))
+    ++ (finds ((tag 4 ∷ 14 ∷ []) ∷ []) ∷ changed 3 ∷ [])
+    -- a load in the place of the table: its item has its day, so it is found from that day on and not from the next; from form 1 it has day 1
+    ++ (changed 0 ∷ shows 0 (aWeighing (valued 10) 515) ∷ finds ((tag 1 ∷ 0 ∷ []) ∷ []) ∷ finds [] ∷ changed 0 ∷ shows 0 (aWeighing (valued 10) 1) ∷ [])
+    -- another load, and one refused
+    ++ map changed (0 ∷ 7 ∷ [])
     ++ (finds ((tag 2 ∷ 0 ∷ []) ∷ (tag 3 ∷ 0 ∷ []) ∷ []) ∷ noProfileFor 21 ∷ map changed (0 ∷ 0 ∷ []))
     ++ (finds ((tag 1 ∷ 10 ∷ []) ∷ (tag 2 ∷ 13 ∷ []) ∷ (tag 8 ∷ 56 ∷ []) ∷ []) ∷ finds ((tag 8 ∷ 34 ∷ []) ∷ (tag 2 ∷ 77 ∷ []) ∷ []) ∷ [])
     -- a herd list whose line 4 has a live tag: the two lines before it are in, the one after it is not
     ++ (changed 0
     ∷ listed 20 4 2
     ∷ finds ((tag 2 ∷ 13 ∷ []) ∷ (tag 5 ∷ 35 ∷ []) ∷ (tag 6 ∷ 42 ∷ []) ∷ (tag 8 ∷ 56 ∷ []) ∷ [])
-    -- no header, no line behind it, an empty line before the short table, and the short table
+    -- of day 0: no header, no line behind it, an empty line before the short table, and the short table
     ∷ listed 30 1 0
     ∷ listed 0 0 0
     ∷ listed 31 2 0
     ∷ listed 23 2 0
+    ∷ [])
+    -- the two lines' items have the list's day, and item 2, which is older, has the image's; at 0 it is nearer than both
+    ++ (finds ((tag 5 ∷ 35 ∷ []) ∷ (tag 6 ∷ 42 ∷ []) ∷ [])
+    ∷ finds []
+    ∷ finds ((tag 5 ∷ 22 ∷ []) ∷ [])
+    ∷ shows 0 (aWeighing (valued 35) 300)
+    ∷ shows 0 (aWeighing (valued 13) 1)
+    -- a k above those that may be reported, in an area for them, in a shorter one, and in none for none
+    ∷ finds ((tag 5 ∷ 22 ∷ []) ∷ (tag 6 ∷ 29 ∷ []) ∷ [])
+    ∷ noneFor 6
+    ∷ finds []
+    -- day 0 in an add and in a line, and the last day
+    ∷ changed 0
+    ∷ changed 33
+    ∷ listed 33 2 0
+    ∷ changed 0
+    ∷ finds ((tag 7 ∷ 49 ∷ []) ∷ [])
     ∷ [])
 
 tableShows : trace (before scratch) steps ≡ expected
@@ -102,37 +128,40 @@ tableShows = refl
 
 modelShows : modelTrace blankModel steps ≡ expected
 unfolding
-    performed steps expected zeroed beginShown itemOf withTag isIn with without profileIn scanned modelRange modelNearest canRead canChange tagRefusal
+    performed steps expected zeroed beginShown itemOf withTag isIn with without weighedIn scanned modelRange modelNearest canRead canChange tagRefusal
     itemRefusal addRefusalOf removeRefusalOf fits questionRefusal askRefusal found answerTo showsUnless afterUnless stopsAt oneMoreAdded
     linesAnswered listAnswered modelBegun beginAnswer changeAnswer answer answerAt modelTrace blankModel
 modelShows = refl
 
 -- since the load of three live items and a dead one: item 8 added (no distance, into bucket 0), item 3 removed (enough are left), item 1 removed (2 and 8
--- move to bucket 1, 1 distance), and of the herd list item 5 added (no distance, into bucket 0) and item 6 (four items into bucket 2, 4 distances)
-sums : stateAfterAll (before scratch) steps .sums ≡ record { adds = 6; removals = 3; distances = 5 }
+-- move to bucket 1, 1 distance), and of the herd list item 5 added (no distance, into bucket 0) and item 6 (four items into bucket 2, 4 distances); then item
+-- 8 removed (enough are left) and item 7 added (no distance, into bucket 0)
+sums : stateAfterAll (before scratch) steps .sums ≡ record { adds = 7; removals = 4; distances = 5 }
 unfolding tableShows stateAfterAll
 sums = refl
 
-items : map (λ i. i .tag) (modelAfterAll blankModel steps .items) ≡ tag 6 ∷ tag 5 ∷ tag 8 ∷ tag 2 ∷ []
+items :
+    map (λ i. i .tag ∷ i .day ∷ []) (modelAfterAll blankModel steps .items)
+    ≡ (tag 7 ∷ 65_535 ∷ []) ∷ (tag 6 ∷ 300 ∷ []) ∷ (tag 5 ∷ 300 ∷ []) ∷ (tag 2 ∷ 1 ∷ []) ∷ []
 unfolding
     modelShows modelAfterAll tag
 items = refl
 
 -- weights 2, 1, 0 and 100 as given to fresh, kept by a fresh that is refused; then those of an image, 3, 1, 0 and 100 by metric 2; then of one of form 0
 weighedSteps : List Step
-unfolding roomy tag valued measured oneImage olderImage
+unfolding roomy tag valued measured oneImage unweightedImage
 weighedSteps =
     roomy
     (fresh 1 (weighing 0 (2 ∷ 1 ∷ 0 ∷ 100 ∷ []))
-    ∷ add (tag 1) (valued 0)
-    ∷ add (tag 2) (measured (pos 3) (pos 5) (negsuc 6) (pos 1))
+    ∷ add (tag 1) (valued 0) 1
+    ∷ add (tag 2) (measured (pos 3) (pos 5) (negsuc 6) (pos 1)) 1
     ∷ fresh 1 (weighing 0 (1 ∷ 1 ∷ 101 ∷ 1 ∷ []))
-    ∷ range (valued 0) 999
-    ∷ nearest (measured (pos 3) (pos 5) (pos 9) (pos 1)) 1
+    ∷ range (valued 0) 999 0
+    ∷ nearest (measured (pos 3) (pos 5) (pos 9) (pos 1)) 1 0
     ∷ load oneImage
-    ∷ range (measured (pos 0) (pos 25) (pos 0) (pos 0)) 999
-    ∷ load olderImage
-    ∷ range (valued 0) 999
+    ∷ range (measured (pos 0) (pos 25) (pos 0) (pos 0)) 999 0
+    ∷ load unweightedImage
+    ∷ range (valued 0) 999 0
     ∷ [])
 
 -- 2·3 + 5 + 0 + 100; nothing but the measure of weight 0 differs; the larger of 3·10 and 25; and 10, 13 and 13 as they are

@@ -20,16 +20,16 @@ use Rattle.history.proofs.RefinesReading.Reads.{stops, takesIn}
 use Rattle.history.proofs.AmortizedRebuild.{potentialOf, add-paid}
 
 -- an accepted add, of a table that matches the model
-pub accepted-paid : {t : Table} {m : Model} → Matches t m → (work : List Row) (tag : ℕ) (p : Profile) → addRefusal t work tag p ≡ 0
-    → added t tag p .distances + potentialOf (added t tag p .table) ≤ potentialOf t + orderOf t * (4 * (orderOf t + 1))
-accepted-paid {t} here work tag p e =
-    add-paid t (by-bucket-roomy (invariant-by-bucket (here .invariant))) (here .invariant .sizes) (invariant-lives (here .invariant)) tag p (addable t work tag p e .notFull)
+pub accepted-paid : {t : Table} {m : Model} → Matches t m → (work : List Row) (tag : ℕ) (p : Profile) (day : ℕ) → addRefusal t work tag p day ≡ 0
+    → added t tag p day .distances + potentialOf (added t tag p day .table) ≤ potentialOf t + orderOf t * (4 * (orderOf t + 1))
+accepted-paid {t} here work tag p day e =
+    add-paid t (by-bucket-roomy (invariant-by-bucket (here .invariant))) (here .invariant .sizes) (invariant-lives (here .invariant)) tag p day (addable t work tag p day e .notFull)
 
-accepted-distances : (t : Table) (work : List Row) (tag : ℕ) (p : Profile) → addRefusal t work tag p ≡ 0 → addReply t work tag p .distances ≡ added t tag p .distances
+accepted-distances : (t : Table) (work : List Row) (tag : ℕ) (p : Profile) (day : ℕ) → addRefusal t work tag p day ≡ 0 → addReply t work tag p day .distances ≡ added t tag p day .distances
 unfolding addReply
-accepted-distances t work tag p e =
+accepted-distances t work tag p day e =
     ap (λ (k : ℕ). (elim k as (λ _. Added) [
-      | zero ↦ record { refusal = 0; bucket = addTarget t tag p; distances = added t tag p .distances }
+      | zero ↦ record { refusal = 0; bucket = addTarget t tag p day; distances = added t tag p day .distances }
       | suc j ↦ record { refusal = suc j; bucket = 0; distances = 0 }
     ]) .distances) e
 
@@ -41,17 +41,17 @@ pub reads-paid : {t : Table} {work : List Row} {m : Model} {r : Reading} {a : Li
     → r .reply .distances + potentialOf (r .table) ≤ potentialOf t + orderOf t * (4 * (orderOf t + 1) * r .reply .added)
 unfolding stopped oneMore with
 reads-paid (stops refusal line) = omega arith
-reads-paid (takesIn {t = t} {work = work} {r = r} tag p here accepted next rest) =
-    let u : Table = tableAfterAdd t work tag p in
+reads-paid (takesIn {t = t} {work = work} {r = r} tag p day here accepted next rest) =
+    let u : Table = tableAfterAdd t work tag p day in
     let w : ℕ = 4 * (orderOf t + 1) in
     let order : orderOf u ≡ orderOf t = next .order ∙ sym (here .order) in
     let later : r .reply .distances + potentialOf (r .table) ≤ potentialOf u + orderOf t * (w * r .reply .added) =
     subst (λ (o : ℕ). r .reply .distances + potentialOf (r .table) ≤ potentialOf u + o * (4 * (o + 1) * r .reply .added)) order (reads-paid rest) in
     omega (
       arith,
-      accepted-paid here work tag p accepted,
-      accepted-distances t work tag p accepted,
-      ap potentialOf (accepted-table t work tag p accepted),
+      accepted-paid here work tag p day accepted,
+      accepted-distances t work tag p day accepted,
+      ap potentialOf (accepted-table t work tag p day accepted),
       later,
       line-pays (orderOf t) w (r .reply .added),
     )

@@ -72,21 +72,21 @@ module _ (t : Table) (roomy : Roomy t) (sizes : sizesPass (orderOf t) (builtOf t
       size-in-use j (builtOf t j) (liveOf t j) (sizes-at (orderOf t) (builtOf t) (liveOf t) sizes j (omega (arith, h, lowest-within t))) (in-use t j (lowest-used t j h))
 
   pub add-paid :
-      (tag : ℕ) (p : Profile) → liveTotal t < room (orderOf t)
-      → added t tag p .distances + potentialOf (added t tag p .table) ≤ potentialOf t + orderOf t * (4 * (orderOf t + 1))
+      (tag : ℕ) (p : Profile) (day : ℕ) → liveTotal t < room (orderOf t)
+      → added t tag p day .distances + potentialOf (added t tag p day .table) ≤ potentialOf t + orderOf t * (4 * (orderOf t + 1))
   unfolding added gathered below addTarget
-  add-paid tag p notFull =
-      let target : Target t (countFrom 0 (lowestEmpty t)) (addTarget t tag p) (length (gathered t tag p)) = add-target t sizes lives tag p notFull in
-      let number : length (gathered t tag p) ≡ suc (below (liveOf t) (lowestEmpty t)) =
+  add-paid tag p day notFull =
+      let target : Target t (countFrom 0 (lowestEmpty t)) (addTarget t tag p day) (length (gathered t tag p day)) = add-target t sizes lives tag p day notFull in
+      let number : length (gathered t tag p day) ≡ suc (below (liveOf t) (lowestEmpty t)) =
       ap suc (live-number t (countFrom 0 (lowestEmpty t)) lives (gathered-buckets t))
       in
-      rebuilt-paid t roomy (countFrom 0 (lowestEmpty t)) (gathered-buckets t) (count-apart 0 (lowestEmpty t)) (addTarget t tag p) (target .reached)
-      (gathered t tag p) (target .fits)
+      rebuilt-paid t roomy (countFrom 0 (lowestEmpty t)) (gathered-buckets t) (count-apart 0 (lowestEmpty t)) (addTarget t tag p day) (target .reached)
+      (gathered t tag p day) (target .fits)
       (λ a.
-      vacant-sizes t (addTarget t tag p) (sizes-at (orderOf t) (builtOf t) (liveOf t) sizes (addTarget t tag p) (target .reached))
-      (lives (addTarget t tag p) (target .reached)) (target .vacant a))
+      vacant-sizes t (addTarget t tag p day) (sizes-at (orderOf t) (builtOf t) (liveOf t) sizes (addTarget t tag p day) (target .reached))
+      (lives (addTarget t tag p day) (target .reached)) (target .vacant a))
       (4 * (orderOf t + 1))
-      (add-credit (orderOf t) (builtOf t) (liveOf t) (lowestEmpty t) (length (gathered t tag p)) lowest-sizes number (target .reached) (target .fits))
+      (add-credit (orderOf t) (builtOf t) (liveOf t) (lowestEmpty t) (length (gathered t tag p day)) lowest-sizes number (target .reached) (target .fits))
 
 -- a bucket that has become too thin, its dead more than half of its room
 module _ (t : Table) (roomy : Roomy t) (k : ℕ) (sparse : Sparse t k) (half : room k < 2 * builtOf t k) where

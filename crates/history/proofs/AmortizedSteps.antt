@@ -130,12 +130,12 @@ module _ {left : Table} {m : Model} (ok : Matches left m) {sums : Sums} (paid : 
       → Paid (leftBy left (r .table)) (plus sums (counts (r .reply .added) 0 (r .reply .distances)))
   unfolding stopped oneMore
   lines-paid area (stops refusal line) = refused-paid area
-  lines-paid area {work} (takesIn {r = r} tag p here accepted next rest) =
-      let whole = takesIn tag p here accepted next rest in
+  lines-paid area {work} (takesIn {r = r} tag p day here accepted next rest) =
+      let whole = takesIn tag p day here accepted next rest in
       let t : Table = overlaid left area in
       let w : ℕ = 4 * (orderOf t + 1) in
       let pay : w * suc (r .reply .added) + 11 * 0 ≡ w * suc (r .reply .added) = omega arith in
-      changed-paid area here (reads-matches whole here) (reads-order whole) (suc (r .reply .added)) 0 (addReply t work tag p .distances + r .reply .distances)
+      changed-paid area here (reads-matches whole here) (reads-order whole) (suc (r .reply .added)) 0 (addReply t work tag p day .distances + r .reply .distances)
       (omega (arith, reads-paid whole, ap (λ (n : ℕ). orderOf t * n) pay))
 
   change-paid : (c : Change) → IsChange c → (area : Table) (work : List Row)
@@ -143,24 +143,24 @@ module _ {left : Table} {m : Model} (ok : Matches left m) {sums : Sums} (paid : 
   unfolding
       counted tableAfterAdd tableAfterRemove addReply removeReply tableAfterReadList readListReply ifAccepted noSums with without addRefusalOf
       removeRefusalOf
-  change-paid (add tag p) is area work = go (addRefusal (overlaid left area) work tag p) refl
+  change-paid (add tag p day) is area work = go (addRefusal (overlaid left area) work tag p day) refl
     where
       t : Table
       t = overlaid left area
 
-      go : (n : ℕ) → addRefusal t work tag p ≡ n
-          → Paid (leftBy left (elim n as (λ _. Table) [ zero ↦ added t tag p .table | suc j ↦ t ]))
-          (plus sums (counted (add tag p) (elim n as (λ _. Added) [
-            | zero ↦ record { refusal = 0; bucket = addTarget t tag p; distances = added t tag p .distances }
+      go : (n : ℕ) → addRefusal t work tag p day ≡ n
+          → Paid (leftBy left (elim n as (λ _. Table) [ zero ↦ added t tag p day .table | suc j ↦ t ]))
+          (plus sums (counted (add tag p day) (elim n as (λ _. Added) [
+            | zero ↦ record { refusal = 0; bucket = addTarget t tag p day; distances = added t tag p day .distances }
             | suc j ↦ record { refusal = suc j; bucket = 0; distances = 0 }
           ])))
       go zero e =
           let lendable = overlaid-lendable ok area in
-          let allowed = long-accepts (canChange m (length t) (length work)) (itemRefusal m tag p) (sym (add-refusal m t work lendable tag p) ∙ e) in
+          let allowed = long-accepts (canChange m (length t) (length work)) (itemRefusal m tag p day) (sym (add-refusal m t work lendable tag p day) ∙ e) in
           let here : Matches t m = changeable m t work lendable (allowed .0) in
           let pay : 4 * (orderOf t + 1) * 1 + 11 * 0 ≡ 4 * (orderOf t + 1) = omega arith in
-          changed-paid area here (matches-added here tag p (is .0) (is .1) (allowed .1)) refl 1 0 (added t tag p .distances)
-          (omega (arith, accepted-paid here work tag p e, ap (λ (n : ℕ). orderOf t * n) pay))
+          changed-paid area here (matches-added here tag p day (is .0) (is .1) (is .2) (allowed .1)) refl 1 0 (added t tag p day .distances)
+          (omega (arith, accepted-paid here work tag p day e, ap (λ (n : ℕ). orderOf t * n) pay))
       go (suc n) e = refused-paid area
   change-paid (remove tag) is area work = go (removeRefusal (overlaid left area) work tag) refl
     where
@@ -181,7 +181,7 @@ module _ {left : Table} {m : Model} (ok : Matches left m) {sums : Sums} (paid : 
           changed-paid area here (matches-removed here tag (allowed .1)) refl 0 1 (removed t tag .distances)
           (omega (arith, remove-paid (here .invariant) tag, ap (λ (n : ℕ). orderOf t * n) pay))
       go (suc n) e = refused-paid area
-  change-paid (readList list) is area work = lines-paid area (reads m (overlaid left area) work (overlaid-lendable ok area) list)
+  change-paid (readList list day) is area work = lines-paid area (reads m (overlaid left area) work (overlaid-lendable ok area) list day (is .1))
 
   pub call-paid : (c : Call) → IsCall c → (area : Table) (areas : Areas c)
       → Paid (leftBy left (tableAfter c (overlaid left area) areas)) (sumsAfter c (replyTo c (overlaid left area) areas) sums)

@@ -18,12 +18,14 @@ use Rattle.table_rules.proofs.Views.{Only, same-order, same-space}
 use Rattle.table_rules.proofs.Puts.{Holds, held-built, kept-holds}
 use Rattle.table_rules.proofs.Live.{Roomy}
 use Rattle.image_rules.specs.Load.{fieldsPass}
+use Rattle.history.proofs.Invariant.{Weighed}
 
--- a bucket's slots: rows, live ones in the number given, valid fields, no tag twice, and a layout, marks aside
+-- a bucket's slots: rows, live ones in the number given, valid fields and days, no tag twice, and a layout, marks aside
 pub record Good (space : Space) (slots : List Row) (live : ℕ) : Type 0 where
   pub rows : All IsRow slots
   pub lives : length (select isLive slots) ≡ live
   pub fields : every fieldsPass slots ≡ true
+  pub days : All Weighed slots
   pub apart : distinct (map tagOf slots) ≡ true
   pub laid : isLayout (distance space) slots ≡ true
 
@@ -43,7 +45,7 @@ pub record ByBucket (t : Table) : Type 0 where
 
 pub good-none : (space : Space) → Good space [] 0
 unfolding select every distinct isLayout
-good-none space = record { rows = tt; lives = refl; fields = refl; apart = refl; laid = refl }
+good-none space = record { rows = tt; lives = refl; fields = refl; days = tt; apart = refl; laid = refl }
 
 pub by-bucket-roomy : {t : Table} → ByBucket t → Roomy t
 by-bucket-roomy s =

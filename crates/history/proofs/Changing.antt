@@ -1,7 +1,7 @@
 -- Every accepted change keeps the match of table and model: after fresh, add and remove the table is sound again, and its live items are the model's, with
 -- the new one or without the one removed; after load by the laws of images.
 use Prim.Native.Nat.{ℕ, zero, suc, _^_, _<_}
-use mathlib.Core.Path.{_≡_, refl, sym, _∙_, ap, ap₂, subst}
+use mathlib.Core.Path.{_≡_, refl, sym, _∙_, ap, subst}
 use mathlib.Core.Bool.{Bool, true, false, not, false≢true}
 use mathlib.Core.List.{List, _∷_, map, List·Permᴰ, List·Permᴰ·cons, List·Permᴰ·trans, Permᴰ·symm}
 use mathlib.Core.Option.{Option, none, some}
@@ -13,20 +13,18 @@ use Rattle.lists.specs.Lists.{select, distinct, All}
 use Rattle.lists.proofs.Lists.{all-weaken, all-of-map, perm-map, perm-of-eq}
 use Rattle.lists.proofs.Distinct.{distinct-perm, distinct-pairs}
 use Rattle.metric_rules.specs.declared.Profile.{Profile}
-use Rattle.metric_rules.specs.Row.{Row, IsProfile, newRow}
-use Rattle.metric_rules.specs.Validity.{validTag, validMeasures}
+use Rattle.metric_rules.specs.Row.{IsProfile}
+use Rattle.metric_rules.specs.Validity.{validTag, validMeasures, validDay}
 use Rattle.metric_rules.specs.declared.Space.{Space}
-use Rattle.metric_rules.proofs.Codec.{tag-of-row, profile-of-row}
-use Rattle.tree_rules.specs.Layout.{placed}
-use Rattle.tree_rules.proofs.Placed.{tag-placed, profile-placed}
 use Rattle.search_rules.proofs.Selecting.{select-all}
-use Rattle.table_rules.specs.Refusals.{badTag, badMeasure, alreadyLive, notLive, full, unless, when}
+use Rattle.table_rules.specs.Refusals.{badTag, badMeasure, badDay, alreadyLive, notLive, full, unless}
 use Rattle.table_rules.specs.Geometry.{room}
 use Rattle.table_rules.specs.Table.{Table}
 use Rattle.table_rules.specs.LookUp.{Place, find, isLiveTag}
 use Rattle.table_rules.specs.Fresh.{freshRefusal, freshTable, tableAfterFresh}
 use Rattle.table_rules.specs.Add.{added}
 use Rattle.table_rules.specs.Remove.{removed}
+use Rattle.table_rules.proofs.Chains.{unless-zero, when-zero}
 use Rattle.table_rules.proofs.Views.{same-order, same-space}
 use Rattle.table_rules.proofs.Changes.{fresh-order, fresh-space}
 use Rattle.table_rules.proofs.Live.{allLive}
@@ -40,6 +38,7 @@ use Rattle.history.specs.Trace.{beginShown}
 use Rattle.history.specs.History.{IsBegin}
 use Rattle.history.specs.Model.{Item, itemOf, Model, isIn, with, without, itemRefusal, tagRefusal, modelBegun}
 use Rattle.history.specs.Represents.{itemsIn}
+use Rattle.history.proofs.BuildsKeep.{item-placed, new-item}
 use Rattle.history.proofs.InvariantFresh.{Freshable, freshable, invariant-fresh, fresh-live}
 use Rattle.history.proofs.InvariantAdd.{Addable, invariant-added, added-only, added-live}
 use Rattle.history.proofs.InvariantRemove.{invariant-removed, removed-only, removed-live, removed-tag}
@@ -48,14 +47,6 @@ use Rattle.history.proofs.RefinesRepresents.{tags-once}
 use Rattle.history.proofs.ImagesLoaded.{loaded-invariant}
 use Rattle.history.proofs.RefinesItems.{Matches, live-total}
 use Rattle.history.proofs.RefinesRefusals.{live-alike}
-
-item-placed : (m : ℕ) (row : Row) → itemOf (placed m row) ≡ itemOf row
-unfolding itemOf
-item-placed m row = ap₂ (λ (n : ℕ) (p : Profile). record { tag = n; profile = p }) (tag-placed m row) (profile-placed m row)
-
-new-item : (tag : ℕ) (p : Profile) → IsProfile p → itemOf (newRow tag p) ≡ record { tag = tag; profile = p }
-unfolding itemOf
-new-item tag p is = ap₂ (λ (n : ℕ) (q : Profile). record { tag = n; profile = q }) (tag-of-row tag p 0 0) (profile-of-row tag p 0 0 is)
 
 items-live : (t : Table) → itemsIn t ≡ map itemOf (allLive t)
 unfolding itemsIn allLive
@@ -84,45 +75,41 @@ load-matches image t bytes h =
       invariant = loaded-invariant image t bytes ok;
       order = here .order;
       space = here .space;
-      same = perm-of-eq (ap (map itemOf) (sym (reads-live (loaded-reads image t (loadedTable image t) here))));
+      same = perm-of-eq (ap (map itemOf) (sym (reads-live (loadedTable image t) (loaded-reads image t (loadedTable image t) here))));
     }
 
 -- what the model asked of an accepted add
 module _ {t : Table} {m : Model} (ok : Matches t m) where
-  model-addable : (tag : ℕ) (p : Profile) → itemRefusal m tag p ≡ 0 → Addable t tag p
+  model-addable : (tag : ℕ) (p : Profile) (day : ℕ) → itemRefusal m tag p day ≡ 0 → Addable t tag p day
   unfolding itemRefusal
-  model-addable tag p h = go (validTag tag) refl (validMeasures p) refl (isIn m tag) refl (leb (room (m .order)) (length (m .items))) refl h
-    where
-      go :
-          (a : Bool) → validTag tag ≡ a → (b : Bool) → validMeasures p ≡ b → (there : Bool) → isIn m tag ≡ there → (f : Bool)
-          → leb (room (m .order)) (length (m .items)) ≡ f
-          → unless a badTag (unless b badMeasure (when there alreadyLive (when f full 0))) ≡ 0 → Addable t tag p
-      go false ea b eb there ei f ef h = absurd (omega arith)
-      go true ea false eb there ei f ef h = absurd (omega arith)
-      go true ea true eb true ei f ef h = absurd (omega arith)
-      go true ea true eb false ei true ef h = absurd (omega arith)
-      go true ea true eb false ei false ef h =
-          record {
-            validated = ea;
-            measures = eb;
-            new = live-alike ok tag ∙ ei;
-            notFull = rw (ok .order, live-total ok) (leb-false (room (m .order)) (length (m .items)) ef);
-          }
-
-  pub matches-added : (tag : ℕ) (p : Profile) → tag < 2 ^ 64 → IsProfile p → itemRefusal m tag p ≡ 0
-      → Matches (added t tag p .table) (with (record { tag = tag; profile = p }) m)
-  unfolding with
-  matches-added tag p fits isProfile h =
-      let asked : Addable t tag p = model-addable tag p h in
-      let only = added-only (ok .invariant) tag p fits isProfile asked in
+  model-addable tag p day h =
+      let named = unless-zero (validTag tag) badTag _ (omega arith) h in
+      let measured = unless-zero (validMeasures p) badMeasure _ (omega arith) (named .1) in
+      let weighed = unless-zero (validDay day) badDay _ (omega arith) (measured .1) in
+      let new = when-zero (isIn m tag) alreadyLive _ (omega arith) (weighed .1) in
+      let roomy = when-zero (leb (room (m .order)) (length (m .items))) full 0 (omega arith) (new .1) in
       record {
-        invariant = invariant-added (ok .invariant) tag p fits isProfile asked;
+        validated = named .0;
+        measures = measured .0;
+        weighed = weighed .0;
+        new = live-alike ok tag ∙ new .0;
+        notFull = rw (ok .order, live-total ok) (leb-false (room (m .order)) (length (m .items)) (roomy .0));
+      }
+
+  pub matches-added : (tag : ℕ) (p : Profile) (day : ℕ) → tag < 2 ^ 64 → IsProfile p → day < 2 ^ 16 → itemRefusal m tag p day ≡ 0
+      → Matches (added t tag p day .table) (with (record { tag = tag; profile = p; day = day }) m)
+  unfolding with
+  matches-added tag p day fits isProfile dayFits h =
+      let asked : Addable t tag p day = model-addable tag p day h in
+      let only = added-only (ok .invariant) tag p day fits isProfile dayFits asked in
+      record {
+        invariant = invariant-added (ok .invariant) tag p day fits isProfile dayFits asked;
         order = same-order (only .header) ∙ ok .order;
         space = same-space (only .header) ∙ ok .space;
         same =
-            List·Permᴰ·trans (perm-of-eq (items-live (added t tag p .table)))
-            (List·Permᴰ·trans (added-live (ok .invariant) tag p fits isProfile asked itemOf item-placed)
-            (List·Permᴰ·cons (new-item tag p isProfile) (List·Permᴰ·trans (perm-of-eq (sym (items-live t))) (ok .same))));
+            List·Permᴰ·trans (perm-of-eq (items-live (added t tag p day .table)))
+            (List·Permᴰ·trans (added-live (ok .invariant) tag p day fits isProfile dayFits asked itemOf item-placed)
+            (List·Permᴰ·cons (new-item tag p day isProfile) (List·Permᴰ·trans (perm-of-eq (sym (items-live t))) (ok .same))));
       }
 
 -- no tag twice: without those of the tag, the items are those that stay

@@ -2,7 +2,7 @@
 -- the worked lines, which are runs, open them all, and this is the one place that lists them.
 use mathlib.Core.List.{flatten}
 use Rattle.lists.specs.Lists.{countFrom, total, last, select, every, alike, distinct, sameNumbers}
-use Rattle.metric_rules.specs.Row.{rowWidth, tagAt, measuresAt, codeAt, thresholdAt, markAt, zeroRow, word, wide, words, tagOf, profileOf, thresholdOf, markOf, isLive, measure, codeWord, rowOf, withThreshold, withMark}
+use Rattle.metric_rules.specs.Row.{rowWidth, tagAt, measuresAt, codeAt, thresholdAt, markAt, dayAt, zeroRow, word, wide, words, tagOf, profileOf, thresholdOf, markOf, dayOf, isLive, mayReport, measure, codeWord, rowOf, withThreshold, withMark}
 use Rattle.metric_rules.specs.Validity.{nationals, countryOf, nationalOf, lastCountry, lastNational, validTag, measureLimit, validMeasure, validMeasures}
 use Rattle.metric_rules.specs.Distance.{mostDistance, saturated, gap, weight, weighted, measureDistance, differing, codeDistance, largest, worstDistance, distanceBy, distance, metricAt, weightsAt, weightsOf, spaceOf, weightsOne, lastMetric, validMetric, mostWeight, validWeights}
 use Rattle.tree_rules.specs.Sorting.{keyLe, insertBy, sortBy}
@@ -18,10 +18,10 @@ use Rattle.table_rules.specs.Add.{addRefusal, emptyFrom, lowestEmpty, gathered,
 use Rattle.table_rules.specs.Remove.{removeRefusal, marked, united, rebuiltLower, shrunk, removed, removeReply, tableAfterRemove, workAfterRemove}
 use Rattle.table_rules.specs.LookUp.{placeFrom, placeIn, find, isLiveTag, lookUpRefusal, noProfile, notFound, lookUpReply}
 use Rattle.table_rules.specs.Search.{bucketsDown, rangeMet, rangeAnswer, nearestTally, nearestAnswer, fitRefusal, rangeRefusal, nearestRefusal, searchReply, zeroEntry, resultAfter, rangeReply, resultAfterRange, nearestReply, resultAfterNearest}
-use Rattle.image_rules.specs.Bytes.{bytesOf, numberOf, lastForm, validForm, writtenForm, startFields, weightFields, headerFields, tagFields, recordFields, bytesOfFields, startBytes, headerBytes, tagBytes, recordBytes, sizeBytes, pairBytes, sizesEnd, tagWords, imageLength}
+use Rattle.image_rules.specs.Bytes.{bytesOf, numberOf, lastForm, validForm, writtenForm, startFields, weightFields, headerFields, tagFields, dayFields, recordFields, bytesOfFields, startBytes, headerBytes, tagBytes, recordBytes, sizeBytes, pairBytes, sizesEnd, tagWords, imageLength}
 use Rattle.image_rules.specs.Write.{headerBytesOf, sizesOf, tagsOf, recordsOf, allSlots, imageAs, imageOf, writeRefusal, writeReply, imageAfterWrite}
-use Rattle.image_rules.specs.Read.{numberAt, fieldsAt, startNumbers, orderIn, formIn, weightsAs, spaceIn, builtIn, liveIn, slotsBefore, slotsIn, rowIn, bucketIn}
-use Rattle.image_rules.specs.Load.{fieldsPass, bucketPasses, liveRows, slotsPass, loadRefusal, loadedTable, tableAfterLoad}
+use Rattle.image_rules.specs.Read.{numberAt, fieldsAt, startNumbers, orderIn, formIn, weightsAs, spaceIn, builtIn, liveIn, slotsBefore, slotsIn, dayAs, rowIn, bucketIn}
+use Rattle.image_rules.specs.Load.{fieldsPass, bucketPasses, daysPass, liveRows, slotsPass, loadRefusal, loadedTable, tableAfterLoad}
 use Rattle.text_rules.specs.Text.{onto, parted, partAt, partsIn, digitOf, isDigit, isNumeral, numeralAfter, numeral}
 use Rattle.text_rules.specs.Fields.{isNegative, unsigned, isMeasure, hundredths, measureIn}
 use Rattle.list_rules.specs.Lines.{listHeader, hasHeader, isItemLine, itemTag, itemProfile, lineOf, linesFrom, linesOf, itemLines}
@@ -35,8 +35,8 @@ pub record Performed (c : Call) : Type 0 where
 
 unfoldable pub performed : (c : Call) → Table → Areas c → Performed c
 unfolding
-    countFrom total last select every flatten alike sameNumbers rowWidth tagAt measuresAt codeAt thresholdAt markAt zeroRow word wide words tagOf
-    profileOf thresholdOf markOf measure codeWord rowOf withThreshold withMark nationals countryOf nationalOf lastCountry lastNational validTag
+    countFrom total last select every flatten alike sameNumbers rowWidth tagAt measuresAt codeAt thresholdAt markAt dayAt zeroRow word wide words tagOf
+    profileOf thresholdOf markOf dayOf mayReport measure codeWord rowOf withThreshold withMark nationals countryOf nationalOf lastCountry lastNational validTag
     measureLimit validMeasure validMeasures mostDistance saturated gap weight weighted measureDistance differing codeDistance largest worstDistance distanceBy distance
     metricAt weightsAt weightsOf spaceOf weightsOne lastMetric validMetric mostWeight validWeights keyLe insertBy sortBy leftSize costWithin cost rankedFrom tagKey placed fromPivot nearKey lastDistance
     split node layoutWithin layout isLayout entry entryDistance entryKey ordered isLive entersLeft entersRight nothing
@@ -48,10 +48,10 @@ unfolding
     workAfterAdd removeRefusal marked united rebuiltLower shrunk removed removeReply tableAfterRemove workAfterRemove
     placeFrom placeIn find isLiveTag lookUpRefusal noProfile notFound lookUpReply bucketsDown rangeMet rangeAnswer
     nearestTally nearestAnswer fitRefusal rangeRefusal nearestRefusal searchReply zeroEntry resultAfter rangeReply
-    resultAfterRange nearestReply resultAfterNearest bytesOf numberOf lastForm validForm writtenForm startFields weightFields headerFields tagFields recordFields bytesOfFields startBytes headerBytes tagBytes
+    resultAfterRange nearestReply resultAfterNearest bytesOf numberOf lastForm validForm writtenForm startFields weightFields headerFields tagFields dayFields recordFields bytesOfFields startBytes headerBytes tagBytes
     recordBytes sizeBytes pairBytes sizesEnd tagWords imageLength headerBytesOf sizesOf tagsOf recordsOf allSlots imageAs imageOf writeRefusal
-    writeReply imageAfterWrite numberAt fieldsAt startNumbers orderIn formIn weightsAs spaceIn builtIn liveIn slotsBefore slotsIn rowIn bucketIn
-    distinct fieldsPass bucketPasses liveRows slotsPass loadRefusal loadedTable tableAfterLoad onto parted partAt partsIn digitOf isDigit
+    writeReply imageAfterWrite numberAt fieldsAt startNumbers orderIn formIn weightsAs spaceIn builtIn liveIn slotsBefore slotsIn dayAs rowIn bucketIn
+    distinct fieldsPass bucketPasses daysPass liveRows slotsPass loadRefusal loadedTable tableAfterLoad onto parted partAt partsIn digitOf isDigit
     isNumeral numeralAfter numeral isNegative unsigned isMeasure hundredths measureIn listHeader hasHeader isItemLine itemTag itemProfile lineOf
     linesFrom linesOf itemLines stopped oneMore reading listReading readListReply tableAfterReadList workAfterReadList
 performed c t areas = record { reply = replyTo c t areas; table = tableAfter c t areas; areas = areasAfter c t areas }

@@ -4,7 +4,10 @@ use mathlib.Core.Path.{_≡_, sym, ap, ap₂, _∙_}
 use mathlib.Core.Bool.{true}
 use native.Mathlib.Omega.{arith}
 use Rattle.lists.specs.Lists.{every}
+use Rattle.lists.proofs.Lists.{all-weaken}
 use Rattle.lists.proofs.Tests.{and-first, and-second, and-pass, all-every}
+use Rattle.metric_rules.specs.Row.{dayOf}
+use Rattle.metric_rules.specs.Validity.{validDay, validMark}
 use Rattle.metric_rules.specs.Distance.{validMetric, validSpace}
 use Rattle.metric_rules.proofs.Laws.{metric-byte, weight-byte}
 use Rattle.table_rules.specs.Geometry.{validOrder, room, tableRows}
@@ -18,12 +21,11 @@ use Rattle.image_rules.specs.Read.{formIn, orderIn, slotsIn}
 use Rattle.image_rules.specs.Load.{bucketPasses}
 use Rattle.image_rules.proofs.EachBucket.{buckets-all}
 use Rattle.image_rules.proofs.ReadBack.{FitsImage, reads-back, form-back}
-use Rattle.image_rules.proofs.ReadTests.{reads-slots, reads-sizes, reads-buckets}
+use Rattle.image_rules.proofs.ReadTests.{reads-slots, reads-sizes, reads-days, reads-buckets}
 use Rattle.image_rules.proofs.Accepting.{Accepted}
 use Rattle.image_rules.proofs.Lengths.{length-image-built}
 use Rattle.history.proofs.Invariant.{Invariant}
 use Rattle.history.proofs.InvariantForms.{room-most, invariant-sizes, invariant-roomy, invariant-slots}
-use Rattle.metric_rules.specs.Validity.{validMark}
 
 module _ {t : Table} (invariant : Invariant t) where
   order-bound : orderOf t ≤ 12
@@ -42,6 +44,7 @@ module _ {t : Table} (invariant : Invariant t) where
         live = λ k h. omega (arith, invariant-sizes invariant k h .0, invariant-sizes invariant k h .1, room-bound k h);
         slots = slots-length (invariant-roomy invariant);
         rows = invariant-slots invariant;
+        days = λ k h. all-weaken (λ r w. w .fits) (slotsOf t k) (invariant .days k h);
       }
 
   -- the buckets' tests
@@ -54,6 +57,9 @@ module _ {t : Table} (invariant : Invariant t) where
       let live : liveSizeHolds slots (liveOf t k) ≡ true =
       and-second (every validMark slots) (liveSizeHolds slots (liveOf t k)) marks in
       and-pass _ _ (and-pass _ _ (and-pass _ _ (invariant .fields k h) live) (invariant .apart k h)) (invariant .laid k h)
+
+  days-valid : (k : ℕ) → k ≤ orderOf t → every (λ row. validDay (dayOf row)) (slotsOf t k) ≡ true
+  days-valid k h = all-every (λ row. validDay (dayOf row)) (slotsOf t k) (all-weaken (λ r w. w .valid) (slotsOf t k) (invariant .days k h))
 
   -- the form that is written is one that loads
   written-valid : (form : ℕ) → form ≡ writtenForm → validForm form ≡ true
@@ -76,5 +82,6 @@ module _ {t : Table} (invariant : Invariant t) where
             ∙ ap₂ (imageLength writtenForm) (sym order) (sym (reads-slots reads))
             ∙ ap (λ (f : ℕ). imageLength f (orderIn (imageOf t)) (slotsIn (imageOf t))) (sym form);
         roomy = rw order h;
-        slots = reads-buckets reads ∙ and-pass _ _ (all-every _ _ (buckets-all (λ k. bucketPasses (tableSpace t) (liveOf t k) (slotsOf t k) ≡ true) (orderOf t) bucket-invariant)) (invariant .once);
+        days = reads-days reads ∙ all-every _ _ (buckets-all (λ k. every (λ row. validDay (dayOf row)) (slotsOf t k) ≡ true) (orderOf t) days-valid);
+        slots = reads-buckets t reads ∙ and-pass _ _ (all-every _ _ (buckets-all (λ k. bucketPasses (tableSpace t) (liveOf t k) (slotsOf t k) ≡ true) (orderOf t) bucket-invariant)) (invariant .once);
       }

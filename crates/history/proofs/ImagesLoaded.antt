@@ -10,10 +10,10 @@ use native.Mathlib.Decide.{decLe}
 use lib.ListN.{length, getD, drop}
 use lib.Seq.{getD-take, getD-drop}
 use Rattle.lists.specs.Lists.{every, distinct, All}
-use Rattle.lists.proofs.Lists.{all-weaken}
+use Rattle.lists.proofs.Lists.{all-weaken, all-both}
 use Rattle.lists.proofs.Tests.{and-first, and-second, and-pass, every-all, all-every}
-use Rattle.metric_rules.specs.Row.{Row, IsRow, tagOf, profileOf}
-use Rattle.metric_rules.specs.Validity.{validTag, validMeasures, validMark}
+use Rattle.metric_rules.specs.Row.{Row, IsRow, tagOf, profileOf, dayOf}
+use Rattle.metric_rules.specs.Validity.{validTag, validMeasures, validDay, validMark}
 use Rattle.metric_rules.specs.declared.Space.{Space}
 use Rattle.metric_rules.specs.Distance.{distance, validSpace}
 use Rattle.tree_rules.specs.Layout.{isLayout}
@@ -29,12 +29,12 @@ use Rattle.image_rules.specs.Read.{orderIn, spaceIn, liveIn, bucketIn}
 use Rattle.image_rules.specs.Load.{fieldsPass, bucketPasses, loadRefusal, loadedTable, tableAfterLoad}
 use Rattle.image_rules.proofs.Blocks.{all-at}
 use Rattle.image_rules.proofs.EachBucket.{buckets-all}
-use Rattle.image_rules.proofs.Lengths.{bucket-in-fits, built-in-fits, live-in-fits}
+use Rattle.image_rules.proofs.Lengths.{bucket-in-fits, bucket-days-fit, built-in-fits, live-in-fits}
 use Rattle.image_rules.proofs.Accepting.{Accepted, accepted}
 use Rattle.image_rules.proofs.ReadBack.{ReadsBack}
-use Rattle.image_rules.proofs.ReadTests.{reads-sizes, reads-buckets}
+use Rattle.image_rules.proofs.ReadTests.{reads-sizes, reads-days, reads-buckets}
 use Rattle.image_rules.proofs.Loaded.{length-bucket-in, Loaded, loaded, loaded-reads, table-after-load}
-use Rattle.history.proofs.Invariant.{Invariant}
+use Rattle.history.proofs.Invariant.{Weighed, Invariant}
 
 -- what load tests of a bucket, one by one
 record BucketPasses (space : Space) (live : ℕ) (slots : List Row) : Type 0 where
@@ -85,7 +85,7 @@ module _ (image : List ℕ) (area : Table) (bytes : All (λ b. b < 2 ^ 8) image)
   sizes-pass = sym (reads-sizes reads) ∙ ok .sizes
 
   tests : (every (λ k. bucketPasses (tableSpace u) (liveOf u k) (slotsOf u k)) (bucketsOf (orderOf u)) && distinct (map tagOf (liveItems u (bucketsOf (orderOf u))))) ≡ true
-  tests = sym (reads-buckets reads) ∙ ok .slots
+  tests = sym (reads-buckets u reads) ∙ ok .slots
 
   bucket-passes : (k : ℕ) → k ≤ orderOf u → BucketPasses (tableSpace u) (liveOf u k) (slotsOf u k)
   bucket-passes k h = bucket-parts (every-bucket (λ j. bucketPasses (tableSpace u) (liveOf u j) (slotsOf u j)) (orderOf u) k h (and-first _ _ tests))
@@ -106,6 +106,14 @@ module _ (image : List ℕ) (area : Table) (bytes : All (λ b. b < 2 ^ 8) image)
       all-every test (bucketsOf (orderOf u))
       (buckets-all (λ k. test k ≡ true) (orderOf u)
       (λ k h. and-pass (every validMark (slotsOf u k)) _ (marks-of-fields (slotsOf u k) (bucket-passes k h .fields)) (bucket-passes k h .counted)))
+
+  -- days are not 0 by the test, and read from two bytes or 1
+  days-pass : (k : ℕ) → k ≤ orderOf u → All Weighed (slotsOf u k)
+  days-pass k h =
+      all-both (λ r valid fits. record { valid = valid; fits = fits }) (slotsOf u k)
+      (every-all (λ row. validDay (dayOf row)) (slotsOf u k)
+      (every-bucket (λ j. every (λ row. validDay (dayOf row)) (slotsOf u j)) (orderOf u) k h (sym (reads-days reads) ∙ ok .days)))
+      (rw (held-slots (holds k h)) (bucket-days-fit image bytes k))
 
   u-long : tableRows (orderOf u) ≤ length u
   u-long = rw (here .order, here .long) (ok .roomy)
@@ -132,6 +140,7 @@ module _ (image : List ℕ) (area : Table) (bytes : All (λ b. b < 2 ^ 8) image)
         sizes = sizes-pass;
         marks = marks-pass;
         fields = λ k h. bucket-passes k h .fields;
+        days = days-pass;
         apart = λ k h. bucket-passes k h .apart;
         laid = λ k h. bucket-passes k h .laid;
         once = and-second (every (λ k. bucketPasses (tableSpace u) (liveOf u k) (slotsOf u k)) (bucketsOf (orderOf u))) _ tests;

@@ -113,6 +113,7 @@ module _ {t : Table} (s : ByBucket t) where
         sizes = sizes-pass (orderOf t) (builtOf t) (liveOf t) sizes (omega (arith, few, by-bucket-total));
         marks = all-every _ (bucketsOf (orderOf t)) (all-count _ 0 (suc (orderOf t)) (λ k l m. marks-at k (omega arith)));
         fields = λ k h. by-bucket-good k h .fields;
+        days = λ k h. by-bucket-good k h .days;
         apart = λ k h. by-bucket-good k h .apart;
         laid = λ k h. by-bucket-good k h .laid;
         once = once;
@@ -158,6 +159,7 @@ module _ {t : Table} (invariant : Invariant t) where
                     rows = invariant-slots k h;
                     lives = invariant-lives k h;
                     fields = invariant .fields k h;
+                    days = invariant .days k h;
                     apart = invariant .apart k h;
                     laid = invariant .laid k h;
                   };

@@ -39,6 +39,7 @@ mod RefinesShown
 mod RefinesOwn
 mod RefinesStep
 mod ByBucket
+mod BuildsKeep
 mod InvariantForms
 mod Rebuilding
 mod InvariantAdd

@@ -26,7 +26,7 @@ use Rattle.table_rules.specs.Remove.{removeRefusal, removed, removeReply, table
 use Rattle.table_rules.specs.Search.{Answer, rangeRefusal, nearestRefusal, zeroEntry, resultAfter}
 use Rattle.table_rules.proofs.Sizes.{sizes-total}
 use Rattle.call_rules.specs.Calls.Begin.{fresh}
-use Rattle.history.specs.Model.{Model, with, without, canChange, tagRefusal, itemRefusal, addRefusalOf, removeRefusalOf, afterUnless, scanned, modelRange, modelNearest, fits, questionRefusal, askRefusal, modelBegun}
+use Rattle.history.specs.Model.{Item, Model, with, without, canChange, tagRefusal, itemRefusal, addRefusalOf, removeRefusalOf, afterUnless, scanned, modelRange, modelNearest, fits, questionRefusal, askRefusal, modelBegun}
 use Rattle.history.proofs.RefinesItems.{Matches, live-total}
 pub use Rattle.history.proofs.RefinesItems.{range-alike, nearest-alike}
 use Rattle.history.proofs.RefinesRefusals.{can-read, add-refusal, remove-refusal, range-refusal, nearest-refusal}
@@ -57,19 +57,24 @@ result-longer (suc n) area a = go (eqb (suc n) noRoom)
     go false = omega arith
 
 -- a scan lists no more entries than the model has items
-scanned-length : (m : Model) (q : Profile) → length (scanned m q) ≡ length (m .items)
+scanned-few : (m : Model) (q : Profile) (firstDay : ℕ) → length (scanned m q firstDay) ≤ length (m .items)
 unfolding scanned
-scanned-length m q = length-map (m .items) _
+scanned-few m q firstDay =
+    let since : Item → Bool = λ i. leb firstDay (i .day) in
+    rw (length-map (select since (m .items))) (select-few since (m .items))
 
-range-few : (m : Model) (q : Profile) (r : ℕ) → length (modelRange m q r) ≤ length (m .items)
+range-few : (m : Model) (q : Profile) (r firstDay : ℕ) → length (modelRange m q r firstDay) ≤ length (m .items)
 unfolding modelRange ordered
-range-few m q r =
+range-few m q r firstDay =
     let within : Entry → Bool = λ e. leb (entryDistance e) r in
-    omega (arith, sort-length entryKey (select within (scanned m q)), select-few within (scanned m q), scanned-length m q)
+    let scan = scanned m q firstDay in
+    omega (arith, sort-length entryKey (select within scan), select-few within scan, scanned-few m q firstDay)
 
-nearest-few : (m : Model) (q : Profile) (k : ℕ) → length (modelNearest m q k) ≤ length (m .items)
+nearest-few : (m : Model) (q : Profile) (k firstDay : ℕ) → length (modelNearest m q k firstDay) ≤ length (m .items)
 unfolding modelNearest ordered
-nearest-few m q k = omega (arith, length-take k (ordered (scanned m q)), sort-length entryKey (scanned m q), scanned-length m q)
+nearest-few m q k firstDay =
+    let scan = scanned m q firstDay in
+    omega (arith, length-take k (ordered scan), sort-length entryKey scan, scanned-few m q firstDay)
 
 -- an accepted fresh
 pub fresh-served : (order : ℕ) (space : Space) → length (space .weights .each) ≡ 4 → (t : Table) (work : List Row) (result : List Entry) → freshRefusal (length t) order space ≡ 0
@@ -84,17 +89,17 @@ module _ {t : Table} {work : List Row} {result : List Entry} {m : Model} (s : Se
       ap (λ (b : Bool). unless b shortArea rest)
       (can-go-on (s .matches) work (subst (λ (order : ℕ). workRows order ≤ length work) (sym (s .matches .order)) (s .work-long)))
 
-  add-refused : (tag : ℕ) (p : Profile) → addRefusal t work tag p ≡ itemRefusal m tag p
+  add-refused : (tag : ℕ) (p : Profile) (day : ℕ) → addRefusal t work tag p day ≡ itemRefusal m tag p day
   unfolding addRefusalOf
-  add-refused tag p = add-refusal m t work (inl (s .matches)) tag p ∙ change-asked (itemRefusal m tag p)
+  add-refused tag p day = add-refusal m t work (inl (s .matches)) tag p day ∙ change-asked (itemRefusal m tag p day)
 
   remove-refused : (tag : ℕ) → removeRefusal t work tag ≡ tagRefusal m tag
   unfolding removeRefusalOf
   remove-refused tag = remove-refusal m t work (inl (s .matches)) tag ∙ change-asked (tagRefusal m tag)
 
-  pub add-told : (tag : ℕ) (p : Profile) → addReply t work tag p .refusal ≡ itemRefusal m tag p
+  pub add-told : (tag : ℕ) (p : Profile) (day : ℕ) → addReply t work tag p day .refusal ≡ itemRefusal m tag p day
   unfolding addReply
-  add-told tag p = add-number (addRefusal t work tag p) _ _ ∙ add-refused tag p
+  add-told tag p day = add-number (addRefusal t work tag p day) _ _ ∙ add-refused tag p day
 
   pub remove-told : (tag : ℕ) → removeReply t work tag .refusal ≡ tagRefusal m tag
   unfolding removeReply
@@ -121,12 +126,13 @@ module _ {t : Table} {work : List Row} {result : List Entry} {m : Model} (s : Se
           }
       go (suc i) f = s
 
-  pub add-served : (tag : ℕ) (p : Profile) → tag < 2 ^ 64 → IsProfile p
-      → Served (tableAfterAdd t work tag p) (workAfterAdd t work tag p) result (afterUnless (itemRefusal m tag p) m (with (record { tag = tag; profile = p }) m))
+  pub add-served : (tag : ℕ) (p : Profile) (day : ℕ) → tag < 2 ^ 64 → IsProfile p → day < 2 ^ 16
+      → Served (tableAfterAdd t work tag p day) (workAfterAdd t work tag p day) result
+      (afterUnless (itemRefusal m tag p day) m (with (record { tag = tag; profile = p; day = day }) m))
   unfolding tableAfterAdd workAfterAdd with
-  add-served tag p fit is =
-      changed-served (addRefusal t work tag p) (itemRefusal m tag p) (workRows (orderOf t)) (add-refused tag p) (added t tag p .table) _ refl
-      (λ e. matches-added (s .matches) tag p fit is e)
+  add-served tag p day fit is dayFits =
+      changed-served (addRefusal t work tag p day) (itemRefusal m tag p day) (workRows (orderOf t)) (add-refused tag p day) (added t tag p day .table) _ refl
+      (λ e. matches-added (s .matches) tag p day fit is dayFits e)
 
   pub remove-served : (tag : ℕ)
       → Served (tableAfterRemove t work tag) (workAfterRemove t work tag) result (afterUnless (tagRefusal m tag) m (without tag m))
@@ -150,18 +156,19 @@ module _ {t : Table} {work : List Row} {result : List Entry} {m : Model} (s : Se
         s .result-long,
       )))
 
-  pub range-refused : (q : Profile) (r : ℕ) → rangeRefusal t result q r ≡ unless (validMeasures q) badMeasure 0
+  pub range-refused : (q : Profile) (r firstDay : ℕ) → rangeRefusal t result q r firstDay ≡ unless (validMeasures q) badMeasure 0
   unfolding askRefusal questionRefusal
-  range-refused q r =
-      range-refusal m t (inl (s .matches)) q r result
-      ∙ ap₂ (λ (b : Bool) (n : ℕ). unless b shortArea (unless (validMeasures q) badMeasure n)) (can-read m t (s .matches)) (few-fit (modelRange m q r) (range-few m q r))
+  range-refused q r firstDay =
+      range-refusal m t (inl (s .matches)) q r firstDay result
+      ∙ ap₂ (λ (b : Bool) (n : ℕ). unless b shortArea (unless (validMeasures q) badMeasure n))
+      (can-read m t (s .matches)) (few-fit (modelRange m q r firstDay) (range-few m q r firstDay))
 
-  pub nearest-refused : (q : Profile) (k : ℕ) → nearestRefusal t result q k ≡ unless (validMeasures q) badMeasure (when (eqb k 0) noCount 0)
+  pub nearest-refused : (q : Profile) (k firstDay : ℕ) → nearestRefusal t result q k firstDay ≡ unless (validMeasures q) badMeasure (when (eqb k 0) noCount 0)
   unfolding askRefusal questionRefusal
-  nearest-refused q k =
-      nearest-refusal m t (inl (s .matches)) q k result
+  nearest-refused q k firstDay =
+      nearest-refusal m t (inl (s .matches)) q k firstDay result
       ∙ ap₂ (λ (b : Bool) (n : ℕ). unless b shortArea (unless (validMeasures q) badMeasure (when (eqb k 0) noCount n)))
-      (can-read m t (s .matches)) (few-fit (modelNearest m q k) (nearest-few m q k))
+      (can-read m t (s .matches)) (few-fit (modelNearest m q k firstDay) (nearest-few m q k firstDay))
 
   pub search-served : (n : ℕ) (a : Answer) → Served t work (resultAfter n result a) m
   search-served n a = record { matches = s .matches; work-long = s .work-long; result-long = omega (arith, s .result-long, result-longer n result a) }

@@ -15,10 +15,10 @@ use Rattle.lists.specs.Lists.{select, distinct, All}
 use Rattle.lists.proofs.Lists.{all-at, perm-length, perm-map}
 use Rattle.lists.proofs.Tests.{and-first, and-pass, every-all, all-every}
 use Rattle.lists.proofs.Distinct.{distinct-perm, distinct-right}
-use Rattle.metric_rules.specs.Row.{Row, IsRow, tagOf, profileOf, markOf, isLive, withMark, zeroRow}
-use Rattle.metric_rules.specs.Validity.{validTag, validMeasures}
+use Rattle.metric_rules.specs.Row.{Row, IsRow, tagOf, profileOf, markOf, dayOf, isLive, withMark, zeroRow}
+use Rattle.metric_rules.specs.Validity.{validTag, validMeasures, validDay}
 use Rattle.metric_rules.specs.Distance.{distance}
-use Rattle.metric_rules.proofs.Codec.{mark-with-mark, tag-with-mark, profile-with-mark, with-mark-fits}
+use Rattle.metric_rules.proofs.Codec.{mark-with-mark, tag-with-mark, profile-with-mark, day-with-mark, with-mark-fits}
 use Rattle.tree_rules.proofs.Marks.{mark-aside, is-layout-marks}
 use Rattle.table_rules.specs.Geometry.{room}
 use Rattle.table_rules.specs.Table.{Table, tableSpace, builtOf, liveOf, slotsOf, pairRow}
@@ -29,6 +29,7 @@ use Rattle.table_rules.proofs.Changes.{marked-only, marked-sizes, marked-room}
 use Rattle.table_rules.proofs.Live.{allLive, slots-length}
 use Rattle.table_rules.proofs.Finding.{Found, mark-loses, marked-permutes, found-within}
 use Rattle.image_rules.specs.Load.{fieldsPass}
+use Rattle.history.proofs.Invariant.{Weighed}
 use Rattle.history.proofs.ByBucket.{Good, GoodBucket, ByBucket, by-bucket-roomy, by-bucket-changed}
 use Rattle.history.proofs.InvariantForms.{by-bucket-good, by-bucket-held}
 
@@ -45,6 +46,12 @@ dead-fields row is h =
     and-pass (validTag (tagOf (withMark 1 row)) && validMeasures (profileOf (withMark 1 row))) (leb (markOf (withMark 1 row)) 1)
     (ap₂ (λ (a b : Bool). a && b) (ap validTag (tag-with-mark row 1)) (ap validMeasures (profile-with-mark row 1)) ∙ both)
     (le-leb (markOf (withMark 1 row)) 1 (omega (arith, mark-with-mark row 1 (is .width))))
+
+-- and the day
+dead-weighed : (row : Row) → Weighed row → Weighed (withMark 1 row)
+dead-weighed row w =
+    let same : dayOf (withMark 1 row) ≡ dayOf row = day-with-mark row 1 in
+    record { valid = ap validDay same ∙ w .valid; fits = rw same (w .fits) }
 
 module _ {t : Table} (s : ByBucket t) (tag : ℕ) (place : Place) (found : Found t tag place) where
   abbrev k : ℕ
@@ -66,6 +73,9 @@ module _ {t : Table} (s : ByBucket t) (tag : ℕ) (place : Place) (found : Found
   row-fields =
       subst (λ (r : Row). fieldsPass r ≡ true) (found .row)
       (all-at (λ r. fieldsPass r ≡ true) slots (place .slot) (found .within) (every-all fieldsPass slots (good .fields)))
+
+  row-weighed : Weighed (place .row)
+  row-weighed = subst Weighed (found .row) (all-at Weighed slots (place .slot) (found .within) (good .days))
 
   one-less : length (select isLive (set slots (place .slot) dead)) ≡ liveOf t k - 1
   one-less =
@@ -90,6 +100,7 @@ module _ {t : Table} (s : ByBucket t) (tag : ℕ) (place : Place) (found : Found
         fields =
             all-every fieldsPass (set slots (place .slot) dead)
             (all-set (λ r. fieldsPass r ≡ true) slots (place .slot) dead (dead-fields (place .row) row-is row-fields) (every-all fieldsPass slots (good .fields)));
+        days = all-set Weighed slots (place .slot) dead (dead-weighed (place .row) row-weighed) (good .days);
         apart = ap distinct same-tags ∙ good .apart;
         laid = is-layout-marks (distance (tableSpace t)) (set slots (place .slot) dead) slots marks-aside ∙ good .laid;
       }

@@ -25,25 +25,25 @@ past country = country * nationals + 274_877_906_944
 -- a table of order 0 with this tag live, whoever made it; its image is sound but for the tag
 holding : ℕ → Table
 unfolding after scratch tag valued rowOf firstSlot
-holding t = set (after scratch (fresh 0 (by 0) ∷ add (tag 1) (valued 1) ∷ [])) (firstSlot 0 0) (rowOf t (valued 1) 0 0)
+holding t = set (after scratch (fresh 0 (by 0) ∷ add (tag 1) (valued 1) 1 ∷ [])) (firstSlot 0 0) (rowOf t (valued 1) 0 0 1)
 
 -- a tag added to an empty table, looked up and removed; and loaded
 asked : ℕ → List (List ℕ)
 unfolding replies after scratch valued imageOf holding
 asked t =
-    replies (after scratch (fresh 0 (by 0) ∷ [])) (add t (valued 1) ∷ lookUp t ∷ remove t ∷ load (imageOf (holding t)) ∷ [])
+    replies (after scratch (fresh 0 (by 0) ∷ [])) (add t (valued 1) 1 ∷ lookUp t ∷ remove t ∷ load (imageOf (holding t)) ∷ [])
 
-accepted : map (λ c. asked (last c)) countries ≡ map (λ c. (0 ∷ 0 ∷ 0 ∷ []) ∷ (0 ∷ 0 ∷ []) ∷ (0 ∷ 0 ∷ []) ∷ (0 ∷ []) ∷ []) countries
+accepted : map (λ c. asked (last c)) countries ≡ map (λ c. (0 ∷ 0 ∷ 0 ∷ []) ∷ (0 ∷ 0 ∷ 1 ∷ []) ∷ (0 ∷ 0 ∷ []) ∷ (0 ∷ []) ∷ []) countries
 unfolding countries asked last
 accepted = refl
 
-refused : map (λ c. asked (past c)) countries ≡ map (λ c. (1 ∷ 0 ∷ 0 ∷ []) ∷ (1 ∷ 0 ∷ []) ∷ (1 ∷ 0 ∷ []) ∷ (8 ∷ []) ∷ []) countries
+refused : map (λ c. asked (past c)) countries ≡ map (λ c. (1 ∷ 0 ∷ 0 ∷ []) ∷ (1 ∷ 0 ∷ 0 ∷ []) ∷ (1 ∷ 0 ∷ []) ∷ (8 ∷ []) ∷ []) countries
 unfolding countries asked past
 refused = refl
 
 -- searches do not ask, and the calls that take a tag say 1
 foreign :
-    replies (holding (past 36)) (range (valued 1) 0 ∷ nearest (valued 1) 1 ∷ remove (past 36) ∷ lookUp (past 36) ∷ [])
-    ≡ (0 ∷ 1 ∷ 1 ∷ past 36 ∷ 0 ∷ []) ∷ (0 ∷ 1 ∷ 1 ∷ past 36 ∷ 0 ∷ []) ∷ (1 ∷ 0 ∷ []) ∷ (1 ∷ 0 ∷ []) ∷ []
+    replies (holding (past 36)) (range (valued 1) 0 0 ∷ nearest (valued 1) 1 0 ∷ remove (past 36) ∷ lookUp (past 36) ∷ [])
+    ≡ (0 ∷ 1 ∷ 1 ∷ past 36 ∷ 0 ∷ []) ∷ (0 ∷ 1 ∷ 1 ∷ past 36 ∷ 0 ∷ []) ∷ (1 ∷ 0 ∷ []) ∷ (1 ∷ 0 ∷ 0 ∷ []) ∷ []
 unfolding replies holding valued past
 foreign = refl

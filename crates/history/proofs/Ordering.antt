@@ -13,25 +13,25 @@ use Rattle.table_rules.specs.Table.{Table, tableSpace, slotsOf}
 use Rattle.table_rules.specs.Search.{bucketsDown, rangeAnswer, nearestTally, nearestAnswer}
 use Rattle.history.specs.Model.{Model, scanned, modelRange, modelNearest}
 
-module _ (t : Table) (query : Profile) where
-  pub range-ascends : (radius : ℕ) → Ascending (rangeAnswer t query radius .entries)
+module _ (t : Table) (query : Profile) (firstDay : ℕ) where
+  pub range-ascends : (radius : ℕ) → Ascending (rangeAnswer t query radius firstDay .entries)
   unfolding rangeAnswer
   range-ascends radius = ordered-ascends _
 
   buckets-ascend : (k : ℕ) (bs : List ℕ) (u : Tally) → Ascending (u .kept)
-      → Ascending (foldl (λ tally b. nearestTree (distance (tableSpace t)) query (mayReport (queryRow query k)) k tally (slotsOf t b)) u bs .kept)
+      → Ascending (foldl (λ tally b. nearestTree (distance (tableSpace t)) query (mayReport (queryRow query k firstDay)) k tally (slotsOf t b)) u bs .kept)
   buckets-ascend k [] u here = here
-  buckets-ascend k (b ∷ bs) u here = buckets-ascend k bs _ (nearest-ascends (distance (tableSpace t)) query (mayReport (queryRow query k)) k u (slotsOf t b) here)
+  buckets-ascend k (b ∷ bs) u here = buckets-ascend k bs _ (nearest-ascends (distance (tableSpace t)) query (mayReport (queryRow query k firstDay)) k u (slotsOf t b) here)
 
-  pub answer-ascends : (k : ℕ) → Ascending (nearestAnswer t query k .entries)
+  pub answer-ascends : (k : ℕ) → Ascending (nearestAnswer t query k firstDay .entries)
   unfolding nearestAnswer nearestTally
   answer-ascends k = buckets-ascend k (bucketsDown t) (record { kept = []; count = 0 }) tt
 
-module _ (m : Model) (query : Profile) where
-  pub model-range-ascends : (radius : ℕ) → Ascending (modelRange m query radius)
+module _ (m : Model) (query : Profile) (firstDay : ℕ) where
+  pub model-range-ascends : (radius : ℕ) → Ascending (modelRange m query radius firstDay)
   unfolding modelRange
   model-range-ascends radius = ordered-ascends _
 
-  pub model-nearest-ascends : (k : ℕ) → Ascending (modelNearest m query k)
+  pub model-nearest-ascends : (k : ℕ) → Ascending (modelNearest m query k firstDay)
   unfolding modelNearest keep ordered
-  model-nearest-ascends k = keep-ascends k (scanned m query)
+  model-nearest-ascends k = keep-ascends k (scanned m query firstDay)

@@ -1,8 +1,8 @@
 -- A rebuild keeps the invariant: the tree of the items gathered is good, the buckets gathered from are empty, the rest is kept; the live items are permuted, the
 -- new ones with them, whatever a row has besides threshold and mark.
-use Prim.Native.Nat.{ℕ, _+_, _≤_}
+use Prim.Native.Nat.{ℕ, _+_, _^_, _≤_, _<_}
 use mathlib.Core.Path.{_≡_, refl, sym, _∙_, ap, ap₂, subst}
-use mathlib.Core.Bool.{Bool, true, _&&_}
+use mathlib.Core.Bool.{true, _&&_}
 use mathlib.Core.Logic.{inl, inr}
 use mathlib.Core.List.{List, [], _∷_, _++_, map, map-append, flatten, append-assoc, List·Permᴰ, List·Permᴰ·trans, Permᴰ·symm, Permᴰ·append-left}
 use native.Mathlib.Omega.{arith}
@@ -11,16 +11,16 @@ use lib.Dec.{leb}
 use lib.ListN.{length, length-map}
 use borrow.Author.Tests.{le-leb}
 use Rattle.lists.specs.Lists.{distinct, All}
-use Rattle.lists.proofs.Lists.{Pairs, all-weaken, all-both, all-append, all-perm, all-map, all-of-map, perm-length, perm-map, perm-of-eq}
-use Rattle.lists.proofs.Tests.{and-first, and-pass, every-all, all-every}
+use Rattle.lists.proofs.Lists.{Pairs, all-weaken, all-both, all-append, perm-length, perm-map, perm-of-eq}
+use Rattle.lists.proofs.Tests.{and-first, and-second, and-pass, every-all, all-every}
 use Rattle.lists.proofs.Distinct.{distinct-perm, distinct-left, distinct-of}
 use Rattle.metric_rules.specs.Row.{Row, IsRow, tagOf, profileOf, markOf, isLive}
-use Rattle.metric_rules.specs.Validity.{validTag, validMeasures}
+use Rattle.metric_rules.specs.Validity.{validTag, validMeasures, validDay}
 use Rattle.metric_rules.specs.declared.Space.{Space}
 use Rattle.metric_rules.specs.Distance.{distance}
 use Rattle.metric_rules.proofs.Laws.{distance-metric}
 use Rattle.tree_rules.specs.Layout.{layout, placed}
-use Rattle.tree_rules.proofs.Placed.{tag-placed, profile-placed}
+use Rattle.tree_rules.proofs.Placed.{tag-placed}
 use Rattle.tree_rules.proofs.Layouts.{layout-length, layout-permutes}
 use Rattle.tree_rules.proofs.InPlace.{layout-is-layout}
 use Rattle.tree_rules.proofs.Built.{Fresh, layout-fresh}
@@ -34,36 +34,52 @@ use Rattle.table_rules.proofs.Live.{allLive, is-live, emptied-live, rebuilt-hol
 use Rattle.table_rules.proofs.Sizes.{size-none, size-used}
 use Rattle.table_rules.proofs.Adding.{Target}
 use Rattle.image_rules.specs.Load.{fieldsPass}
+use Rattle.history.specs.Model.{Item, itemOf}
 use Rattle.history.proofs.RefinesLists.{select-all as all-selected}
+use Rattle.history.proofs.Invariant.{Weighed}
+use Rattle.history.proofs.BuildsKeep.{tree-all}
 use Rattle.history.proofs.ByBucket.{Good, GoodBucket, ByBucket, good-none, by-bucket-roomy, by-bucket-changed}
 use Rattle.history.proofs.InvariantForms.{by-bucket-good}
 
--- tag and measures of a row are valid
-unfoldable pub validRow : Row → Bool
-validRow row = validTag (tagOf row) && validMeasures (profileOf row)
+-- an item's tag, measures and day are valid, and the day is one of 16 bits
+pub record ValidItem (i : Item) : Type 0 where
+  pub tagged : validTag (i .tag) ≡ true
+  pub measured : validMeasures (i .profile) ≡ true
+  pub weighed : validDay (i .day) ≡ true
+  pub fits : i .day < 2 ^ 16
 
-pub valid-placed : (m : ℕ) (row : Row) → validRow (placed m row) ≡ validRow row
-unfolding validRow
-valid-placed m row = ap₂ (λ (a b : Bool). a && b) (ap validTag (tag-placed m row)) (ap validMeasures (profile-placed m row))
+abbrev pub ValidRow : Row → Type 0
+ValidRow row = ValidItem (itemOf row)
 
-pub valid-fields : (row : Row) → fieldsPass row ≡ true → validRow row ≡ true
-unfolding fieldsPass validRow
-valid-fields row h = and-first (validTag (tagOf row) && validMeasures (profileOf row)) (leb (markOf row) 1) h
+row-valid : (row : Row) → fieldsPass row ≡ true → Weighed row → ValidRow row
+unfolding fieldsPass itemOf
+row-valid row h w =
+    let both : (validTag (tagOf row) && validMeasures (profileOf row)) ≡ true = and-first _ (leb (markOf row) 1) h in
+    record {
+      tagged = and-first (validTag (tagOf row)) (validMeasures (profileOf row)) both;
+      measured = and-second (validTag (tagOf row)) (validMeasures (profileOf row)) both;
+      weighed = w .valid;
+      fits = w .fits;
+    }
 
-fields-fresh : (row : Row) → validRow row ≡ true → Fresh row → fieldsPass row ≡ true
-unfolding fieldsPass validRow
-fields-fresh row h f =
-    and-pass (validTag (tagOf row) && validMeasures (profileOf row)) (leb (markOf row) 1) h (le-leb (markOf row) 1 (omega (arith, f .mark)))
+fields-fresh : (row : Row) → ValidRow row → Fresh row → fieldsPass row ≡ true
+unfolding fieldsPass itemOf
+fields-fresh row v f =
+    and-pass (validTag (tagOf row) && validMeasures (profileOf row)) (leb (markOf row) 1)
+    (and-pass (validTag (tagOf row)) (validMeasures (profileOf row)) (v .tagged) (v .measured))
+    (le-leb (markOf row) 1 (omega (arith, f .mark)))
 
--- the tree of some rows with valid fields and distinct tags
-module _ (space : Space) (rows : List Row) (whole : All IsRow rows) (valid : All (λ r. validRow r ≡ true) rows) (apart : distinct (map tagOf rows) ≡ true) where
+row-weighed : (row : Row) → ValidRow row → Weighed row
+unfolding itemOf
+row-weighed row v = record { valid = v .weighed; fits = v .fits }
+
+-- the tree of some rows with valid items and distinct tags
+module _ (space : Space) (rows : List Row) (whole : All IsRow rows) (valid : All ValidRow rows) (apart : distinct (map tagOf rows) ≡ true) where
   tree-fresh : All Fresh (layout (distance space) rows)
   tree-fresh = layout-fresh (distance space) (distance-metric space .fits) rows whole
 
-  tree-valid : All (λ r. validRow r ≡ true) (layout (distance space) rows)
-  tree-valid =
-      all-of-map validRow (λ b. b ≡ true) (layout (distance space) rows)
-      (all-perm (λ b. b ≡ true) (Permᴰ·symm (layout-permutes (distance space) validRow valid-placed rows)) (all-map validRow (λ b. b ≡ true) rows valid))
+  tree-valid : All ValidRow (layout (distance space) rows)
+  tree-valid = tree-all (distance space) rows ValidItem valid
 
   pub good-tree : Good space (layout (distance space) rows) (length rows)
   good-tree =
@@ -73,6 +89,7 @@ module _ (space : Space) (rows : List Row) (whole : All IsRow rows) (valid : All
             ap length (select-all isLive (layout (distance space) rows) (all-weaken (λ r f. is-live r (f .mark)) (layout (distance space) rows) tree-fresh))
             ∙ layout-length (distance space) rows;
         fields = all-every fieldsPass (layout (distance space) rows) (all-both fields-fresh (layout (distance space) rows) tree-valid tree-fresh);
+        days = all-weaken row-weighed (layout (distance space) rows) tree-valid;
         apart = distinct-perm (Permᴰ·symm (layout-permutes (distance space) tagOf tag-placed rows)) apart;
         laid = layout-is-layout (distance space) rows (all-weaken (λ r i. i .width) rows whole) (distinct-of tagOf rows apart);
       }
@@ -85,16 +102,17 @@ live-all t P each (k ∷ ks) h = all-append P (liveSlots t k) (liveItems t ks) (
 
 -- the buckets listed gathered, with some new rows, and built in bucket k
 module _ {t : Table} (s : ByBucket t) (ks : List ℕ) (inOrder : All (λ k. k ≤ orderOf t) ks) (separate : Pairs (λ i j. i ≡ j → ⊥) ks)
-    (new : List Row) (newRows : All IsRow new) (newValid : All (λ r. validRow r ≡ true) new) (once : distinct (map tagOf (new ++ allLive t)) ≡ true)
+    (new : List Row) (newRows : All IsRow new) (newValid : All ValidRow new) (once : distinct (map tagOf (new ++ allLive t)) ≡ true)
     (k : ℕ) (target : Target t ks k (length (new ++ liveItems t ks))) where
   gathered-rows : All IsRow (new ++ liveItems t ks)
   gathered-rows = all-append IsRow new (liveItems t ks) newRows (live-all t IsRow (λ j h. by-bucket-good s j h .rows) ks inOrder)
 
-  gathered-valid : All (λ r. validRow r ≡ true) (new ++ liveItems t ks)
+  gathered-valid : All ValidRow (new ++ liveItems t ks)
   gathered-valid =
-      all-append (λ r. validRow r ≡ true) new (liveItems t ks) newValid
-      (live-all t (λ r. validRow r ≡ true)
-      (λ j h. all-weaken valid-fields (slotsOf t j) (every-all fieldsPass (slotsOf t j) (by-bucket-good s j h .fields))) ks inOrder)
+      all-append ValidRow new (liveItems t ks) newValid
+      (live-all t ValidRow
+      (λ j h. all-both row-valid (slotsOf t j) (every-all fieldsPass (slotsOf t j) (by-bucket-good s j h .fields)) (by-bucket-good s j h .days))
+      ks inOrder)
 
   gathered-once : distinct (map tagOf (new ++ liveItems t ks)) ≡ true
   gathered-once =

@@ -43,7 +43,7 @@ list-shown : (ss : List Step) (state : State) (m : Model) → Matches (state .ta
 unfolding trace modelTrace
 list-shown [] state m ok h = refl
 list-shown (s ∷ ss) state m ok h =
-    ap₂ _∷_ (step-shown state m ok s) (list-shown ss (stateAfter state s) (answerAt m s .model) (step-matches state m ok s (h .0)) (h .1))
+    ap₂ _∷_ (step-shown state m ok s (h .0)) (list-shown ss (stateAfter state s) (answerAt m s .model) (step-matches state m ok s (h .0)) (h .1))
 
 list-matches : (ss : List Step) (state : State) (m : Model) → Matches (state .table) m → All (λ s. IsCall (s .call)) ss
     → Matches (stateAfterAll state ss .table) (modelAfterAll m ss)

@@ -3,10 +3,10 @@
 use Prim.Native.Nat.{ℕ, _≤_}
 use mathlib.Core.Path.{_≡_, sym, _∙_, ap, subst}
 use mathlib.Core.List.{List, map, map-map, List·Permᴰ}
-use lib.Dec.{eqb}
+use lib.Dec.{eqb, leb}
 use lib.ListN.{length, length-map}
 use borrow.Author.Tests.{eqb-true}
-use Rattle.lists.specs.Lists.{every, total, All}
+use Rattle.lists.specs.Lists.{every, select, total, All}
 use Rattle.lists.proofs.Lists.{all-weaken, perm-length, perm-map, map-where}
 use Rattle.lists.proofs.Tests.{and-second, every-all}
 use Rattle.metric_rules.specs.declared.Profile.{Profile}
@@ -28,7 +28,7 @@ use Rattle.history.specs.Represents.{itemsIn}
 use Rattle.history.proofs.Invariant.{Invariant}
 use Rattle.history.proofs.RefinesLists.{select-perm, select-map, select-once, perm-of-one}
 use Rattle.history.proofs.RefinesSearch.{within-permuted, entry-pairs}
-use Rattle.history.proofs.RefinesTable.{liveEntries, range-scans, nearest-scans}
+use Rattle.history.proofs.RefinesTable.{since, liveEntries, range-scans, nearest-scans}
 use Rattle.history.proofs.RefinesFinding.{tagged, rowFound, find-row}
 use Rattle.metric_rules.specs.Validity.{validMark}
 
@@ -43,25 +43,35 @@ itemEntry : Space → Profile → Item → Entry
 itemEntry space q i = entry (i .tag) (distance space (i .profile) q)
 
 module _ {t : Table} {m : Model} (matches : Matches t m) where
-  entries-same : (q : Profile) → List·Permᴰ (liveEntries t q) (scanned m q)
-  unfolding itemsIn itemOf scanned itemEntry entryOf toQuery
-  entries-same q =
-      subst (λ (space : Space). List·Permᴰ (liveEntries t q) (map (itemEntry space q) (m .items))) (matches .space)
-      (subst (λ (es : List Entry). List·Permᴰ es (map (itemEntry (tableSpace t) q) (m .items)))
-      (map-map (itemEntry (tableSpace t) q) itemOf (liveItems t (bucketsOf (orderOf t))))
-      (perm-map (itemEntry (tableSpace t) q) (matches .same)))
+  -- an item's day is its row's, so the rows weighed since and the items weighed since are the same
+  since-same : (firstDay : ℕ)
+      → List·Permᴰ (map itemOf (select (since firstDay) (liveItems t (bucketsOf (orderOf t))))) (select (λ i. leb firstDay (i .day)) (m .items))
+  unfolding itemsIn itemOf
+  since-same firstDay =
+      subst (λ (is : List Item). List·Permᴰ is (select (λ i. leb firstDay (i .day)) (m .items)))
+      (select-map (λ i. leb firstDay (i .day)) itemOf (liveItems t (bucketsOf (orderOf t))))
+      (select-perm (λ i. leb firstDay (i .day)) (matches .same))
 
-  pub range-alike : (q : Profile) (r : ℕ) → rangeAnswer t q r .entries ≡ modelRange m q r
+  entries-same : (q : Profile) (firstDay : ℕ) → List·Permᴰ (liveEntries t q firstDay) (scanned m q firstDay)
+  unfolding itemOf scanned itemEntry entryOf toQuery
+  entries-same q firstDay =
+      let items = select (λ i. leb firstDay (i .day)) (m .items) in
+      subst (λ (space : Space). List·Permᴰ (liveEntries t q firstDay) (map (itemEntry space q) items)) (matches .space)
+      (subst (λ (es : List Entry). List·Permᴰ es (map (itemEntry (tableSpace t) q) items))
+      (map-map (itemEntry (tableSpace t) q) itemOf (select (since firstDay) (liveItems t (bucketsOf (orderOf t)))))
+      (perm-map (itemEntry (tableSpace t) q) (since-same firstDay)))
+
+  pub range-alike : (q : Profile) (r firstDay : ℕ) → rangeAnswer t q r firstDay .entries ≡ modelRange m q r firstDay
   unfolding modelRange
-  range-alike q r =
-      range-scans (matches .invariant) q r
-      ∙ within-permuted r (entries-same q) (entry-pairs (distance (tableSpace t)) q (liveItems t (bucketsOf (orderOf t))))
+  range-alike q r firstDay =
+      range-scans (matches .invariant) q r firstDay
+      ∙ within-permuted r (entries-same q firstDay) (entry-pairs (distance (tableSpace t)) q (select (since firstDay) (liveItems t (bucketsOf (orderOf t)))))
 
-  pub nearest-alike : (q : Profile) (k : ℕ) → nearestAnswer t q k .entries ≡ modelNearest m q k
+  pub nearest-alike : (q : Profile) (k firstDay : ℕ) → nearestAnswer t q k firstDay .entries ≡ modelNearest m q k firstDay
   unfolding modelNearest keep ordered
-  nearest-alike q k =
-      nearest-scans (matches .invariant) q k
-      ∙ keep-permuted k (entries-same q) (entry-pairs (distance (tableSpace t)) q (liveItems t (bucketsOf (orderOf t))))
+  nearest-alike q k firstDay =
+      nearest-scans (matches .invariant) q k firstDay
+      ∙ keep-permuted k (entries-same q firstDay) (entry-pairs (distance (tableSpace t)) q (select (since firstDay) (liveItems t (bucketsOf (orderOf t)))))
 
   -- the model's items with a tag are those of the live rows with it
   pub tagged-items : (tag : ℕ) → map itemOf (tagged tag (liveItems t (bucketsOf (orderOf t)))) ≡ withTag tag (m .items)

@@ -73,7 +73,7 @@ module _ {left : Table} {m : Model} (ok : Matches left m) where
   by-lines : (area : Table) {work : List Row} {r : Reading} {a : ListAnswered} → Reads (overlaid left area) work m r a → Matches (leftBy left (r .table)) (a .model)
   unfolding leftBy stopped stopsAt oneMore oneMoreAdded
   by-lines area (stops refusal line) = matches-left area
-  by-lines area (takesIn {r = r} tag p here accepted next rest) = matches-longer (reads-matches rest next) (drop (length (r .table)) left)
+  by-lines area (takesIn {r = r} tag p day here accepted next rest) = matches-longer (reads-matches rest next) (drop (length (r .table)) left)
 
   after-begin : (b : Begin) → IsBegin b → (area : Table)
       → Matches (leftBy left (tableBegun b (overlaid left area))) (beginAnswer m b (length (overlaid left area)) .model)
@@ -88,13 +88,13 @@ module _ {left : Table} {m : Model} (ok : Matches left m) where
   after-change : (c : Change) → IsChange c → (area : Table) (work : List Row)
       → Matches (leftBy left (tableChanged c (overlaid left area) work)) (changeAnswer m c (length (overlaid left area)) (length work) .model)
   unfolding changeAnswer tableAfterAdd tableAfterRemove tableAfterReadList addRefusalOf removeRefusalOf
-  after-change (add tag p) is area work =
+  after-change (add tag p day) is area work =
       let t = overlaid left area in
       let lendable = overlaid-lendable ok area in
-      by-refusal area _ _ (add-refusal m t work lendable tag p) _ _
+      by-refusal area _ _ (add-refusal m t work lendable tag p day) _ _
       (λ e.
-      let accepted = long-accepts (canChange m (length t) (length work)) (itemRefusal m tag p) e in
-      matches-added (changeable m t work lendable (accepted .0)) tag p (is .0) (is .1) (accepted .1))
+      let accepted = long-accepts (canChange m (length t) (length work)) (itemRefusal m tag p day) e in
+      matches-added (changeable m t work lendable (accepted .0)) tag p day (is .0) (is .1) (is .2) (accepted .1))
   after-change (remove tag) is area work =
       let t = overlaid left area in
       let lendable = overlaid-lendable ok area in
@@ -102,7 +102,7 @@ module _ {left : Table} {m : Model} (ok : Matches left m) where
       (λ e.
       let accepted = long-accepts (canChange m (length t) (length work)) (tagRefusal m tag) e in
       matches-removed (changeable m t work lendable (accepted .0)) tag (accepted .1))
-  after-change (readList list) is area work = by-lines area (reads m (overlaid left area) work (overlaid-lendable ok area) list)
+  after-change (readList list day) is area work = by-lines area (reads m (overlaid left area) work (overlaid-lendable ok area) list day (is .1))
 
   after-call : (c : Call) → IsCall c → (area : Table) (areas : Areas c)
       → Matches (leftBy left (tableAfter c (overlaid left area) areas)) (answer m c (length (overlaid left area)) (lengthsOf c areas) .model)

@@ -3,7 +3,7 @@
 use Prim.Native.Nat.{ℕ, zero, suc, _≤_}
 use mathlib.Core.Path.{_≡_, refl, sym, _∙_, ap, ap₂, subst}
 use mathlib.Core.Bool.{Bool, true, false, not, _&&_}
-use mathlib.Core.List.{List, [], _∷_, map, flatten, List·Permᴰ, List·Permᴰ·nil, List·Permᴰ·cons, List·Permᴰ·swap, List·Permᴰ·trans, List·Permᴰ·append-comm, Permᴰ·refl, Permᴰ·append-right, append-assoc}
+use mathlib.Core.List.{List, [], _∷_, _++_, map, flatten, List·Permᴰ, List·Permᴰ·nil, List·Permᴰ·cons, List·Permᴰ·swap, List·Permᴰ·trans, List·Permᴰ·append-comm, Permᴰ·refl, Permᴰ·append-right, append-assoc}
 use lib.Dec.{eqb}
 use lib.ListN.{length, set}
 use native.Mathlib.Omega.{arith}
@@ -11,7 +11,7 @@ use borrow.Author.Tests.{eqb-true, not-true}
 use Rattle.lists.specs.Lists.{select, every, distinct, All}
 use Rattle.lists.proofs.Lists.{all-weaken, all-perm, all-of-map, perm-both, perm-length, perm-of-eq}
 use Rattle.lists.proofs.Tests.{and-first, and-second, every-all}
-use Rattle.search_rules.proofs.Selecting.{select-none}
+use Rattle.search_rules.proofs.Selecting.{select-append, select-none}
 
 module _ {A : Type 0} (test : A → Bool) where
   pub select-yes : (x : A) (xs : List A) → test x ≡ true → select test (x ∷ xs) ≡ x ∷ select test xs
@@ -98,6 +98,12 @@ module _ {A : Type 0} (test : A → Bool) where
       go true true f e = select-yes x (select first xs) f ∙ ap (λ (l : List A). x ∷ l) e
       go true false f e = select-no x (select first xs) f ∙ e
       go false b f e = e
+
+  -- what each of some lists gives is what all of them give
+  pub select-flatten : {B : Type 0} (f : B → List A) (ks : List B) → flatten (map (λ k. select test (f k)) ks) ≡ select test (flatten (map f ks))
+  unfolding flatten
+  select-flatten f [] = sym (select-none test [] tt)
+  select-flatten f (k ∷ ks) = ap (λ (l : List A). select test (f k) ++ l) (select-flatten f ks) ∙ sym (select-append test (f k) (flatten (map f ks)))
 
   -- an image is selected where its element is
   pub select-map : {B : Type 0} (f : B → A) (xs : List B) → select test (map f xs) ≡ map f (select (λ x. test (f x)) xs)

@@ -21,7 +21,7 @@ use Rattle.table_rules.proofs.Views.{same-order, same-space, kept-built, kept-l
 use Rattle.image_rules.specs.Load.{fieldsPass}
 use Rattle.history.specs.Model.{Model, itemOf}
 use Rattle.history.specs.Represents.{itemsIn}
-use Rattle.history.proofs.Invariant.{Invariant}
+use Rattle.history.proofs.Invariant.{Weighed, Invariant}
 use Rattle.history.proofs.RefinesLists.{every-where}
 use Rattle.history.proofs.InvariantForms.{invariant-roomy}
 use Rattle.image_rules.proofs.EachBucket.{buckets-all}
@@ -93,6 +93,7 @@ module _ {t : Table} (invariant : Invariant t) (u : Table) (own : take (tableRow
         sizes = own-sizes ∙ invariant .sizes;
         marks = own-marks ∙ invariant .marks;
         fields = λ k l. ap (every fieldsPass) (own-slots k (within k l)) ∙ invariant .fields k (within k l);
+        days = λ k l. subst (All Weighed) (sym (own-slots k (within k l))) (invariant .days k (within k l));
         apart = λ k l. ap (λ (rows : List Row). distinct (map tagOf rows)) (own-slots k (within k l)) ∙ invariant .apart k (within k l);
         laid = λ k l.
             ap₂ (λ (space : Space) (rows : List Row). isLayout (distance space) rows) own-space (own-slots k (within k l)) ∙ invariant .laid k (within k l);

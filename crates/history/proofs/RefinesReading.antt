@@ -1,6 +1,6 @@
 -- A herd list read into a table and by the model at once: both stop at the same line for the same reason, or both take the same item in and go on (`Reads`).
 -- By the lines: each is an add, refused alike, and what an accepted add leaves matches the model again.
-use Prim.Native.Nat.{ℕ, zero, suc, _≤_}
+use Prim.Native.Nat.{ℕ, zero, suc, _^_, _≤_, _<_}
 use mathlib.Core.Path.{_≡_, refl, sym, _∙_, ap, subst}
 use mathlib.Core.Bool.{Bool, true, false}
 use mathlib.Core.Logic.{inl}
@@ -30,22 +30,22 @@ use Rattle.history.proofs.Changing.{matches-added}
 pub data Reads : Table → List Row → Model → Reading → ListAnswered → Type 0 where
   stops : {t : Table} {work : List Row} {m : Model} (refusal line : ℕ) → Reads t work m (stopped refusal line t work) (stopsAt m refusal line)
   takesIn :
-      {t : Table} {work : List Row} {m : Model} {r : Reading} {a : ListAnswered} (tag : ℕ) (p : Profile) → Matches t m → addRefusal t work tag p ≡ 0
-      → Matches (tableAfterAdd t work tag p) (with (record { tag = tag; profile = p }) m)
-      → Reads (tableAfterAdd t work tag p) (workAfterAdd t work tag p) (with (record { tag = tag; profile = p }) m) r a
-      → Reads t work m (oneMore (addReply t work tag p .distances) r) (oneMoreAdded a)
+      {t : Table} {work : List Row} {m : Model} {r : Reading} {a : ListAnswered} (tag : ℕ) (p : Profile) (day : ℕ) → Matches t m → addRefusal t work tag p day ≡ 0
+      → Matches (tableAfterAdd t work tag p day) (with (record { tag = tag; profile = p; day = day }) m)
+      → Reads (tableAfterAdd t work tag p day) (workAfterAdd t work tag p day) (with (record { tag = tag; profile = p; day = day }) m) r a
+      → Reads t work m (oneMore (addReply t work tag p day .distances) r) (oneMoreAdded a)
 
 -- an accepted add leaves room for the next line's
 cleared-room : (n : ℕ) (work : List Row) → n ≤ length (cleared zeroRow n work)
 unfolding cleared
 cleared-room n work = omega (arith, length-append (replicate n zeroRow) (drop n work), length-replicate n zeroRow)
 
-module _ (t : Table) (work : List Row) (tag : ℕ) (p : Profile) (e : addRefusal t work tag p ≡ 0) where
-  pub accepted-table : tableAfterAdd t work tag p ≡ added t tag p .table
+module _ (t : Table) (work : List Row) (tag : ℕ) (p : Profile) (day : ℕ) (e : addRefusal t work tag p day ≡ 0) where
+  pub accepted-table : tableAfterAdd t work tag p day ≡ added t tag p day .table
   unfolding tableAfterAdd
-  accepted-table = ap (λ (k : ℕ). elim k as (λ _. Table) [ zero ↦ added t tag p .table | suc j ↦ t ]) e
+  accepted-table = ap (λ (k : ℕ). elim k as (λ _. Table) [ zero ↦ added t tag p day .table | suc j ↦ t ]) e
 
-  accepted-work : workAfterAdd t work tag p ≡ cleared zeroRow (workRows (orderOf t)) work
+  accepted-work : workAfterAdd t work tag p day ≡ cleared zeroRow (workRows (orderOf t)) work
   unfolding workAfterAdd
   accepted-work = ap (λ (k : ℕ). elim k as (λ _. List Row) [ zero ↦ cleared zeroRow (workRows (orderOf t)) work | suc j ↦ work ]) e
 
@@ -57,60 +57,60 @@ can-go-on {t} {m} ok work roomy =
 
 -- the lines from one on, in areas that the model's lengths tell as long enough or not
 reads-lines :
-    (lines : List ListLine) → All LineFits lines → (t : Table) (work : List Row) (m : Model) (rows room i : ℕ) → Lendable t m
-    → canChange m (length t) (length work) ≡ canChange m rows room → Reads t work m (reading t work i lines) (linesAnswered m rows room i lines)
+    (day : ℕ) → day < 2 ^ 16 → (lines : List ListLine) → All LineFits lines → (t : Table) (work : List Row) (m : Model) (rows room i : ℕ) → Lendable t m
+    → canChange m (length t) (length work) ≡ canChange m rows room → Reads t work m (reading day t work i lines) (linesAnswered day m rows room i lines)
 unfolding reading linesAnswered addRefusalOf with canChange canRead
-reads-lines [] fit t work m rows room i lendable same = stops 0 0
-reads-lines (malformed ∷ lines) fit t work m rows room i lendable same = stops badListLine i
-reads-lines (anItem tag p ∷ lines) fit t work m rows room i lendable same =
-    subst (λ (k : ℕ). Reads t work m (read k) (answered (addRefusalOf m rows room tag p))) (sym alike)
-    (go (reads-lines lines (fit .1) u v after rows room (suc i)) (addRefusalOf m rows room tag p) refl)
+reads-lines day dayFits [] fit t work m rows room i lendable same = stops 0 0
+reads-lines day dayFits (malformed ∷ lines) fit t work m rows room i lendable same = stops badListLine i
+reads-lines day dayFits (anItem tag p ∷ lines) fit t work m rows room i lendable same =
+    subst (λ (k : ℕ). Reads t work m (read k) (answered (addRefusalOf m rows room tag p day))) (sym alike)
+    (go (reads-lines day dayFits lines (fit .1) u v after rows room (suc i)) (addRefusalOf m rows room tag p day) refl)
   where
     -- what the line's add leaves
     u : Table
-    u = tableAfterAdd t work tag p
+    u = tableAfterAdd t work tag p day
 
     v : List Row
-    v = workAfterAdd t work tag p
+    v = workAfterAdd t work tag p day
 
     after : Model
-    after = with (record { tag = tag; profile = p }) m
+    after = with (record { tag = tag; profile = p; day = day }) m
 
     read : ℕ → Reading
-    read k = elim k [ suc r ↦ stopped (suc r) i t work | zero ↦ oneMore (addReply t work tag p .distances) (reading u v (suc i) lines) ]
+    read k = elim k [ suc r ↦ stopped (suc r) i t work | zero ↦ oneMore (addReply t work tag p day .distances) (reading day u v (suc i) lines) ]
 
     answered : ℕ → ListAnswered
-    answered k = elim k [ suc r ↦ stopsAt m (suc r) i | zero ↦ oneMoreAdded (linesAnswered after rows room (suc i) lines) ]
+    answered k = elim k [ suc r ↦ stopsAt m (suc r) i | zero ↦ oneMoreAdded (linesAnswered day after rows room (suc i) lines) ]
 
-    alike : addRefusal t work tag p ≡ addRefusalOf m rows room tag p
-    alike = add-refusal m t work lendable tag p ∙ ap (λ (can : Bool). unless can shortArea (itemRefusal m tag p)) same
+    alike : addRefusal t work tag p day ≡ addRefusalOf m rows room tag p day
+    alike = add-refusal m t work lendable tag p day ∙ ap (λ (can : Bool). unless can shortArea (itemRefusal m tag p day)) same
 
     go :
-        (Lendable u after → canChange after (length u) (length v) ≡ canChange after rows room → Reads u v after (reading u v (suc i) lines) (linesAnswered after rows room (suc i) lines))
-        → (k : ℕ) → addRefusalOf m rows room tag p ≡ k → Reads t work m (read k) (answered k)
+        (Lendable u after → canChange after (length u) (length v) ≡ canChange after rows room → Reads u v after (reading day u v (suc i) lines) (linesAnswered day after rows room (suc i) lines))
+        → (k : ℕ) → addRefusalOf m rows room tag p day ≡ k → Reads t work m (read k) (answered k)
     go others (suc r) e = stops (suc r) i
     go others zero e =
-        let asked = long-accepts (canChange m rows room) (itemRefusal m tag p) e in
+        let asked = long-accepts (canChange m rows room) (itemRefusal m tag p day) e in
         let here : Matches t m = changeable m t work lendable (same ∙ asked .0) in
-        let accepted : addRefusal t work tag p ≡ 0 = alike ∙ e in
+        let accepted : addRefusal t work tag p day ≡ 0 = alike ∙ e in
         let next : Matches u after =
-        subst (λ (x : Table). Matches x after) (sym (accepted-table t work tag p accepted)) (matches-added here tag p (fit .0 .0) (fit .0 .1) (asked .1)) in
+        subst (λ (x : Table). Matches x after) (sym (accepted-table t work tag p day accepted)) (matches-added here tag p day (fit .0 .0) (fit .0 .1) dayFits (asked .1)) in
         let roomy : workRows (orderOf u) ≤ length v =
-        rw (accepted-work t work tag p accepted, next .order, sym (here .order)) (cleared-room (workRows (orderOf t)) work) in
-        takesIn tag p here accepted next (others (inl next) (can-go-on next v roomy ∙ sym (asked .0)))
+        rw (accepted-work t work tag p day accepted, next .order, sym (here .order)) (cleared-room (workRows (orderOf t)) work) in
+        takesIn tag p day here accepted next (others (inl next) (can-go-on next v roomy ∙ sym (asked .0)))
 
 -- the whole list
-pub reads : (m : Model) (t : Table) (work : List Row) → Lendable t m → (list : List ℕ)
-    → Reads t work m (listReading t work list) (listAnswered m (length t) (length work) list)
+pub reads : (m : Model) (t : Table) (work : List Row) → Lendable t m → (list : List ℕ) (day : ℕ) → day < 2 ^ 16
+    → Reads t work m (listReading t work list day) (listAnswered m (length t) (length work) list day)
 unfolding listReading listAnswered canChange canRead
-reads m t work lendable list = go (hasHeader list)
+reads m t work lendable list day dayFits = go (hasHeader list)
   where
     go : (b : Bool)
         → Reads t work m
-        (elim b as (λ _. Reading) [ false ↦ stopped badListHeader 1 t work | true ↦ reading t work 2 (itemLines list) ])
-        (elim b as (λ _. ListAnswered) [ false ↦ stopsAt m badListHeader 1 | true ↦ linesAnswered m (length t) (length work) 2 (itemLines list) ])
+        (elim b as (λ _. Reading) [ false ↦ stopped badListHeader 1 t work | true ↦ reading day t work 2 (itemLines list) ])
+        (elim b as (λ _. ListAnswered) [ false ↦ stopsAt m badListHeader 1 | true ↦ linesAnswered day m (length t) (length work) 2 (itemLines list) ])
     go false = stops badListHeader 1
-    go true = reads-lines (itemLines list) (lines-fit list) t work m (length t) (length work) 2 lendable refl
+    go true = reads-lines day dayFits (itemLines list) (lines-fit list) t work m (length t) (length work) 2 lendable refl
 
 -- both show the same
 pub record Alike (r : Reading) (a : ListAnswered) : Type 0 where
@@ -121,7 +121,7 @@ pub record Alike (r : Reading) (a : ListAnswered) : Type 0 where
 pub reads-alike : {t : Table} {work : List Row} {m : Model} {r : Reading} {a : ListAnswered} → Reads t work m r a → Alike r a
 unfolding stopped stopsAt oneMore oneMoreAdded
 reads-alike (stops refusal line) = record { refusal = refl; line = refl; added = refl }
-reads-alike (takesIn tag p here accepted next rest) =
+reads-alike (takesIn tag p day here accepted next rest) =
     let same = reads-alike rest in
     record { refusal = same .refusal; line = same .line; added = ap suc (same .added) }
 
@@ -129,9 +129,9 @@ reads-alike (takesIn tag p here accepted next rest) =
 pub reads-matches : {t : Table} {work : List Row} {m : Model} {r : Reading} {a : ListAnswered} → Reads t work m r a → Matches t m → Matches (r .table) (a .model)
 unfolding stopped stopsAt oneMore oneMoreAdded
 reads-matches (stops refusal line) ok = ok
-reads-matches (takesIn tag p here accepted next rest) ok = reads-matches rest next
+reads-matches (takesIn tag p day here accepted next rest) ok = reads-matches rest next
 
 pub reads-order : {t : Table} {work : List Row} {m : Model} {r : Reading} {a : ListAnswered} → Reads t work m r a → a .model .order ≡ m .order
 unfolding stopsAt oneMoreAdded with
 reads-order (stops refusal line) = refl
-reads-order (takesIn tag p here accepted next rest) = reads-order rest
+reads-order (takesIn tag p day here accepted next rest) = reads-order rest

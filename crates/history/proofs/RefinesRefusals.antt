@@ -13,10 +13,10 @@ use borrow.Author.Tests.{le-leb, lt-leb}
 use Rattle.lists.proofs.Tests.{and-first, and-second, and-pass}
 use Rattle.metric_rules.specs.declared.Profile.{Profile}
 use Rattle.metric_rules.specs.Row.{Row}
-use Rattle.metric_rules.specs.Validity.{validTag, validMeasures}
+use Rattle.metric_rules.specs.Validity.{validTag, validMeasures, validDay}
 use Rattle.metric_rules.specs.Distance.{validMetric, validWeights}
 use Rattle.search_rules.specs.Range.{Entry}
-use Rattle.table_rules.specs.Refusals.{badTag, badMeasure, noCount, noRoom, alreadyLive, notLive, full, shortArea, badTable, unless, when, orElse}
+use Rattle.table_rules.specs.Refusals.{badTag, badMeasure, badDay, noCount, noRoom, alreadyLive, notLive, full, shortArea, badTable, unless, when, orElse}
 use Rattle.table_rules.specs.Geometry.{validOrder, room, tableRows, workRows, firstSlot}
 use Rattle.table_rules.specs.Table.{Table, orderOf, tableSpace, builtOf, liveOf, liveTotal}
 use Rattle.table_rules.specs.Checks.{sizesPass, marksPass, frameRefusal, headerPasses, readRefusal, changeRefusal}
@@ -103,12 +103,19 @@ module _ {t : Table} {m : Model} (matches : Matches t m) where
   unfolding tagRefusal
   tag-alike tag = ap (λ (live : Bool). unless (validTag tag) badTag (unless live notLive 0)) (live-alike tag)
 
-  item-alike : (tag : ℕ) (p : Profile)
-      → unless (validTag tag) badTag (unless (validMeasures p) badMeasure (when (isLiveTag t tag) alreadyLive (when (leb (room (orderOf t)) (liveTotal t)) full 0)))
-      ≡ itemRefusal m tag p
+  -- what add asks of an item, by whether its tag is live and whether there is room
+  abbrev asksItem : ℕ → Profile → ℕ → Bool → Bool → ℕ
+  asksItem tag p day live isFull =
+      unless (validTag tag) badTag
+      (unless (validMeasures p) badMeasure
+      (unless (validDay day) badDay
+      (when live alreadyLive
+      (when isFull full
+      0))))
+
+  item-alike : (tag : ℕ) (p : Profile) (day : ℕ) → asksItem tag p day (isLiveTag t tag) (leb (room (orderOf t)) (liveTotal t)) ≡ itemRefusal m tag p day
   unfolding itemRefusal
-  item-alike tag p =
-      ap₂ (λ (live isFull : Bool). unless (validTag tag) badTag (unless (validMeasures p) badMeasure (when live alreadyLive (when isFull full 0)))) (live-alike tag) full-alike
+  item-alike tag p day = ap₂ (λ (live isFull : Bool). asksItem tag p day live isFull) (live-alike tag) full-alike
 
 -- a table as a call is lent it: it matches the model, or it is too short for its order
 abbrev pub Lendable : Table → Model → Type 0
@@ -158,10 +165,10 @@ module _ (m : Model) (t : Table) where
         (short-frame t m short)
         ∙ ap (λ (b : Bool). unless (b && leb (workRows (m .order)) (length work)) shortArea 0) (sym (cannot-read short))
 
-    pub add-refusal : Lendable t m → (tag : ℕ) (p : Profile) → addRefusal t work tag p ≡ addRefusalOf m (length t) (length work) tag p
+    pub add-refusal : Lendable t m → (tag : ℕ) (p : Profile) (day : ℕ) → addRefusal t work tag p day ≡ addRefusalOf m (length t) (length work) tag p day
     unfolding addRefusal addRefusalOf
-    add-refusal lendable tag p =
-        stopped (changeRefusal (length work) t) _ _ (itemRefusal m tag p) (change-refusal lendable) (λ e. item-alike (changeable lendable e) tag p)
+    add-refusal lendable tag p day =
+        stopped (changeRefusal (length work) t) _ _ (itemRefusal m tag p day) (change-refusal lendable) (λ e. item-alike (changeable lendable e) tag p day)
 
     pub remove-refusal : Lendable t m → (tag : ℕ) → removeRefusal t work tag ≡ removeRefusalOf m (length t) (length work) tag
     unfolding removeRefusal removeRefusalOf
@@ -173,14 +180,14 @@ module _ (m : Model) (t : Table) where
     unfolding lookUpRefusal askRefusal questionRefusal
     look-up-refusal tag = stopped (readRefusal t) _ _ (tagRefusal m tag) (read-refusal lendable) (λ e. tag-alike (readable lendable e) tag)
 
-    pub range-refusal : (q : Profile) (r : ℕ) (result : List Entry) → rangeRefusal t result q r ≡ askRefusal m (range q r) (length t) (length result)
+    pub range-refusal : (q : Profile) (r firstDay : ℕ) (result : List Entry) → rangeRefusal t result q r firstDay ≡ askRefusal m (range q r firstDay) (length t) (length result)
     unfolding rangeRefusal fitRefusal askRefusal questionRefusal fits
-    range-refusal q r result =
+    range-refusal q r firstDay result =
         stopped (readRefusal t) _ _ _ (read-refusal lendable)
-        (λ e. ap (λ (es : List Entry). unless (validMeasures q) badMeasure (unless (leb (length es) (length result)) noRoom 0)) (range-alike (readable lendable e) q r))
+        (λ e. ap (λ (es : List Entry). unless (validMeasures q) badMeasure (unless (leb (length es) (length result)) noRoom 0)) (range-alike (readable lendable e) q r firstDay))
 
-    pub nearest-refusal : (q : Profile) (k : ℕ) (result : List Entry) → nearestRefusal t result q k ≡ askRefusal m (nearest q k) (length t) (length result)
+    pub nearest-refusal : (q : Profile) (k firstDay : ℕ) (result : List Entry) → nearestRefusal t result q k firstDay ≡ askRefusal m (nearest q k firstDay) (length t) (length result)
     unfolding nearestRefusal fitRefusal askRefusal questionRefusal fits
-    nearest-refusal q k result =
+    nearest-refusal q k firstDay result =
         stopped (readRefusal t) _ _ _ (read-refusal lendable)
-        (λ e. ap (λ (es : List Entry). unless (validMeasures q) badMeasure (when (eqb k 0) noCount (unless (leb (length es) (length result)) noRoom 0))) (nearest-alike (readable lendable e) q k))
+        (λ e. ap (λ (es : List Entry). unless (validMeasures q) badMeasure (when (eqb k 0) noCount (unless (leb (length es) (length result)) noRoom 0))) (nearest-alike (readable lendable e) q k firstDay))

@@ -75,6 +75,6 @@ module _ {t : Table} {m : Model} (ok : Matches t m) where
         once = tags-once;
         oneBucket =
             all-every (λ i. eqb (length (bucketsWith t (i .tag))) 1) (m .items) (all-weaken one-bucket (m .items) (select-own (λ i. i .tag) [] (m .items)));
-        range = λ q r h. range-alike ok q r;
-        nearest = λ q k h. nearest-alike ok q k;
+        range = λ q r firstDay h. range-alike ok q r firstDay;
+        nearest = λ q k firstDay h. nearest-alike ok q k firstDay;
       }

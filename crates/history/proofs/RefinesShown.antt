@@ -1,4 +1,4 @@
--- At every call a table that matches the model, or is too short for its order, shows what the model shows: refusal, profile, number found, entries, and a herd
+-- At every call a table that matches the model, or is too short for its order, shows what the model shows: refusal, profile and day, number found, entries, and a herd
 -- list's line and number added. Each call by its refusal, which is the model's; an accepted look up has found the item, an accepted search shows its entries and no
 -- zeros, and a herd list goes as the model's.
 use Prim.Native.Nat.{ℕ, zero, suc, _-_}
@@ -9,7 +9,7 @@ use mathlib.Core.Option.{Option, none, some}
 use lib.ListN.{length, take, replicate}
 use lib.Seq.{take-append-seam}
 use native.Mathlib.Omega.{arith}
-use Rattle.metric_rules.specs.Row.{Row, profileOf}
+use Rattle.metric_rules.specs.Row.{Row, profileOf, dayOf}
 use Rattle.metric_rules.specs.Validity.{validTag}
 use Rattle.search_rules.specs.Range.{Entry}
 use Rattle.table_rules.specs.declared.Added.{Added}
@@ -19,7 +19,7 @@ use Rattle.table_rules.specs.Refusals.{badTag, notLive, unless}
 use Rattle.table_rules.specs.Table.{Table}
 use Rattle.table_rules.specs.Add.{addRefusal, addReply}
 use Rattle.table_rules.specs.Remove.{removeRefusal, removeReply}
-use Rattle.table_rules.specs.LookUp.{Place, find, notFound, lookUpReply}
+use Rattle.table_rules.specs.LookUp.{Place, find, noProfile, notFound, lookUpReply}
 use Rattle.table_rules.specs.Search.{Answer, rangeAnswer, nearestAnswer, rangeRefusal, nearestRefusal, searchReply, zeroEntry, resultAfter, rangeReply, resultAfterRange, nearestReply, resultAfterNearest}
 use Rattle.list_rules.specs.ReadList.{readListReply}
 use Rattle.call_rules.specs.Calls.{Change, changeReply, Ask, AskAreas, askReply, areasAnswered, Call, Areas, replyTo, areasAfter}
@@ -27,8 +27,9 @@ use Rattle.call_rules.specs.Calls.Change.{add, remove, readList}
 use Rattle.call_rules.specs.Calls.Ask.{lookUp, range, nearest}
 use Rattle.call_rules.specs.Calls.Call.{begin, change, ask, write}
 use Rattle.history.specs.Trace.{zeroed, shows, changeShown, askShown, shown}
-use Rattle.history.specs.Trace.Payload.{bare, aProfile, someEntries, aListRead}
-use Rattle.history.specs.Model.{Item, itemOf, Model, AskLengths, askLengths, lengthsOf, withTag, isIn, profileIn, modelRange, modelNearest, canRead, tagRefusal, questionRefusal, askRefusal, found, answerTo, showsUnless, beginAnswer, changeAnswer, answer}
+use Rattle.history.specs.Trace.Payload.{bare, aWeighing, someEntries, aListRead}
+use Rattle.history.specs.Model.{Item, itemOf, Model, AskLengths, askLengths, lengthsOf, withTag, isIn, weighedIn, modelRange, modelNearest, canRead, tagRefusal, questionRefusal, askRefusal, found, answerTo, showsUnless, beginAnswer, changeAnswer, answer}
+use Rattle.history.specs.History.{IsChange, IsCall}
 use Rattle.history.proofs.RefinesFinding.{rowFound}
 use Rattle.history.proofs.RefinesItems.{Matches, range-alike, nearest-alike, found-items}
 use Rattle.history.proofs.RefinesRefusals.{Lendable, readable, long-accepts, add-refusal, remove-refusal, look-up-refusal, range-refusal, nearest-refusal}
@@ -43,18 +44,24 @@ shows-found zero area a es e =
     ∙ ap (λ (l : List Entry). shows 0 (someEntries (length l) l)) (e refl)
 shows-found (suc n) area a es e = refl
 
--- a look up shows the profile of what it found, where it is accepted and so has found something
-shows-profile : (n : ℕ) (o : Option Place) (is : List Item) → (n ≡ 0 → (map itemOf (rowFound o) ≡ is) × (is ≡ [] → ⊥)) → (reply : LookedUp)
+-- a refused look up shows zeros, whatever it would have found
+zeroed-weighing : (is : List Item) → zeroed (weighedIn is) ≡ aWeighing noProfile 0
+unfolding zeroed weighedIn
+zeroed-weighing [] = refl
+zeroed-weighing (i ∷ is) = refl
+
+-- a look up shows the profile and the day of what it found, where it is accepted and so has found something
+shows-weighing : (n : ℕ) (o : Option Place) (is : List Item) → (n ≡ 0 → (map itemOf (rowFound o) ≡ is) × (is ≡ [] → ⊥)) → (reply : LookedUp)
     → reply ≡ elim n [
       | suc j ↦ notFound (suc j)
-      | zero ↦ elim o [ some place ↦ record { refusal = 0; bucket = place .bucket; profile = profileOf (place .row) } | none ↦ notFound notLive ]
+      | zero ↦ elim o [ some place ↦ record { refusal = 0; bucket = place .bucket; profile = profileOf (place .row); day = dayOf (place .row) } | none ↦ notFound notLive ]
     ]
-    → shows (reply .refusal) (aProfile (reply .profile)) ≡ showsUnless n (aProfile (profileIn is))
-unfolding notFound showsUnless zeroed profileIn itemOf
-shows-profile (suc n) o is e reply f = ap (λ (l : LookedUp). shows (l .refusal) (aProfile (l .profile))) f
-shows-profile zero none is e reply f = absurd (e refl .1 (sym (e refl .0)))
-shows-profile zero (some place) is e reply f =
-    ap (λ (l : LookedUp). shows (l .refusal) (aProfile (l .profile))) f ∙ ap (λ (js : List Item). shows 0 (aProfile (profileIn js))) (e refl .0)
+    → shows (reply .refusal) (aWeighing (reply .profile) (reply .day)) ≡ showsUnless n (weighedIn is)
+unfolding notFound showsUnless weighedIn itemOf
+shows-weighing (suc n) o is e reply f = ap (λ (l : LookedUp). shows (l .refusal) (aWeighing (l .profile) (l .day))) f ∙ ap (shows (suc n)) (sym (zeroed-weighing is))
+shows-weighing zero none is e reply f = absurd (e refl .1 (sym (e refl .0)))
+shows-weighing zero (some place) is e reply f =
+    ap (λ (l : LookedUp). shows (l .refusal) (aWeighing (l .profile) (l .day))) f ∙ ap (λ (js : List Item). shows 0 (weighedIn js)) (e refl .0)
 
 -- an accepted tag is there
 tag-there : (m : Model) (tag : ℕ) → tagRefusal m tag ≡ 0 → withTag tag (m .items) ≡ [] → ⊥
@@ -83,14 +90,14 @@ remove-number (suc n) distances = refl
 
 module _ (m : Model) (t : Table) (lendable : Lendable t m) where
   -- each change
-  change-shown : (c : Change) (work : List Row) → changeShown c (changeReply c t work) ≡ changeAnswer m c (length t) (length work) .shows
+  change-shown : (c : Change) → IsChange c → (work : List Row) → changeShown c (changeReply c t work) ≡ changeAnswer m c (length t) (length work) .shows
   unfolding changeShown changeAnswer addReply removeReply readListReply
-  change-shown (add tag p) work =
-      ap (λ (n : ℕ). shows n bare) (add-number (addRefusal t work tag p) _ _ ∙ add-refusal m t work lendable tag p)
-  change-shown (remove tag) work =
+  change-shown (add tag p day) is work =
+      ap (λ (n : ℕ). shows n bare) (add-number (addRefusal t work tag p day) _ _ ∙ add-refusal m t work lendable tag p day)
+  change-shown (remove tag) is work =
       ap (λ (n : ℕ). shows n bare) (remove-number (removeRefusal t work tag) _ ∙ remove-refusal m t work lendable tag)
-  change-shown (readList list) work =
-      let alike = reads-alike (reads m t work lendable list) in
+  change-shown (readList list day) is work =
+      let alike = reads-alike (reads m t work lendable list day (is .1)) in
       ap₂ shows (alike .refusal) (ap₂ aListRead (alike .line) (alike .added))
 
   -- an accepted question is asked of a table that matches the model
@@ -114,24 +121,24 @@ module _ (m : Model) (t : Table) (lendable : Lendable t m) where
       → askShown q (askReply q t areas) (areasAnswered q t areas) ≡ showsUnless (askRefusal m q (length t) (askLengths q areas)) (answerTo m q)
   unfolding askShown answerTo rangeReply resultAfterRange nearestReply resultAfterNearest lookUpReply
   ask-shown (lookUp tag) areas =
-      shows-profile (askRefusal m (lookUp tag) (length t) tt) (find t tag) (withTag tag (m .items))
+      shows-weighing (askRefusal m (lookUp tag) (length t) tt) (find t tag) (withTag tag (m .items))
       (λ e. (found-items (accepted-ask (lookUp tag) tt e) tag, tag-there m tag (asked-tag tag e)))
       (lookUpReply t tag)
       (ap (λ (n : ℕ). elim n as (λ _. LookedUp) [
         | suc j ↦ notFound (suc j)
-        | zero ↦ elim (find t tag) [ some place ↦ record { refusal = 0; bucket = place .bucket; profile = profileOf (place .row) } | none ↦ notFound notLive ]
+        | zero ↦ elim (find t tag) [ some place ↦ record { refusal = 0; bucket = place .bucket; profile = profileOf (place .row); day = dayOf (place .row) } | none ↦ notFound notLive ]
       ]) (look-up-refusal m t lendable tag))
-  ask-shown (range q r) result =
-      found-shown (range q r) (length result) (rangeRefusal t result q r) result (rangeAnswer t q r) (modelRange m q r) (range-refusal m t lendable q r result)
-      (λ ok. range-alike ok q r)
-  ask-shown (nearest q k) result =
-      found-shown (nearest q k) (length result) (nearestRefusal t result q k) result (nearestAnswer t q k) (modelNearest m q k) (nearest-refusal m t lendable q k result)
-      (λ ok. nearest-alike ok q k)
+  ask-shown (range q r firstDay) result =
+      found-shown (range q r firstDay) (length result) (rangeRefusal t result q r firstDay) result (rangeAnswer t q r firstDay) (modelRange m q r firstDay) (range-refusal m t lendable q r firstDay result)
+      (λ ok. range-alike ok q r firstDay)
+  ask-shown (nearest q k firstDay) result =
+      found-shown (nearest q k firstDay) (length result) (nearestRefusal t result q k firstDay) result (nearestAnswer t q k firstDay) (modelNearest m q k firstDay) (nearest-refusal m t lendable q k firstDay result)
+      (λ ok. nearest-alike ok q k firstDay)
 
   -- what each call shows; a call that begins a table reads nothing of it but its length
-  pub shown-alike : (c : Call) (areas : Areas c) → shown c (replyTo c t areas) (areasAfter c t areas) ≡ answer m c (length t) (lengthsOf c areas) .shows
+  pub shown-alike : (c : Call) → IsCall c → (areas : Areas c) → shown c (replyTo c t areas) (areasAfter c t areas) ≡ answer m c (length t) (lengthsOf c areas) .shows
   unfolding shown answer beginAnswer
-  shown-alike (begin b) areas = refl
-  shown-alike (change c) work = change-shown c work
-  shown-alike (ask q) areas = ask-shown q areas
-  shown-alike write image = refl
+  shown-alike (begin b) is areas = refl
+  shown-alike (change c) is work = change-shown c is work
+  shown-alike (ask q) is areas = ask-shown q areas
+  shown-alike write is image = refl

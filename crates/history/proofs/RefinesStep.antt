@@ -16,6 +16,7 @@ use Rattle.table_rules.specs.Table.{Table, rowAt, orderOf}
 use Rattle.table_rules.proofs.Views.{SameHeader, same-order, same-space}
 use Rattle.history.specs.Trace.{Step, State, overlaid, shownAt}
 use Rattle.history.specs.Model.{Model, lengthsOf, answer, answerAt}
+use Rattle.history.specs.History.{IsCall}
 use Rattle.history.proofs.RefinesItems.{Matches}
 use Rattle.history.proofs.RefinesRefusals.{Lendable, rows-some}
 use Rattle.history.proofs.RefinesShown.{shown-alike}
@@ -58,8 +59,8 @@ overlaid-lendable {left} {m} ok area =
     ]
 
 -- what a call shows
-pub step-shown : (state : State) (m : Model) → Matches (state .table) m → (s : Step) → shownAt state s ≡ answerAt m s .shows
+pub step-shown : (state : State) (m : Model) → Matches (state .table) m → (s : Step) → IsCall (s .call) → shownAt state s ≡ answerAt m s .shows
 unfolding shownAt answerAt
-step-shown state m ok s =
-    shown-alike m (overlaid (state .table) (s .table)) (overlaid-lendable ok (s .table)) (s .call) (s .areas)
+step-shown state m ok s is =
+    shown-alike m (overlaid (state .table) (s .table)) (overlaid-lendable ok (s .table)) (s .call) is (s .areas)
     ∙ ap (λ (rows : ℕ). answer m (s .call) rows (lengthsOf (s .call) (s .areas)) .shows) (overlaid-length (state .table) (s .table))

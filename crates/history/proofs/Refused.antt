@@ -19,8 +19,8 @@ use Rattle.history.proofs.Running.{fresh, load, add, remove, readList, 
 laid : Table
 unfolding rowOf tag valued zeroRow pairRow
 laid =
-    ((2 ∷ 0 ∷ 1 ∷ 1 ∷ 1 ∷ 1 ∷ replicate 6 0) ∷ zeroRow ∷ zeroRow ∷ pairRow 4 4 ∷ zeroRow ∷ zeroRow ∷ zeroRow ∷ [])
-    ++ (rowOf (tag 1) (valued 10) 3 0 ∷ rowOf (tag 2) (valued 13) 0 0 ∷ rowOf (tag 3) (valued 13) 0 0 ∷ rowOf (tag 4) (valued 20) 0 0 ∷ [])
+    ((2 ∷ 0 ∷ 1 ∷ 1 ∷ 1 ∷ 1 ∷ replicate 7 0) ∷ zeroRow ∷ zeroRow ∷ pairRow 4 4 ∷ zeroRow ∷ zeroRow ∷ zeroRow ∷ [])
+    ++ (rowOf (tag 1) (valued 10) 3 0 1 ∷ rowOf (tag 2) (valued 13) 0 0 1 ∷ rowOf (tag 3) (valued 13) 0 0 1 ∷ rowOf (tag 4) (valued 20) 0 0 1 ∷ [])
     ++ replicate 10 (replicate rowWidth 6)
 
 table-laid : table ≡ laid
@@ -67,7 +67,7 @@ noRemove : ℕ → List ℕ
 noRemove n = n ∷ 0 ∷ []
 
 noProfile : ℕ → List ℕ
-noProfile n = n ∷ 0 ∷ []
+noProfile n = n ∷ 0 ∷ 0 ∷ []
 
 noSearch : ℕ → List ℕ
 noSearch n = n ∷ 0 ∷ 0 ∷ []
@@ -89,7 +89,7 @@ headed order metric = set laid 0 (pairRow order metric)
 
 weighted : ℕ → ℕ → Table
 unfolding laid
-weighted metric most = set laid 0 (2 ∷ metric ∷ 0 ∷ 1 ∷ 100 ∷ most ∷ replicate 6 0)
+weighted metric most = set laid 0 (2 ∷ metric ∷ 0 ∷ 1 ∷ 100 ∷ most ∷ replicate 7 0)
 
 sized : ℕ → ℕ → ℕ → Table
 unfolding putSizes laid
@@ -99,61 +99,75 @@ misMarked : Table
 unfolding withMark rowAt firstSlot laid
 misMarked = let at = firstSlot 2 2 + 1 in set laid at (withMark 2 (rowAt laid at))
 
+-- an image of order 0 and metric 0 in form 1 or 2, with weights 1 and one live item of these bytes
+oneRecord : ℕ → List ℕ → List ℕ
+oneRecord form bytes = (0 ∷ 0 ∷ form ∷ 0 ∷ 1 ∷ 1 ∷ 1 ∷ 1 ∷ 1 ∷ 0 ∷ 1 ∷ 0 ∷ []) ++ bytes
+
 tries : List Try
-unfolding on laid tag valued below headed weighted sized misMarked listOf itemLine
+unfolding on laid tag valued below headed weighted sized misMarked oneRecord listOf itemLine
 tries =
-    on laid (add (10 ^ 12) (valued 1_000_001))
-    ∷ on laid (add 999_999_999_999 (valued 1_000_001))
+    on laid (add (10 ^ 12) (valued 1_000_001) 1)
+    ∷ on laid (add 999_999_999_999 (valued 1_000_001) 0)
     ∷ on laid (remove (10 ^ 15))
     ∷ on laid (lookUp 0)
-    ∷ on laid (add (tag 4) below)
-    ∷ on laid (range below 0)
-    ∷ on laid (nearest below 0)
+    ∷ on laid (add (tag 4) below 0)
+    ∷ on laid (range below 0 0)
+    ∷ on laid (nearest below 0 0)
     ∷ on laid (fresh 13 (by 3))
     ∷ on laid (fresh 12 (weighing 3 (101 ∷ 0 ∷ 0 ∷ 0 ∷ [])))
     ∷ on laid (fresh 12 (weighing 1 (0 ∷ 100 ∷ 0 ∷ 101 ∷ [])))
     ∷ on laid (fresh 12 (weighing 1 (0 ∷ 100 ∷ 0 ∷ 100 ∷ [])))
-    ∷ on laid (nearest (valued 0) 0)
+    ∷ on laid (nearest (valued 0) 0 0)
     ∷ on laid write
     ∷ on laid (load (0 ∷ 0 ∷ 0 ∷ []))
-    ∷ on laid (load (13 ∷ 3 ∷ 2 ∷ 0 ∷ []))
-    ∷ on laid (load (0 ∷ 3 ∷ 2 ∷ 0 ∷ []))
-    ∷ on laid (load (0 ∷ 2 ∷ 2 ∷ 0 ∷ []))
+    ∷ on laid (load (13 ∷ 3 ∷ 3 ∷ 0 ∷ []))
+    ∷ on laid (load (0 ∷ 3 ∷ 3 ∷ 0 ∷ []))
+    ∷ on laid (load (0 ∷ 2 ∷ 3 ∷ 0 ∷ []))
     ∷ on laid (load (0 ∷ 2 ∷ 0 ∷ 1 ∷ []))
     ∷ on laid (load (0 ∷ 2 ∷ 1 ∷ 0 ∷ 101 ∷ 0 ∷ 0 ∷ []))
+    ∷ on laid (load (0 ∷ 2 ∷ 2 ∷ 0 ∷ 101 ∷ 0 ∷ 0 ∷ []))
     ∷ on laid (load (0 ∷ 1 ∷ 1 ∷ 0 ∷ 0 ∷ 0 ∷ 0 ∷ 101 ∷ []))
+    ∷ on laid (load (0 ∷ 1 ∷ 2 ∷ 0 ∷ 0 ∷ 0 ∷ 0 ∷ 101 ∷ []))
     ∷ on laid (load (0 ∷ 1 ∷ 1 ∷ 0 ∷ 100 ∷ 100 ∷ 100 ∷ 100 ∷ []))
     ∷ on laid (load (0 ∷ 0 ∷ 0 ∷ 0 ∷ 1 ∷ 0 ∷ 0 ∷ []))
     ∷ on laid (load (0 ∷ 0 ∷ 0 ∷ 0 ∷ 1 ∷ 0 ∷ 0 ∷ 0 ∷ []))
     ∷ on laid (load (0 ∷ 0 ∷ 0 ∷ 0 ∷ 1 ∷ 0 ∷ 1 ∷ 0 ∷ []))
     ∷ on [] (load (0 ∷ 0 ∷ 0 ∷ 0 ∷ 0 ∷ 0 ∷ 0 ∷ 0 ∷ []))
     ∷ on laid (load (0 ∷ 0 ∷ 0 ∷ 0 ∷ 1 ∷ 0 ∷ 1 ∷ 0 ∷ replicate 48 0))
-    ∷ on laid (add (tag 4) (valued 0))
+    ∷ on laid (load (oneRecord 1 (replicate 48 0)))
+    ∷ on laid (load (oneRecord 2 (replicate 48 0)))
+    ∷ on [] (load (oneRecord 2 (replicate 50 0)))
+    ∷ on laid (load (oneRecord 2 (replicate 50 0)))
+    ∷ on laid (load (oneRecord 2 (replicate 49 0 ++ (1 ∷ []))))
+    ∷ on laid (add (tag 4) (valued 0) 0)
+    ∷ on laid (add (tag 4) (valued 0) 1)
     ∷ on laid (remove (tag 5))
     ∷ on laid (lookUp (tag 5))
-    ∷ on laid (add (tag 5) (valued 0))
-    ∷ on [] (add 0 below)
+    ∷ on laid (add (tag 5) (valued 0) 1)
+    ∷ on [] (add 0 below 0)
     ∷ on (take 10 laid) (lookUp 0)
     ∷ on (take 10 laid) (fresh 2 (by 0))
-    ∷ record { call = add (tag 5) (valued 0); table = laid; areas = replicate 3 (replicate rowWidth 7) }
+    ∷ record { call = add (tag 5) (valued 0) 1; table = laid; areas = replicate 3 (replicate rowWidth 7) }
     ∷ on (take 1 (headed 13 0)) (remove 0)
-    ∷ on (headed 2 3) (range below 0)
-    ∷ on (headed 2 2) (range below 0)
+    ∷ on (headed 2 3) (range below 0 0)
+    ∷ on (headed 2 2) (range below 0 0)
     ∷ on (take 10 (weighted 1 101)) (lookUp 0)
     ∷ on (weighted 1 101) (lookUp 0)
     ∷ on (weighted 1 100) (lookUp 0)
-    ∷ on (weighted 0 4_294_967_295) (add 0 below)
+    ∷ on (weighted 0 4_294_967_295) (add 0 below 0)
     ∷ on (sized 2 4 1) (lookUp 0)
     ∷ on (sized 0 1 1) write
-    ∷ on misMarked (add 0 below)
-    ∷ on [] (readList (take 21 (listOf [])))
-    ∷ on [] (readList (listOf []))
-    ∷ on [] (readList (listOf (take 39 (itemLine 5 0) ∷ [])))
-    ∷ on [] (readList (listOf (itemLine 5 0 ∷ [])))
-    ∷ on laid (readList (listOf (set (set (itemLine 5 0) 1 48) 2 48 ∷ [])))
-    ∷ on laid (readList (listOf (itemLine 4 1_000_001 ∷ [])))
-    ∷ on laid (readList (listOf (itemLine 4 1_000_000 ∷ [])))
-    ∷ on laid (readList (listOf (itemLine 5 0 ∷ [])))
+    ∷ on misMarked (add 0 below 0)
+    ∷ on [] (readList (take 21 (listOf [])) 0)
+    ∷ on [] (readList (listOf []) 1)
+    ∷ on [] (readList (listOf []) 0)
+    ∷ on [] (readList (listOf (take 39 (itemLine 5 0) ∷ [])) 0)
+    ∷ on [] (readList (listOf (itemLine 5 0 ∷ [])) 0)
+    ∷ on laid (readList (listOf (set (set (itemLine 5 0) 1 48) 2 48 ∷ [])) 0)
+    ∷ on laid (readList (listOf (itemLine 4 1_000_001 ∷ [])) 0)
+    ∷ on laid (readList (listOf (itemLine 4 1_000_000 ∷ [])) 0)
+    ∷ on laid (readList (listOf (itemLine 4 1_000_000 ∷ [])) 1)
+    ∷ on laid (readList (listOf (itemLine 5 0 ∷ [])) 65_535)
     ∷ []
 
 -- in the order of the tries: the first number that applies
@@ -179,6 +193,8 @@ expected =
     ∷ number 8
     ∷ number 8
     ∷ number 7
+    ∷ number 7
+    ∷ number 32
     ∷ number 32
     ∷ number 7
     ∷ number 7
@@ -186,6 +202,12 @@ expected =
     ∷ number 7
     ∷ number 23
     ∷ number 8
+    ∷ number 8
+    ∷ number 7
+    ∷ number 23
+    ∷ number 33
+    ∷ number 8
+    ∷ noAdd 33
     ∷ noAdd 20
     ∷ noRemove 21
     ∷ noProfile 21
@@ -206,10 +228,12 @@ expected =
     ∷ noAdd 24
     ∷ noList 30 1
     ∷ noList 0 0
+    ∷ noList 0 0
     ∷ noList 31 2
     ∷ noList 23 2
     ∷ noList 1 2
     ∷ noList 2 2
+    ∷ noList 33 2
     ∷ noList 20 2
     ∷ noList 22 2
     ∷ []
@@ -218,7 +242,7 @@ unchanged : outcomes tries ≡ refusals expected tries
 unfolding outcomes refusals tries expected
 unchanged = refl
 
--- a refused look up has no profile either
+-- a refused look up has no profile and no day either
 profiles : map (lookUpReply laid) (0 ∷ tag 5 ∷ []) ≡ notFound 1 ∷ notFound 21 ∷ []
 unfolding performed laid tag
 profiles = refl
@@ -230,8 +254,8 @@ emptied = record { reply = noSearch 6; table = laid; areas = (0 ∷ 0 ∷ []) �
 
 zeroed :
     outcomes
-    (record { call = range (valued 0) 99; table = laid; areas = (8 ∷ 8 ∷ []) ∷ [] }
-    ∷ record { call = nearest (valued 0) 2; table = laid; areas = (8 ∷ 8 ∷ []) ∷ [] }
+    (record { call = range (valued 0) 99 0; table = laid; areas = (8 ∷ 8 ∷ []) ∷ [] }
+    ∷ record { call = nearest (valued 0) 2 0; table = laid; areas = (8 ∷ 8 ∷ []) ∷ [] }
     ∷ [])
     ≡ emptied ∷ emptied ∷ []
 unfolding outcomes valued emptied

@@ -1,10 +1,10 @@
--- Removals worked by hand from RULES 9: each case at k = 2 and at k = 3, and the buckets after it. Each is a run that antt computes.
+-- Removals worked by hand from RULES 9: each case at k = 2 and at k = 3, and the buckets and the days after it. Each is a run that antt computes.
 -- A reply is refusal, distances; a bucket's contents are its sizes and then each slot's tag, threshold and mark.
 use Prim.Native.Nat.{ℕ}
 use mathlib.Core.Path.{_≡_, refl}
 use mathlib.Core.List.{List, [], _∷_, _++_}
 use Rattle.table_rules.specs.Table.{Table}
-use Rattle.history.proofs.Running.{fresh, by, tag, scratch, replies, after, contents, adding, removing, table}
+use Rattle.history.proofs.Running.{fresh, add, remove, by, tag, valued, scratch, replies, after, contents, days, adding, removing, table, dated}
 
 -- order 2, the four items less 3 and 4, and then 5 and 6 (values 5 and 6) in bucket 1
 paired : Table
@@ -90,3 +90,17 @@ worked :
     ∷ [])
 unfolding cases tag
 worked = refl
+
+-- the day stays with its item: 4 marked dead; 1 moved to bucket 0; 5, of day 9, built in bucket 1 with 1
+daysAfter : List (List ℕ)
+unfolding after days dated removing tag valued
+daysAfter =
+    days dated 2
+    ∷ days (after dated (removing (4 ∷ []))) 2
+    ∷ days (after dated (removing (4 ∷ 3 ∷ 2 ∷ []))) 0
+    ∷ days (after dated (remove (tag 4) ∷ add (tag 5) (valued 11) 9 ∷ removing (3 ∷ 2 ∷ []))) 1
+    ∷ []
+
+daysStay : daysAfter ≡ (5 ∷ 65_535 ∷ 4 ∷ 3 ∷ []) ∷ (5 ∷ 65_535 ∷ 4 ∷ 3 ∷ []) ∷ (5 ∷ []) ∷ (5 ∷ 9 ∷ []) ∷ []
+unfolding daysAfter
+daysStay = refl

@@ -50,27 +50,27 @@ parts t (k ∷ ks) =
     (omega (arith, sum), all-weaken (λ j h. omega (arith, sum, h)) ks (parts t ks))
 
 -- an accepted add
-module _ (t : Table) (work : List Row) (tag : ℕ) (p : Profile) (accepted : addRefusal t work tag p ≡ 0) where
+module _ (t : Table) (work : List Row) (tag : ℕ) (p : Profile) (day : ℕ) (accepted : addRefusal t work tag p day ≡ 0) where
   allowed : Changeable work t
-  allowed = changeable work t (add-accepted t work tag p accepted .0)
+  allowed = changeable work t (add-accepted t work tag p day accepted .0)
 
-  target : Target t (countFrom 0 (lowestEmpty t)) (addTarget t tag p) (length (gathered t tag p))
-  target = add-fits t work tag p accepted
+  target : Target t (countFrom 0 (lowestEmpty t)) (addTarget t tag p day) (length (gathered t tag p day))
+  target = add-fits t work tag p day accepted
 
   -- the new item is one more than any of the buckets gathered had
-  one-more : liveOf t (addTarget t tag p) < length (gathered t tag p)
+  one-more : liveOf t (addTarget t tag p day) < length (gathered t tag p day)
   unfolding gathered
   one-more =
       let ks : List ℕ = countFrom 0 (lowestEmpty t) in
-      let lives = allowed .lives (addTarget t tag p) (target .reached) in
-      elim (apart-or (λ j. length (liveSlots t j) ≤ length (liveItems t ks)) (addTarget t tag p) ks (parts t ks)) [
+      let lives = allowed .lives (addTarget t tag p day) (target .reached) in
+      elim (apart-or (λ j. length (liveSlots t j) ≤ length (liveItems t ks)) (addTarget t tag p day) ks (parts t ks)) [
         | inl a ↦ omega (arith, lives, ap length (target .vacant a))
         | inr part ↦ omega (arith, lives, part)
       ]
 
-  added-reports : added t tag p .distances ≡ buildCost t (added t tag p .table)
+  added-reports : added t tag p day .distances ≡ buildCost t (added t tag p day .table)
   unfolding added
-  added-reports = rebuild-reports (countFrom 0 (lowestEmpty t)) only-own (allowed .passed .framed .long) (gathered-buckets t) (addTarget t tag p) (target .reached) (gathered t tag p) one-more
+  added-reports = rebuild-reports (countFrom 0 (lowestEmpty t)) only-own (allowed .passed .framed .long) (gathered-buckets t) (addTarget t tag p day) (target .reached) (gathered t tag p day) one-more
 
 -- an item found, and its slot marked dead
 module _ {work : List Row} {t : Table} (c : Changeable work t) (tag : ℕ) (place : Place) (here : find t tag ≡ some place) where
@@ -240,17 +240,17 @@ removed-reports t work tag accepted = go (find t tag) refl
     go none e = kept-reports t
 
 -- accepted or refused
-adds-report : (t : Table) (work : List Row) (tag : ℕ) (p : Profile) → addReply t work tag p .distances ≡ buildCost t (tableAfterAdd t work tag p)
+adds-report : (t : Table) (work : List Row) (tag : ℕ) (p : Profile) (day : ℕ) → addReply t work tag p day .distances ≡ buildCost t (tableAfterAdd t work tag p day)
 unfolding addReply tableAfterAdd
-adds-report t work tag p = go (addRefusal t work tag p) refl
+adds-report t work tag p day = go (addRefusal t work tag p day) refl
   where
-    go : (n : ℕ) → addRefusal t work tag p ≡ n
+    go : (n : ℕ) → addRefusal t work tag p day ≡ n
         → (elim n as (λ _. Added) [
-          | zero ↦ record { refusal = 0; bucket = addTarget t tag p; distances = added t tag p .distances }
+          | zero ↦ record { refusal = 0; bucket = addTarget t tag p day; distances = added t tag p day .distances }
           | suc j ↦ record { refusal = suc j; bucket = 0; distances = 0 }
         ]) .distances
-        ≡ buildCost t (elim n as (λ _. Table) [ zero ↦ added t tag p .table | suc j ↦ t ])
-    go zero e = added-reports t work tag p e
+        ≡ buildCost t (elim n as (λ _. Table) [ zero ↦ added t tag p day .table | suc j ↦ t ])
+    go zero e = added-reports t work tag p day e
     go (suc n) e = kept-reports t
 
 removes-report : (t : Table) (work : List Row) (tag : ℕ) → removeReply t work tag .distances ≡ buildCost t (tableAfterRemove t work tag)
@@ -264,38 +264,38 @@ removes-report t work tag = go (removeRefusal t work tag) refl
     go (suc n) e = kept-reports t
 
 -- a herd list's lines from one on: each that is added reports what its add does
-lines-report : (lines : List ListLine) (t : Table) (work : List Row) (i : ℕ)
-    → reading t work i lines .reply .distances ≡ addsCost t work (take (reading t work i lines .reply .added) lines)
+lines-report : (day : ℕ) (lines : List ListLine) (t : Table) (work : List Row) (i : ℕ)
+    → reading day t work i lines .reply .distances ≡ addsCost day t work (take (reading day t work i lines .reply .added) lines)
 unfolding reading stopped oneMore addsCost
-lines-report [] t work i = refl
-lines-report (malformed ∷ lines) t work i = refl
-lines-report (anItem tag p ∷ lines) t work i = go (addRefusal t work tag p) (lines-report lines u v (suc i))
+lines-report day [] t work i = refl
+lines-report day (malformed ∷ lines) t work i = refl
+lines-report day (anItem tag p ∷ lines) t work i = go (addRefusal t work tag p day) (lines-report day lines u v (suc i))
   where
     u : Table
-    u = tableAfterAdd t work tag p
+    u = tableAfterAdd t work tag p day
 
     v : List Row
-    v = workAfterAdd t work tag p
+    v = workAfterAdd t work tag p day
 
     read : ℕ → Reading
-    read n = elim n [ suc r ↦ stopped (suc r) i t work | zero ↦ oneMore (addReply t work tag p .distances) (reading u v (suc i) lines) ]
+    read n = elim n [ suc r ↦ stopped (suc r) i t work | zero ↦ oneMore (addReply t work tag p day .distances) (reading day u v (suc i) lines) ]
 
-    go : (n : ℕ) → reading u v (suc i) lines .reply .distances ≡ addsCost u v (take (reading u v (suc i) lines .reply .added) lines)
-        → read n .reply .distances ≡ addsCost t work (take (read n .reply .added) (anItem tag p ∷ lines))
-    go zero e = ap₂ _+_ (adds-report t work tag p) e
+    go : (n : ℕ) → reading day u v (suc i) lines .reply .distances ≡ addsCost day u v (take (reading day u v (suc i) lines .reply .added) lines)
+        → read n .reply .distances ≡ addsCost day t work (take (read n .reply .added) (anItem tag p ∷ lines))
+    go zero e = ap₂ _+_ (adds-report t work tag p day) e
     go (suc n) e = refl
 
-lists-report : (t : Table) (work : List Row) (list : List ℕ)
-    → readListReply t work list .distances ≡ addsCost t work (take (readListReply t work list .added) (itemLines list))
+lists-report : (t : Table) (work : List Row) (list : List ℕ) (day : ℕ)
+    → readListReply t work list day .distances ≡ addsCost day t work (take (readListReply t work list day .added) (itemLines list))
 unfolding readListReply listReading stopped addsCost
-lists-report t work list = go (hasHeader list)
+lists-report t work list day = go (hasHeader list)
   where
     read : Bool → Reading
-    read b = elim b [ false ↦ stopped badListHeader 1 t work | true ↦ reading t work 2 (itemLines list) ]
+    read b = elim b [ false ↦ stopped badListHeader 1 t work | true ↦ reading day t work 2 (itemLines list) ]
 
-    go : (b : Bool) → read b .reply .distances ≡ addsCost t work (take (read b .reply .added) (itemLines list))
+    go : (b : Bool) → read b .reply .distances ≡ addsCost day t work (take (read b .reply .added) (itemLines list))
     go false = refl
-    go true = lines-report (itemLines list) t work 2
+    go true = lines-report day (itemLines list) t work 2
 
 pub reports : (t : Table) (work : List Row) → ReportsBuilds t work
 reports t work = record { adds = adds-report t work; removes = removes-report t work; lists = lists-report t work }

@@ -4,7 +4,7 @@ use mathlib.Core.List.{List, [], _∷_, _++_, map, flatten}
 use lib.IntN.{ℤ, pos}
 use lib.ListN.{replicate, take}
 use Rattle.metric_rules.specs.declared.Profile.{Profile}
-use Rattle.metric_rules.specs.Row.{rowWidth, tagOf, thresholdOf, markOf}
+use Rattle.metric_rules.specs.Row.{rowWidth, tagOf, thresholdOf, markOf, dayOf}
 use Rattle.metric_rules.specs.Validity.{nationals}
 use Rattle.metric_rules.specs.declared.Space.{Space}
 use Rattle.table_rules.specs.Table.{Table, slotsOf, builtOf, liveOf}
@@ -40,23 +40,23 @@ fresh order space = begin (Begin.fresh order space)
 abbrev pub load : List ℕ → Call
 load image = begin (Begin.load image)
 
-abbrev pub add : ℕ → Profile → Call
-add n p = change (Change.add n p)
+abbrev pub add : ℕ → Profile → ℕ → Call
+add n p day = change (Change.add n p day)
 
 abbrev pub remove : ℕ → Call
 remove n = change (Change.remove n)
 
-abbrev pub readList : List ℕ → Call
-readList list = change (Change.readList list)
+abbrev pub readList : List ℕ → ℕ → Call
+readList list day = change (Change.readList list day)
 
 abbrev pub lookUp : ℕ → Call
 lookUp n = ask (Ask.lookUp n)
 
-abbrev pub range : Profile → ℕ → Call
-range q r = ask (Ask.range q r)
+abbrev pub range : Profile → ℕ → ℕ → Call
+range q r firstDay = ask (Ask.range q r firstDay)
 
-abbrev pub nearest : Profile → ℕ → Call
-nearest q k = ask (Ask.nearest q k)
+abbrev pub nearest : Profile → ℕ → ℕ → Call
+nearest q k firstDay = ask (Ask.nearest q k firstDay)
 
 -- a table area for order 3; and areas of n rows, entries or bytes for a call. All hold other content before
 unfoldable pub scratch : Table
@@ -64,8 +64,8 @@ scratch = replicate 21 (replicate rowWidth 6)
 
 unfoldable pub askAreas : ℕ → (q : Ask) → AskAreas q
 askAreas n (Ask.lookUp t) = tt
-askAreas n (Ask.range q r) = replicate n (8 ∷ 8 ∷ [])
-askAreas n (Ask.nearest q k) = replicate n (8 ∷ 8 ∷ [])
+askAreas n (Ask.range q r firstDay) = replicate n (8 ∷ 8 ∷ [])
+askAreas n (Ask.nearest q k firstDay) = replicate n (8 ∷ 8 ∷ [])
 
 unfoldable pub areasFor : ℕ → (c : Call) → Areas c
 unfolding askAreas
@@ -77,8 +77,8 @@ areasFor n write = replicate n 5
 -- a call's own areas as lists of numbers
 unfoldable pub askRows : (q : Ask) → AskAreas q → List (List ℕ)
 askRows (Ask.lookUp t) none = []
-askRows (Ask.range q r) result = result
-askRows (Ask.nearest q k) result = result
+askRows (Ask.range q r firstDay) result = result
+askRows (Ask.nearest q k firstDay) result = result
 
 unfoldable pub areaRows : (c : Call) → Areas c → List (List ℕ)
 unfolding askRows
@@ -93,15 +93,15 @@ beginNumbers (Begin.fresh order space) n = n ∷ []
 beginNumbers (Begin.load image) n = n ∷ []
 
 unfoldable pub changeNumbers : (c : Change) → ChangeReply c → List ℕ
-changeNumbers (Change.add t p) a = a .refusal ∷ a .bucket ∷ a .distances ∷ []
+changeNumbers (Change.add t p day) a = a .refusal ∷ a .bucket ∷ a .distances ∷ []
 changeNumbers (Change.remove t) r = r .refusal ∷ r .distances ∷ []
-changeNumbers (Change.readList list) r = r .refusal ∷ r .line ∷ r .added ∷ r .distances ∷ []
+changeNumbers (Change.readList list day) r = r .refusal ∷ r .line ∷ r .added ∷ r .distances ∷ []
 
 unfoldable pub askNumbers : (q : Ask) → AskReply q → AskAreas q → List ℕ
 unfolding flatten
-askNumbers (Ask.lookUp t) l none = l .refusal ∷ l .bucket ∷ []
-askNumbers (Ask.range q r) s result = s .refusal ∷ s .found ∷ s .distances ∷ flatten (take (s .found) result)
-askNumbers (Ask.nearest q k) s result = s .refusal ∷ s .found ∷ s .distances ∷ flatten (take (s .found) result)
+askNumbers (Ask.lookUp t) l none = l .refusal ∷ l .bucket ∷ l .day ∷ []
+askNumbers (Ask.range q r firstDay) s result = s .refusal ∷ s .found ∷ s .distances ∷ flatten (take (s .found) result)
+askNumbers (Ask.nearest q k firstDay) s result = s .refusal ∷ s .found ∷ s .distances ∷ flatten (take (s .found) result)
 
 unfoldable pub replyNumbers : (c : Call) → Reply c → Areas c → List ℕ
 unfolding beginNumbers changeNumbers askNumbers
@@ -129,11 +129,16 @@ unfolding builtOf liveOf slotsOf tagOf thresholdOf markOf
 contents t k =
     (builtOf t k ∷ liveOf t k ∷ []) ∷ map (λ row. tagOf row ∷ thresholdOf row ∷ markOf row ∷ []) (slotsOf t k)
 
--- adds of some nationals, item n with the value v · n, and removals of some
+-- the days in a bucket's built slots
+unfoldable pub days : Table → ℕ → List ℕ
+unfolding slotsOf dayOf
+days t k = map dayOf (slotsOf t k)
+
+-- adds of some nationals, item n with the value v · n and day 1, and removals of some
 unfoldable pub adding : ℕ → List ℕ → List Call
 unfolding tag valued
 adding v [] = []
-adding v (n ∷ ns) = add (tag n) (valued (v * n)) ∷ adding v ns
+adding v (n ∷ ns) = add (tag n) (valued (v * n)) 1 ∷ adding v ns
 
 unfoldable pub removing : List ℕ → List Call
 unfolding tag
@@ -151,11 +156,18 @@ itemLine n v =
     let none : List ℕ = semicolon ∷ digits 1 0 ++ comma ∷ digits 2 0 in
     digits 15 (tag n) ++ semicolon ∷ digits 5 (v / 100) ++ comma ∷ digits 2 (v % 100) ++ none ++ none ++ none ++ lineFeed ∷ []
 
--- RULES A's four items: order 2, metric 0, nationals 1 to 4 with 10, 13, 13, 20
+-- RULES A's four items: order 2, metric 0, nationals 1 to 4 with 10, 13, 13, 20, all of day 1
 unfoldable pub fourItems : List Call
 unfolding tag valued
-fourItems = fresh 2 (by 0) ∷ add (tag 1) (valued 10) ∷ add (tag 2) (valued 13) ∷ add (tag 3) (valued 13) ∷ add (tag 4) (valued 20) ∷ []
+fourItems = fresh 2 (by 0) ∷ add (tag 1) (valued 10) 1 ∷ add (tag 2) (valued 13) 1 ∷ add (tag 3) (valued 13) 1 ∷ add (tag 4) (valued 20) 1 ∷ []
 
 unfoldable pub table : Table
 unfolding after scratch fourItems
 table = after scratch fourItems
+
+-- the same with days of their own
+unfoldable pub dated : Table
+unfolding after scratch tag valued
+dated =
+    after scratch
+    (fresh 2 (by 0) ∷ add (tag 1) (valued 10) 5 ∷ add (tag 2) (valued 13) 65_535 ∷ add (tag 3) (valued 13) 4 ∷ add (tag 4) (valued 20) 3 ∷ [])

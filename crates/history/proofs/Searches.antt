@@ -1,4 +1,4 @@
--- Searches worked by hand from RULES 11: equal bounds, dead and foreign slots, the three metrics, weights, ties of tag and of rank, and the largest
+-- Searches worked by hand from RULES 11: equal bounds, dead and foreign slots, the three metrics, weights, days, ties of tag and of rank, and the largest
 -- distance.
 -- Each is a run that antt computes. A reply is refusal, found, distances and then each entry's tag and distance.
 use Prim.Native.Nat.{ℕ, _+_, _-_, _*_, _^_}
@@ -14,14 +14,14 @@ use Rattle.metric_rules.specs.Distance.{mostDistance, saturated, gap, weight, w
 use Rattle.tree_rules.specs.Layout.{layout}
 use Rattle.table_rules.specs.Geometry.{firstSlot}
 use Rattle.table_rules.specs.Table.{Table, rowAt}
-use Rattle.history.proofs.Running.{fresh, add, lookUp, range, nearest, weighing, by, tag, valued, measured, scratch, replies, after, removing, table}
+use Rattle.history.proofs.Running.{fresh, add, lookUp, range, nearest, weighing, by, tag, valued, measured, scratch, replies, after, removing, table, dated}
 
 -- four items in one tree of order 2, by their nationals and values
 four : ℕ → ℕ → ℕ → ℕ → ℕ → ℕ → ℕ → ℕ → Table
 unfolding after scratch tag valued
 four a va b vb c vc d vd =
     after scratch
-    (fresh 2 (by 0) ∷ add (tag a) (valued va) ∷ add (tag b) (valued vb) ∷ add (tag c) (valued vc) ∷ add (tag d) (valued vd) ∷ [])
+    (fresh 2 (by 0) ∷ add (tag a) (valued va) 1 ∷ add (tag b) (valued vb) 1 ∷ add (tag c) (valued vc) 1 ∷ add (tag d) (valued vd) 1 ∷ [])
 
 -- the four items' table with another threshold in the first slot, or another mark in the second
 foreign : (Row → Row) → ℕ → Table
@@ -34,7 +34,7 @@ coded a b = record { measures = pos 0 ∷ pos 0 ∷ pos 0 ∷ pos 0 ∷ []; code
 -- metric 1: codes of no ones, and of 65
 codes : Table
 unfolding after scratch tag coded
-codes = after scratch (fresh 1 (by 1) ∷ add (tag 1) (coded 0 0) ∷ add (tag 2) (coded (2 ^ 64 - 1) 1) ∷ [])
+codes = after scratch (fresh 1 (by 1) ∷ add (tag 1) (coded 0 0) 1 ∷ add (tag 2) (coded (2 ^ 64 - 1) 1) 1 ∷ [])
 
 tagIn : ℕ → ℕ → ℕ
 unfolding nationals
@@ -46,8 +46,8 @@ unfolding after scratch tag measured
 worsts =
     after scratch
     (fresh 1 (by 2)
-    ∷ add (tag 1) (measured (pos 0) (pos 0) (pos 0) (pos 0))
-    ∷ add (tag 2) (measured (pos 3) (pos 5) (negsuc 6) (pos 1))
+    ∷ add (tag 1) (measured (pos 0) (pos 0) (pos 0) (pos 0)) 1
+    ∷ add (tag 2) (measured (pos 3) (pos 5) (negsuc 6) (pos 1)) 1
     ∷ [])
 
 -- weights 3, 1, 0 and 100: of the same differences 9, 5, 0 and 100 count
@@ -56,38 +56,38 @@ unfolding after scratch tag measured
 weighed metric =
     after scratch
     (fresh 1 (weighing metric (3 ∷ 1 ∷ 0 ∷ 100 ∷ []))
-    ∷ add (tag 1) (measured (pos 0) (pos 0) (pos 0) (pos 0))
-    ∷ add (tag 2) (measured (pos 3) (pos 5) (negsuc 6) (pos 1))
+    ∷ add (tag 1) (measured (pos 0) (pos 0) (pos 0) (pos 0)) 1
+    ∷ add (tag 2) (measured (pos 3) (pos 5) (negsuc 6) (pos 1)) 1
     ∷ [])
 
 -- each stands at its place in the header row, behind order and metric
-weightsPlaced : rowAt (weighed 2) 0 ≡ 1 ∷ 2 ∷ 3 ∷ 1 ∷ 0 ∷ 100 ∷ replicate 6 0
+weightsPlaced : rowAt (weighed 2) 0 ≡ 1 ∷ 2 ∷ 3 ∷ 1 ∷ 0 ∷ 100 ∷ replicate 7 0
 unfolding weighed rowAt
 weightsPlaced = refl
 
 -- two countries: national 9 of country 36 at 10, and national 1 of country 840 at 30
 countries : Table
 unfolding after scratch valued tagIn
-countries = after scratch (fresh 1 (by 0) ∷ add (tagIn 36 9) (valued 10) ∷ add (tagIn 840 1) (valued 30) ∷ [])
+countries = after scratch (fresh 1 (by 0) ∷ add (tagIn 36 9) (valued 10) 1 ∷ add (tagIn 840 1) (valued 30) 1 ∷ [])
 
 searches : List (List (List ℕ))
 unfolding replies after scratch table four foreign coded codes measured worsts weighed countries valued tag removing withThreshold withMark
 searches =
-    replies table (range (valued 0) 4_294_967_295 ∷ nearest (valued 0) 9 ∷ nearest (valued 13) 2 ∷ [])
-    ∷ replies (after scratch (fresh 2 (by 0) ∷ [])) (range (valued 0) 5 ∷ nearest (valued 0) 5 ∷ [])
-    ∷ replies table (range (valued 16) 3 ∷ range (valued 16) 2 ∷ [])
-    ∷ replies (four 1 10 2 13 3 13 4 13) (range (valued 11) 2 ∷ range (valued 11) 1 ∷ [])
-    ∷ replies (four 1 0 2 10 3 14 4 1) (nearest (valued 12) 1 ∷ [])
-    ∷ replies (four 1 100 9 102 3 90 4 110) (nearest (valued 106) 1 ∷ [])
-    ∷ replies (after table (removing (2 ∷ []))) (range (valued 13) 0 ∷ nearest (valued 13) 1 ∷ [])
-    ∷ replies (foreign (withThreshold 0) 0) (range (valued 13) 0 ∷ [])
-    ∷ replies (foreign (withMark 5) 1) (range (valued 13) 0 ∷ lookUp (tag 2) ∷ lookUp (tag 3) ∷ [])
+    replies table (range (valued 0) 4_294_967_295 0 ∷ nearest (valued 0) 9 0 ∷ nearest (valued 13) 2 0 ∷ [])
+    ∷ replies (after scratch (fresh 2 (by 0) ∷ [])) (range (valued 0) 5 0 ∷ nearest (valued 0) 5 0 ∷ [])
+    ∷ replies table (range (valued 16) 3 0 ∷ range (valued 16) 2 0 ∷ [])
+    ∷ replies (four 1 10 2 13 3 13 4 13) (range (valued 11) 2 0 ∷ range (valued 11) 1 0 ∷ [])
+    ∷ replies (four 1 0 2 10 3 14 4 1) (nearest (valued 12) 1 0 ∷ [])
+    ∷ replies (four 1 100 9 102 3 90 4 110) (nearest (valued 106) 1 0 ∷ [])
+    ∷ replies (after table (removing (2 ∷ []))) (range (valued 13) 0 0 ∷ nearest (valued 13) 1 0 ∷ [])
+    ∷ replies (foreign (withThreshold 0) 0) (range (valued 13) 0 0 ∷ [])
+    ∷ replies (foreign (withMark 5) 1) (range (valued 13) 0 0 ∷ lookUp (tag 2) ∷ lookUp (tag 3) ∷ [])
     ∷ replies codes
-    (range (coded 0 0) 64 ∷ range (coded 0 0) 65 ∷ nearest (coded (2 ^ 64 - 1) (2 ^ 64 - 1)) 1 ∷ [])
-    ∷ replies worsts (range (valued 0) 6 ∷ range (valued 0) 7 ∷ nearest (measured (negsuc 3) (pos 5) (pos 0) (pos 0)) 1 ∷ [])
-    ∷ replies (weighed 0) (range (valued 0) 113 ∷ range (valued 0) 114 ∷ nearest (measured (pos 3) (pos 5) (pos 100) (pos 1)) 1 ∷ [])
-    ∷ replies (weighed 2) (range (valued 0) 99 ∷ range (valued 0) 100 ∷ nearest (measured (pos 3) (pos 5) (pos 100) (pos 1)) 1 ∷ [])
-    ∷ replies countries (range (valued 20) 10 ∷ nearest (valued 20) 1 ∷ [])
+    (range (coded 0 0) 64 0 ∷ range (coded 0 0) 65 0 ∷ nearest (coded (2 ^ 64 - 1) (2 ^ 64 - 1)) 1 0 ∷ [])
+    ∷ replies worsts (range (valued 0) 6 0 ∷ range (valued 0) 7 0 ∷ nearest (measured (negsuc 3) (pos 5) (pos 0) (pos 0)) 1 0 ∷ [])
+    ∷ replies (weighed 0) (range (valued 0) 113 0 ∷ range (valued 0) 114 0 ∷ nearest (measured (pos 3) (pos 5) (pos 100) (pos 1)) 1 0 ∷ [])
+    ∷ replies (weighed 2) (range (valued 0) 99 0 ∷ range (valued 0) 100 0 ∷ nearest (measured (pos 3) (pos 5) (pos 100) (pos 1)) 1 0 ∷ [])
+    ∷ replies countries (range (valued 20) 10 0 ∷ nearest (valued 20) 1 0 ∷ [])
     ∷ []
 
 worked :
@@ -112,7 +112,7 @@ worked :
     -- a foreign threshold 0 in the first slot: left not at 3 ≤ 0, right at 3 ≥ 0, where 4 is no hit
     ∷ ((0 ∷ 0 ∷ 2 ∷ []) ∷ [])
     -- a foreign mark is dead
-    ∷ ((0 ∷ 1 ∷ 4 ∷ tag 3 ∷ 0 ∷ []) ∷ (21 ∷ 0 ∷ []) ∷ (0 ∷ 2 ∷ []) ∷ [])
+    ∷ ((0 ∷ 1 ∷ 4 ∷ tag 3 ∷ 0 ∷ []) ∷ (21 ∷ 0 ∷ 0 ∷ []) ∷ (0 ∷ 2 ∷ 1 ∷ []) ∷ [])
     -- metric 1: 65 bits differ; from all ones 128 and 63
     ∷ ((0 ∷ 1 ∷ 2 ∷ tag 1 ∷ 0 ∷ []) ∷ (0 ∷ 2 ∷ 2 ∷ tag 1 ∷ 0 ∷ tag 2 ∷ 65 ∷ []) ∷ (0 ∷ 1 ∷ 2 ∷ tag 2 ∷ 63 ∷ []) ∷ [])
     -- metric 2: 7 is the largest of 3, 5, 7 and 1; from -4, 5, 0, 0 it is 5 to the zeros and 7 to the other
@@ -127,11 +127,40 @@ worked :
 unfolding searches tag
 worked = refl
 
+-- the four items' values with days 5, 65,535, 4 and 3, and first days
+since : List (List (List ℕ))
+unfolding replies after dated foreign valued tag removing
+since =
+    replies dated (range (valued 13) 0 4 ∷ range (valued 13) 0 5 ∷ range (valued 0) 99 65_535 ∷ range (valued 30) 5 65_535 ∷ [])
+    ∷ replies dated (nearest (valued 20) 1 3 ∷ nearest (valued 20) 1 4 ∷ nearest (valued 20) 9 5 ∷ [])
+    ∷ replies (after dated (removing (2 ∷ []))) (nearest (valued 13) 9 5 ∷ range (valued 13) 99 6 ∷ [])
+    ∷ replies dated (map (λ n. lookUp (tag n)) (1 ∷ 2 ∷ 3 ∷ 4 ∷ []))
+    ∷ replies (foreign (λ row. set row 12 0) 1) (range (valued 13) 0 0 ∷ range (valued 13) 0 1 ∷ lookUp (tag 2) ∷ [])
+    ∷ replies (foreign (λ row. set row 12 4_294_967_295) 1) (range (valued 13) 0 65_535 ∷ lookUp (tag 2) ∷ [])
+    ∷ []
+
+sinceWorked :
+    since
+    ≡ ( -- an item of the first day is reported, and one of the day before is not; the counts are those without a first day
+    ((0 ∷ 2 ∷ 4 ∷ tag 2 ∷ 0 ∷ tag 3 ∷ 0 ∷ []) ∷ (0 ∷ 1 ∷ 4 ∷ tag 2 ∷ 0 ∷ []) ∷ (0 ∷ 1 ∷ 4 ∷ tag 2 ∷ 13 ∷ []) ∷ (0 ∷ 0 ∷ 2 ∷ []) ∷ [])
+    -- item 4 is at 0 and nearest, and its bound shuts the left half; of a later first day it is never kept, so 1 is, and then 2. Of a k above those two, both
+    ∷ ((0 ∷ 1 ∷ 2 ∷ tag 4 ∷ 0 ∷ []) ∷ (0 ∷ 1 ∷ 4 ∷ tag 2 ∷ 7 ∷ []) ∷ (0 ∷ 2 ∷ 4 ∷ tag 2 ∷ 7 ∷ tag 1 ∷ 10 ∷ []) ∷ [])
+    -- a dead item is not reported, however late its day
+    ∷ ((0 ∷ 1 ∷ 4 ∷ tag 1 ∷ 3 ∷ []) ∷ (0 ∷ 0 ∷ 4 ∷ []) ∷ [])
+    -- look up's bucket and day
+    ∷ ((0 ∷ 2 ∷ 5 ∷ []) ∷ (0 ∷ 2 ∷ 65_535 ∷ []) ∷ (0 ∷ 2 ∷ 4 ∷ []) ∷ (0 ∷ 2 ∷ 3 ∷ []) ∷ [])
+    -- a foreign day 0 is reported from day 0 on; one of more than 16 bits is compared as it is, and looked up so
+    ∷ ((0 ∷ 2 ∷ 4 ∷ tag 2 ∷ 0 ∷ tag 3 ∷ 0 ∷ []) ∷ (0 ∷ 1 ∷ 4 ∷ tag 3 ∷ 0 ∷ []) ∷ (0 ∷ 2 ∷ 0 ∷ []) ∷ [])
+    ∷ ((0 ∷ 1 ∷ 4 ∷ tag 2 ∷ 0 ∷ []) ∷ (0 ∷ 2 ∷ 4_294_967_295 ∷ []) ∷ [])
+    ∷ [])
+unfolding since tag
+sinceWorked = refl
+
 -- Equal tags, ranked by the order gathered at depth 2 too: from tag 5 at 0 the left half is tag 7 at 1 (gathered last) and tag 7 at 2 (gathered
 -- second), and of these the one gathered first is the half's first slot
 ties :
     map (λ row. tagOf row ∷ thresholdOf row ∷ word row 2 ∷ [])
-    (layout (distance (by 0)) (rowOf 5 (valued 0) 0 0 ∷ rowOf 7 (valued 2) 0 0 ∷ rowOf 9 (valued 50) 0 0 ∷ rowOf 7 (valued 1) 0 0 ∷ []))
+    (layout (distance (by 0)) (rowOf 5 (valued 0) 0 0 1 ∷ rowOf 7 (valued 2) 0 0 1 ∷ rowOf 9 (valued 50) 0 0 1 ∷ rowOf 7 (valued 1) 0 0 1 ∷ []))
     ≡ (5 ∷ 2 ∷ 0 ∷ []) ∷ (7 ∷ 1 ∷ 2 ∷ []) ∷ (7 ∷ 0 ∷ 1 ∷ []) ∷ (9 ∷ 0 ∷ 50 ∷ []) ∷ []
 unfolding tagOf thresholdOf word layout distance measureDistance weighted weight gap saturated mostDistance rowOf valued
 ties = refl

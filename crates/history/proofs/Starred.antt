@@ -25,12 +25,12 @@ unfolding replies after contents scratch fourItems table tag valued adding remov
 lines =
     replies scratch fourItems
     ∷ contents table 2
-    ∷ replies table (add (tag 5) (valued 11) ∷ add (tag 4) (valued 20) ∷ [])
-    ∷ replies table (range (valued 13) 0 ∷ range (valued 30) 5 ∷ nearest (valued 13) 1 ∷ nearest (valued 30) 1 ∷ [])
+    ∷ replies table (add (tag 5) (valued 11) 1 ∷ add (tag 4) (valued 20) 1 ∷ [])
+    ∷ replies table (range (valued 13) 0 0 ∷ range (valued 30) 5 0 ∷ nearest (valued 13) 1 0 ∷ nearest (valued 30) 1 0 ∷ [])
     ∷ replies table (removing (4 ∷ 3 ∷ 2 ∷ []))
     ∷ contents (after table (removing (4 ∷ 3 ∷ 2 ∷ []))) 0
-    ∷ replies table (remove (tag 4) ∷ add (tag 5) (valued 11) ∷ removing (3 ∷ 2 ∷ []))
-    ∷ contents (after table (remove (tag 4) ∷ add (tag 5) (valued 11) ∷ removing (3 ∷ 2 ∷ []))) 1
+    ∷ replies table (remove (tag 4) ∷ add (tag 5) (valued 11) 1 ∷ removing (3 ∷ 2 ∷ []))
+    ∷ contents (after table (remove (tag 4) ∷ add (tag 5) (valued 11) 1 ∷ removing (3 ∷ 2 ∷ []))) 1
     ∷ map (λ k. builtOf sparse k ∷ liveOf sparse k ∷ []) (0 ∷ 1 ∷ 2 ∷ 3 ∷ [])
     ∷ replies sparse (adding 5 (16 ∷ []))
     ∷ (let u = after sparse (adding 5 (16 ∷ [])) in map (λ k. builtOf u k ∷ liveOf u k ∷ []) (0 ∷ 1 ∷ 2 ∷ 3 ∷ []))

@@ -1,32 +1,38 @@
 -- The demands of `specs/Demands`, proved for every list of calls, every lent area and every image.
-use mathlib.Core.Path.{refl}
+use Prim.Native.Nat.{min}
+use mathlib.Core.Path.{refl, _∙_}
+use mathlib.Core.List.{map}
+use lib.ListN.{length}
 use Rattle.lists.specs.Lists.{total}
 use Rattle.metric_rules.specs.Distance.{distance}
 use Rattle.metric_rules.proofs.Laws.{distance-metric, ones-sum, ones-worst, worst-exact}
 use Rattle.table_rules.proofs.Visits.{range-visits}
 use Rattle.table_rules.proofs.Keeping.{nearest-size}
-use Rattle.table_rules.specs.Table.{liveSlots}
-use Rattle.image_rules.specs.Bytes.{startFields, startBytes}
+use Rattle.table_rules.specs.Search.{bucketsDown}
 use Rattle.image_rules.proofs.Translating.{translates}
 use Rattle.history.specs.Demands.{CountsVisits, KeepsEnough, AnswersAscend, AnyDistance, EachMetric, WeightsOne, EveryList, EveryReport, WrittenLoads, OlderTranslates}
 use Rattle.history.proofs.AnyDistance.{tree-facts}
+use Rattle.history.proofs.RefinesTable.{reported-slots}
 use Rattle.history.proofs.RefinesHistory.{history-traces, history-matches, history-represents}
 use Rattle.history.proofs.AmortizedHistory.{history-bound}
 use Rattle.history.proofs.Reporting.{reports}
 use Rattle.history.proofs.ImagesHistory.{written-loads-where}
 use Rattle.history.proofs.Ordering.{range-ascends, answer-ascends, model-range-ascends, model-nearest-ascends}
+pub use Rattle.history.proofs.BuildsKeep.{builds-keep-items}
 pub use Rattle.history.proofs.ImagesBack.{accepted-gives-back}
 
 pub counts-visits : CountsVisits
 counts-visits = range-visits
 
 pub keeps-enough : KeepsEnough
-unfolding liveSlots
-keeps-enough = nearest-size
+keeps-enough t query k firstDay =
+    nearest-size t query k firstDay ∙ (λ i. min k (total (map (λ b. length (reported-slots t query k firstDay b i)) (bucketsDown t))))
 
 pub answers-ascend : AnswersAscend
-answers-ascend t m query =
-    ((λ radius. (range-ascends t query radius, model-range-ascends m query radius)), (λ k. (answer-ascends t query k, model-nearest-ascends m query k)))
+answers-ascend t m query = (
+  (λ radius firstDay. (range-ascends t query firstDay radius, model-range-ascends m query firstDay radius)),
+  (λ k firstDay. (answer-ascends t query firstDay k, model-nearest-ascends m query firstDay k)),
+)
 
 pub any-distance : AnyDistance
 any-distance dist laws = tree-facts dist laws
@@ -48,5 +54,4 @@ pub written-loads : WrittenLoads
 written-loads = written-loads-where history-matches
 
 pub older-translates : OlderTranslates
-unfolding startBytes startFields total
 older-translates = translates

@@ -6,25 +6,28 @@
 -- the definitions of `call_rules`: `replyTo`, `tableAfter` and `areasAfter` are these, for all calls.
 use Prim.Native.Nat.{ℕ, _+_, _^_, _≤_, _<_, min}
 use mathlib.Core.Path.{_≡_}
-use mathlib.Core.List.{List, map}
+use mathlib.Core.List.{List, _∷_, map, List·Permᴰ}
 use lib.ListN.{length}
-use Rattle.lists.specs.Lists.{total, All}
+use lib.Dec.{leb}
+use Rattle.lists.specs.Lists.{select, total, All}
 use Rattle.metric_rules.specs.declared.Profile.{Profile}
-use Rattle.metric_rules.specs.Row.{Row, IsProfile}
+use Rattle.metric_rules.specs.Row.{Row, dayOf, IsProfile}
 use Rattle.metric_rules.specs.declared.Space.{Space}
 use Rattle.metric_rules.specs.declared.Weights.{Weights}
 use Rattle.metric_rules.specs.Distance.{distance, saturated, gap, largest, codeDistance, weightsOne, Metric}
 use Rattle.search_rules.specs.Range.{Ascending}
 use Rattle.search_rules.specs.Reached.{reached}
-use Rattle.table_rules.specs.Geometry.{tableRows}
-use Rattle.table_rules.specs.Table.{Table, tableSpace, slotsOf, liveSlots}
+use Rattle.table_rules.specs.Geometry.{room, tableRows}
+use Rattle.table_rules.specs.Table.{Table, orderOf, tableSpace, slotsOf, liveSlots}
+use Rattle.table_rules.specs.Checks.{readRefusal}
+use Rattle.table_rules.specs.Rebuild.{rebuilt}
 use Rattle.table_rules.specs.Search.{bucketsDown, rangeAnswer, nearestAnswer}
-use Rattle.image_rules.specs.Bytes.{writtenForm}
-use Rattle.image_rules.specs.Read.{orderIn, formIn}
+use Rattle.image_rules.specs.Bytes.{writtenForm, imageLength}
+use Rattle.image_rules.specs.Read.{orderIn, formIn, slotsIn}
 use Rattle.image_rules.specs.Translate.{translated}
 use Rattle.call_rules.specs.Calls.{beginReply, tableBegun}
 use Rattle.call_rules.specs.Calls.Begin.{load}
-use Rattle.history.specs.Model.{Model, modelRange, modelNearest}
+use Rattle.history.specs.Model.{Model, itemOf, modelRange, modelNearest}
 use Rattle.history.specs.History.{History, finalState, finalModel}
 use Rattle.history.specs.Images.{imageSize, LoadsBack, GivesBack}
 use Rattle.history.specs.Represents.{Holds}
@@ -32,18 +35,27 @@ use Rattle.history.specs.Reports.{ReportsBuilds}
 use Rattle.history.specs.Trees.{TreeFacts}
 
 -- Of those answers, two numbers that the rules also give in words, for every table, foreign ones too. RULES 11.6: the count of range is the number
--- of slots all of whose ancestors let their side be entered.
+-- of slots all of whose ancestors let their side be entered. The first day plays no part in it.
 -- Theorem: `counts-visits`
 abbrev pub CountsVisits : Type 0
 CountsVisits =
-    (t : Table) (query : Profile) (radius : ℕ)
-    → rangeAnswer t query radius .count ≡ total (map (λ k. length (reached (distance (tableSpace t)) query radius (slotsOf t k))) (bucketsDown t))
+    (t : Table) (query : Profile) (radius firstDay : ℕ)
+    → rangeAnswer t query radius firstDay .count ≡ total (map (λ k. length (reached (distance (tableSpace t)) query radius (slotsOf t k))) (bucketsDown t))
 
--- RULES 15.3: nearest replies with k items, or with all of the built slots of mark 0 where these are fewer.
+-- RULES 15.3: nearest replies with k items, or with all of the built slots of mark 0 whose day is not before the first where these are fewer.
 -- Theorem: `keeps-enough`
 abbrev pub KeepsEnough : Type 0
 KeepsEnough =
-    (t : Table) (query : Profile) (k : ℕ) → length (nearestAnswer t query k .entries) ≡ min k (total (map (λ b. length (liveSlots t b)) (bucketsDown t)))
+    (t : Table) (query : Profile) (k firstDay : ℕ)
+    → length (nearestAnswer t query k firstDay .entries) ≡ min k (total (map (λ b. length (select (λ row. leb firstDay (dayOf row)) (liveSlots t b))) (bucketsDown t)))
+
+-- RULES 2.8: an item's tag, profile and day stay with it through every build. Whatever rows a rebuild gathers, and from whatever table that passes the tests of
+-- RULES 14.5, the bucket that it builds holds their items and no others.
+-- Theorem: `builds-keep-items`
+abbrev pub BuildsKeepItems : Type 0
+BuildsKeepItems =
+    (t : Table) → readRefusal t ≡ 0 → (ks : List ℕ) (k : ℕ) (rows : List Row) → All (λ j. j ≤ orderOf t) (k ∷ ks) → length rows ≤ room k
+    → List·Permᴰ (map itemOf (slotsOf (rebuilt t ks k rows .table) k)) (map itemOf rows)
 
 -- "By distance, then tag" in plain numbers: whatever the table holds, foreign ones too, and whatever is in the model, each entry of an answer has a smaller
 -- distance than the next, or the same distance and no larger tag.
@@ -51,8 +63,8 @@ KeepsEnough =
 abbrev pub AnswersAscend : Type 0
 AnswersAscend =
     (t : Table) (m : Model) (query : Profile)
-    → ((radius : ℕ) → Ascending (rangeAnswer t query radius .entries) × Ascending (modelRange m query radius))
-    × ((k : ℕ) → Ascending (nearestAnswer t query k .entries) × Ascending (modelNearest m query k))
+    → ((radius firstDay : ℕ) → Ascending (rangeAnswer t query radius firstDay .entries) × Ascending (modelRange m query radius firstDay))
+    × ((k firstDay : ℕ) → Ascending (nearestAnswer t query k firstDay .entries) × Ascending (modelNearest m query k firstDay))
 
 -- W1: by any distance with the three laws a tree's range and nearest are a scan and its build costs c(n); and each metric has the three laws.
 -- Theorems: `any-distance`, `each-metric`
@@ -103,11 +115,12 @@ AcceptedGivesBack =
     (bytes : List ℕ) (other area : Table) (image : List ℕ) → All (λ b. b < 2 ^ 8) bytes → formIn bytes ≡ writtenForm
     → beginReply (load bytes) (length other) ≡ 0 → tableRows (orderIn bytes) ≤ length area → length bytes ≤ length image → GivesBack bytes other area image
 
--- RULES 17.5, and of an older form: an image, which has a form if it has its first four bytes, of form 0 is refused as its translation is, by the same number
--- or not at all, and leaves the same table. So it is accepted exactly if its translation is, and then loads as the same table.
+-- RULES 17.5, and of an older form: an image whose length is the one that its sizes give is refused as its translation is, by the same number or not at all,
+-- and leaves the same table. So it is accepted exactly if its translation is, and then loads as the same table.
 -- Theorem: `older-translates`
 abbrev pub OlderTranslates : Type 0
 OlderTranslates =
-    (image : List ℕ) → 4 ≤ length image → formIn image ≡ 0 → (other : Table)
+    (image : List ℕ) → All (λ b. b < 2 ^ 8) image → formIn image < writtenForm → length image ≡ imageLength (formIn image) (orderIn image) (slotsIn image)
+    → (other : Table)
     → (beginReply (load image) (length other) ≡ beginReply (load (translated image)) (length other))
     × (tableBegun (load image) other ≡ tableBegun (load (translated image)) other)

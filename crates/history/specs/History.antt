@@ -20,14 +20,14 @@ IsBegin (fresh order space) = (order < 2 ^ 32) × IsSpace space
 IsBegin (load image) = All (λ b. b < 2 ^ 8) image
 
 abbrev pub IsChange : Change → Type 0
-IsChange (add tag p) = (tag < 2 ^ 64) × IsProfile p
+IsChange (add tag p day) = (tag < 2 ^ 64) × IsProfile p × (day < 2 ^ 16)
 IsChange (remove tag) = tag < 2 ^ 64
-IsChange (readList list) = All (λ b. b < 2 ^ 8) list
+IsChange (readList list day) = All (λ b. b < 2 ^ 8) list × (day < 2 ^ 16)
 
 abbrev pub IsAsk : Ask → Type 0
 IsAsk (lookUp tag) = tag < 2 ^ 64
-IsAsk (range q r) = IsProfile q × (r < 2 ^ 32)
-IsAsk (nearest q k) = IsProfile q × (k < 2 ^ 32)
+IsAsk (range q r firstDay) = IsProfile q × (r < 2 ^ 32) × (firstDay < 2 ^ 16)
+IsAsk (nearest q k firstDay) = IsProfile q × (k < 2 ^ 32) × (firstDay < 2 ^ 16)
 
 abbrev pub IsCall : Call → Type 0
 IsCall (begin b) = IsBegin b

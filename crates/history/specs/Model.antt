@@ -7,12 +7,12 @@ use lib.ListN.{length, take}
 use lib.Dec.{leb, eqb}
 use Rattle.lists.specs.Lists.{select}
 use Rattle.metric_rules.specs.declared.Profile.{Profile}
-use Rattle.metric_rules.specs.Row.{Row, tagOf, profileOf}
-use Rattle.metric_rules.specs.Validity.{validTag, validMeasures}
+use Rattle.metric_rules.specs.Row.{Row, tagOf, profileOf, dayOf}
+use Rattle.metric_rules.specs.Validity.{validTag, validMeasures, validDay}
 use Rattle.metric_rules.specs.declared.Space.{Space}
 use Rattle.metric_rules.specs.Distance.{distance}
 use Rattle.search_rules.specs.Range.{Entry, entry, entryDistance, ordered}
-use Rattle.table_rules.specs.Refusals.{badTag, badMeasure, noCount, noRoom, alreadyLive, notLive, full, shortArea, unless, when}
+use Rattle.table_rules.specs.Refusals.{badTag, badMeasure, badDay, noCount, noRoom, alreadyLive, notLive, full, shortArea, unless, when}
 use Rattle.table_rules.specs.Geometry.{room, tableRows, workRows}
 use Rattle.table_rules.specs.LookUp.{noProfile}
 use Rattle.image_rules.specs.Read.{orderIn, spaceIn}
@@ -26,15 +26,16 @@ use Rattle.call_rules.specs.Calls.Change.{add, remove, readList}
 use Rattle.call_rules.specs.Calls.Ask.{lookUp, range, nearest}
 use Rattle.call_rules.specs.Calls.Call.{begin, change, ask, write}
 use Rattle.history.specs.Trace.{Step, Payload, Shown, zeroed, shows, beginShown}
-use Rattle.history.specs.Trace.Payload.{bare, aProfile, someEntries, aListRead}
+use Rattle.history.specs.Trace.Payload.{bare, aWeighing, someEntries, aListRead}
 
 -- RULES 2.7: an item as handed over; and the item of a slot's row
 pub record Item : Type 0 where
   pub tag : ℕ
   pub profile : Profile
+  pub day : ℕ
 
 unfoldable pub itemOf : Row → Item
-itemOf row = record { tag = tagOf row; profile = profileOf row }
+itemOf row = record { tag = tagOf row; profile = profileOf row; day = dayOf row }
 
 -- RULES 16.1: an order, what distances depend on (a metric and four weights), and a list of items
 pub record Model : Type 0 where
@@ -45,13 +46,13 @@ pub record Model : Type 0 where
 -- of the areas lent to a call it is told the lengths alone
 abbrev pub AskLengths : Ask → Type 0
 AskLengths (lookUp tag) = Unit {0}
-AskLengths (range q r) = ℕ
-AskLengths (nearest q k) = ℕ
+AskLengths (range q r firstDay) = ℕ
+AskLengths (nearest q k firstDay) = ℕ
 
 abbrev pub askLengths : (q : Ask) → AskAreas q → AskLengths q
 askLengths (lookUp tag) none = tt
-askLengths (range q r) result = length result
-askLengths (nearest q k) result = length result
+askLengths (range q r firstDay) result = length result
+askLengths (nearest q k firstDay) result = length result
 
 abbrev pub Lengths : Call → Type 0
 Lengths (begin b) = Unit {0}
@@ -72,26 +73,26 @@ withTag tag items = select (λ i. eqb (i .tag) tag) items
 unfoldable pub isIn : Model → ℕ → Bool
 isIn m tag = elim (withTag tag (m .items)) [ [] ↦ false | i ∷ is ↦ true ]
 
--- RULES 16.4: add puts the item in, remove strikes it out, look up gives its profile
+-- RULES 16.4: add puts the item in, remove strikes it out, look up gives its profile and its day
 unfoldable pub with : Item → Model → Model
 with item m = record { order = m .order; space = m .space; items = item ∷ m .items }
 
 unfoldable pub without : ℕ → Model → Model
 without tag m = record { order = m .order; space = m .space; items = select (λ i. not (eqb (i .tag) tag)) (m .items) }
 
-unfoldable pub profileIn : List Item → Profile
-profileIn [] = noProfile
-profileIn (i ∷ is) = i .profile
+unfoldable pub weighedIn : List Item → Payload
+weighedIn [] = aWeighing noProfile 0
+weighedIn (i ∷ is) = aWeighing (i .profile) (i .day)
 
--- RULES 16.5, the scan: the entry of every item; all with d ≤ r; the first k of all, or all if fewer; by distance, then tag
-unfoldable pub scanned : Model → Profile → List Entry
-scanned m q = map (λ i. entry (i .tag) (distance (m .space) (i .profile) q)) (m .items)
+-- RULES 16.5, the scan: the entry of every item weighed on the first day or later; all with d ≤ r; the first k of all, or all if fewer; by distance, then tag
+unfoldable pub scanned : Model → Profile → ℕ → List Entry
+scanned m q firstDay = map (λ i. entry (i .tag) (distance (m .space) (i .profile) q)) (select (λ i. leb firstDay (i .day)) (m .items))
 
-unfoldable pub modelRange : Model → Profile → ℕ → List Entry
-modelRange m q r = ordered (select (λ e. leb (entryDistance e) r) (scanned m q))
+unfoldable pub modelRange : Model → Profile → ℕ → ℕ → List Entry
+modelRange m q r firstDay = ordered (select (λ e. leb (entryDistance e) r) (scanned m q firstDay))
 
-unfoldable pub modelNearest : Model → Profile → ℕ → List Entry
-modelNearest m q k = take k (ordered (scanned m q))
+unfoldable pub modelNearest : Model → Profile → ℕ → ℕ → List Entry
+modelNearest m q k firstDay = take k (ordered (scanned m q firstDay))
 
 -- a table area of so many rows, and in add and remove a work area, are long enough; else 23
 unfoldable pub canRead : Model → ℕ → Bool
@@ -104,18 +105,19 @@ canChange m rows work = canRead m rows && leb (workRows (m .order)) work
 unfoldable pub tagRefusal : Model → ℕ → ℕ
 tagRefusal m tag = unless (validTag tag) badTag (unless (isIn m tag) notLive 0)
 
--- RULES 14.4, add: 1, 2, 20, 22
-unfoldable pub itemRefusal : Model → ℕ → Profile → ℕ
-itemRefusal m tag p =
+-- RULES 14.4, add: 1, 2, 33, 20, 22
+unfoldable pub itemRefusal : Model → ℕ → Profile → ℕ → ℕ
+itemRefusal m tag p day =
     unless (validTag tag) badTag
     (unless (validMeasures p) badMeasure
+    (unless (validDay day) badDay
     (when (isIn m tag) alreadyLive
     (when (leb (room (m .order)) (length (m .items))) full
-    0)))
+    0))))
 
 -- add and remove: 23 first
-unfoldable pub addRefusalOf : Model → ℕ → ℕ → ℕ → Profile → ℕ
-addRefusalOf m rows work tag p = unless (canChange m rows work) shortArea (itemRefusal m tag p)
+unfoldable pub addRefusalOf : Model → ℕ → ℕ → ℕ → Profile → ℕ → ℕ
+addRefusalOf m rows work tag p day = unless (canChange m rows work) shortArea (itemRefusal m tag p day)
 
 unfoldable pub removeRefusalOf : Model → ℕ → ℕ → ℕ → ℕ
 removeRefusalOf m rows work tag = unless (canChange m rows work) shortArea (tagRefusal m tag)
@@ -127,13 +129,13 @@ fits area entries = unless (leb (length entries) area) noRoom 0
 -- the questions, after 23: look up 1, 21; range 2, 6; nearest 2, 5, 6
 unfoldable pub questionRefusal : Model → (q : Ask) → AskLengths q → ℕ
 questionRefusal m (lookUp tag) none = tagRefusal m tag
-questionRefusal m (range q r) area =
+questionRefusal m (range q r firstDay) area =
     unless (validMeasures q) badMeasure
-    (fits area (modelRange m q r))
-questionRefusal m (nearest q k) area =
+    (fits area (modelRange m q r firstDay))
+questionRefusal m (nearest q k firstDay) area =
     unless (validMeasures q) badMeasure
     (when (eqb k 0) noCount
-    (fits area (modelNearest m q k)))
+    (fits area (modelNearest m q k firstDay)))
 
 unfoldable pub askRefusal : Model → (q : Ask) → ℕ → AskLengths q → ℕ
 askRefusal m q rows n = unless (canRead m rows) shortArea (questionRefusal m q n)
@@ -143,9 +145,9 @@ unfoldable pub found : List Entry → Payload
 found entries = someEntries (length entries) entries
 
 unfoldable pub answerTo : Model → Ask → Payload
-answerTo m (lookUp tag) = aProfile (profileIn (withTag tag (m .items)))
-answerTo m (range q r) = found (modelRange m q r)
-answerTo m (nearest q k) = found (modelNearest m q k)
+answerTo m (lookUp tag) = weighedIn (withTag tag (m .items))
+answerTo m (range q r firstDay) = found (modelRange m q r firstDay)
+answerTo m (nearest q k firstDay) = found (modelNearest m q k firstDay)
 
 unfoldable pub showsUnless : ℕ → Payload → Shown
 showsUnless zero payload = shows 0 payload
@@ -174,19 +176,19 @@ stopsAt m refusal line = record { model = m; refusal = refusal; line = line; add
 unfoldable pub oneMoreAdded : ListAnswered → ListAnswered
 oneMoreAdded a = record { model = a .model; refusal = a .refusal; line = a .line; added = suc (a .added) }
 
--- RULES 16.4, its lines from number i on: those accepted stay, also where a later line is refused
-unfoldable pub linesAnswered : Model → ℕ → ℕ → ℕ → List ListLine → ListAnswered
-linesAnswered m rows work i [] = stopsAt m 0 0
-linesAnswered m rows work i (malformed ∷ lines) = stopsAt m badListLine i
-linesAnswered m rows work i (anItem tag p ∷ lines) =
-    elim (addRefusalOf m rows work tag p) [
+-- RULES 16.4, its lines from number i on, all of one day: those accepted stay, also where a later line is refused
+unfoldable pub linesAnswered : ℕ → Model → ℕ → ℕ → ℕ → List ListLine → ListAnswered
+linesAnswered day m rows work i [] = stopsAt m 0 0
+linesAnswered day m rows work i (malformed ∷ lines) = stopsAt m badListLine i
+linesAnswered day m rows work i (anItem tag p ∷ lines) =
+    elim (addRefusalOf m rows work tag p day) [
       | suc r ↦ stopsAt m (suc r) i
-      | zero ↦ oneMoreAdded (linesAnswered (with (record { tag = tag; profile = p }) m) rows work (suc i) lines)
+      | zero ↦ oneMoreAdded (linesAnswered day (with (record { tag = tag; profile = p; day = day }) m) rows work (suc i) lines)
     ]
 
-unfoldable pub listAnswered : Model → ℕ → ℕ → List ℕ → ListAnswered
-listAnswered m rows work list =
-    elim (hasHeader list) [ false ↦ stopsAt m badListHeader 1 | true ↦ linesAnswered m rows work 2 (itemLines list) ]
+unfoldable pub listAnswered : Model → ℕ → ℕ → List ℕ → ℕ → ListAnswered
+listAnswered m rows work list day =
+    elim (hasHeader list) [ false ↦ stopsAt m badListHeader 1 | true ↦ linesAnswered day m rows work 2 (itemLines list) ]
 
 -- RULES 16.4, fresh: order, metric and weights as given and no item; load: those of the image, with its items of mark 0
 unfoldable pub modelBegun : Begin → Model
@@ -199,14 +201,14 @@ beginAnswer m b rows =
     record { model = afterUnless (s .refusal) m (modelBegun b); shows = s }
 
 unfoldable pub changeAnswer : Model → Change → ℕ → ℕ → Answered
-changeAnswer m (add tag p) rows work =
-    let n = addRefusalOf m rows work tag p in
-    record { model = afterUnless n m (with (record { tag = tag; profile = p }) m); shows = shows n bare }
+changeAnswer m (add tag p day) rows work =
+    let n = addRefusalOf m rows work tag p day in
+    record { model = afterUnless n m (with (record { tag = tag; profile = p; day = day }) m); shows = shows n bare }
 changeAnswer m (remove tag) rows work =
     let n = removeRefusalOf m rows work tag in
     record { model = afterUnless n m (without tag m); shows = shows n bare }
-changeAnswer m (readList list) rows work =
-    let a = listAnswered m rows work list in
+changeAnswer m (readList list day) rows work =
+    let a = listAnswered m rows work list day in
     record { model = a .model; shows = shows (a .refusal) (aListRead (a .line) (a .added)) }
 
 -- the rows of the table area, then the lengths of the call's own areas. "Writing changes nothing"

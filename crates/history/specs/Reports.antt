@@ -30,17 +30,17 @@ builtIn t u k = elim (not (sizesKept t u k) && eqb (builtOf u k) (liveOf u k)) [
 unfoldable pub buildCost : Table → Table → ℕ
 buildCost t u = total (map (λ k. cost (builtIn t u k)) (bucketsOf (orderOf t)))
 
--- the same of some lines of a herd list added one after the other, each on what the adds before it left
-unfoldable pub addsCost : Table → List Row → List ListLine → ℕ
-addsCost t work [] = 0
-addsCost t work (malformed ∷ lines) = 0
-addsCost t work (anItem tag p ∷ lines) =
-    let u = tableAfterAdd t work tag p in
-    buildCost t u + addsCost u (workAfterAdd t work tag p) lines
+-- the same of some lines of a herd list, of one day, added one after the other, each on what the adds before it left
+unfoldable pub addsCost : ℕ → Table → List Row → List ListLine → ℕ
+addsCost day t work [] = 0
+addsCost day t work (malformed ∷ lines) = 0
+addsCost day t work (anItem tag p ∷ lines) =
+    let u = tableAfterAdd t work tag p day in
+    buildCost t u + addsCost day u (workAfterAdd t work tag p day) lines
 
 -- what add and remove report, accepted or refused; and the reading of a herd list, for the lines that it added
 pub record ReportsBuilds (t : Table) (work : List Row) : Type 0 where
-  pub adds : (tag : ℕ) (p : Profile) → addReply t work tag p .distances ≡ buildCost t (tableAfterAdd t work tag p)
+  pub adds : (tag : ℕ) (p : Profile) (day : ℕ) → addReply t work tag p day .distances ≡ buildCost t (tableAfterAdd t work tag p day)
   pub removes : (tag : ℕ) → removeReply t work tag .distances ≡ buildCost t (tableAfterRemove t work tag)
-  pub lists : (list : List ℕ)
-      → readListReply t work list .distances ≡ addsCost t work (take (readListReply t work list .added) (itemLines list))
+  pub lists : (list : List ℕ) (day : ℕ)
+      → readListReply t work list day .distances ≡ addsCost day t work (take (readListReply t work list day .added) (itemLines list))

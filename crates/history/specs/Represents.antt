@@ -51,10 +51,10 @@ pub record Represents (t : Table) (m : Model) : Type 0 where
   pub once : distinct (map (λ i. i .tag) (m .items)) ≡ true
   -- 7. every live item is in exactly one bucket
   pub oneBucket : every (λ i. eqb (length (bucketsWith t (i .tag))) 1) (m .items) ≡ true
-  -- 8. range answers as a scan of the model, for every query and radius
-  pub range : (q : Profile) (r : ℕ) → IsProfile q → rangeAnswer t q r .entries ≡ modelRange m q r
-  -- 9. nearest likewise, for every query and k
-  pub nearest : (q : Profile) (k : ℕ) → IsProfile q → nearestAnswer t q k .entries ≡ modelNearest m q k
+  -- 8. range answers as a scan of the model, for every query, radius and first day
+  pub range : (q : Profile) (r firstDay : ℕ) → IsProfile q → rangeAnswer t q r firstDay .entries ≡ modelRange m q r firstDay
+  -- 9. nearest likewise, for every query, k and first day
+  pub nearest : (q : Profile) (k firstDay : ℕ) → IsProfile q → nearestAnswer t q k firstDay .entries ≡ modelNearest m q k firstDay
 
 -- RULES 17.7, the bound on all rebuilds together, with A adds, a herd list's accepted lines among them, and R removals at order T: 4·T·(T+1)·A + 11·T·R
 unfoldable pub rebuildBound : ℕ → Sums → ℕ

@@ -28,17 +28,17 @@ overlaid left area = take (length area) left ++ drop (length left) area
 unfoldable pub leftBy : Table → Table → Table
 leftBy left area = area ++ drop (length area) left
 
--- RULES 17.6: what a call shows besides its refusal, by kind: look up's profile, the number found and the entries, a herd list's line and the number added
+-- RULES 17.6: what a call shows besides its refusal, by kind: look up's profile and day, the number found and the entries, a herd list's line and the number added
 pub data Payload : Type 0 where
   bare : Payload
-  aProfile : Profile → Payload
+  aWeighing : Profile → (day : ℕ) → Payload
   someEntries : (found : ℕ) → List Entry → Payload
   aListRead : (line added : ℕ) → Payload
 
 -- the zeros that a refusal has in its place
 unfoldable pub zeroed : Payload → Payload
 zeroed bare = bare
-zeroed (aProfile p) = aProfile noProfile
+zeroed (aWeighing p day) = aWeighing noProfile 0
 zeroed (someEntries found entries) = someEntries 0 []
 zeroed (aListRead line added) = aListRead 0 0
 
@@ -56,14 +56,14 @@ beginShown (fresh order space) n = shows n bare
 beginShown (load image) n = shows n bare
 
 unfoldable pub changeShown : (c : Change) → ChangeReply c → Shown
-changeShown (add tag p) a = shows (a .refusal) bare
+changeShown (add tag p day) a = shows (a .refusal) bare
 changeShown (remove tag) r = shows (r .refusal) bare
-changeShown (readList list) r = shows (r .refusal) (aListRead (r .line) (r .added))
+changeShown (readList list day) r = shows (r .refusal) (aListRead (r .line) (r .added))
 
 unfoldable pub askShown : (q : Ask) → AskReply q → AskAreas q → Shown
-askShown (lookUp tag) l none = shows (l .refusal) (aProfile (l .profile))
-askShown (range q r) s result = shows (s .refusal) (someEntries (s .found) (take (s .found) result))
-askShown (nearest q k) s result = shows (s .refusal) (someEntries (s .found) (take (s .found) result))
+askShown (lookUp tag) l none = shows (l .refusal) (aWeighing (l .profile) (l .day))
+askShown (range q r firstDay) s result = shows (s .refusal) (someEntries (s .found) (take (s .found) result))
+askShown (nearest q k firstDay) s result = shows (s .refusal) (someEntries (s .found) (take (s .found) result))
 
 -- RULES 17.6: writing's refusal is excepted
 unfoldable pub shown : (c : Call) → Reply c → Areas c → Shown
@@ -104,9 +104,9 @@ ifAccepted zero more = more
 ifAccepted (suc n) more = noSums
 
 unfoldable pub counted : (c : Change) → ChangeReply c → Sums
-counted (add tag p) a = ifAccepted (a .refusal) (record { adds = 1; removals = 0; distances = a .distances })
+counted (add tag p day) a = ifAccepted (a .refusal) (record { adds = 1; removals = 0; distances = a .distances })
 counted (remove tag) r = ifAccepted (r .refusal) (record { adds = 0; removals = 1; distances = r .distances })
-counted (readList list) r = record { adds = r .added; removals = 0; distances = r .distances }
+counted (readList list day) r = record { adds = r .added; removals = 0; distances = r .distances }
 
 unfoldable pub sumsAfter : (c : Call) → Reply c → Sums → Sums
 sumsAfter (begin b) reply sums = begunSums (beginShown b reply .refusal) b sums

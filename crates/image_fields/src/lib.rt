@@ -3,10 +3,12 @@ ghost use mathlib.Core.Path.{_≡_};
 ghost use mathlib.Core.List.{map};
 ghost use Prim.Native.Nat.{_≤_};
 ghost use Rattle.lists.specs.Lists.{total, every};
+ghost use Rattle.metric_rules.specs.Row.{dayOf};
+ghost use Rattle.metric_rules.specs.Validity.{validDay};
 ghost use Rattle.table_rules.specs.Geometry.{bucketsOf};
 ghost use Rattle.table_rules.specs.Checks.{sizePasses, sizesPass};
-ghost use Rattle.image_rules.specs.Read.{orderIn, builtIn, liveIn, bucketIn};
-ghost use Rattle.image_rules.specs.Load.{fieldsPass};
+ghost use Rattle.image_rules.specs.Read.{orderIn, builtIn, liveIn, slotsIn, bucketIn};
+ghost use Rattle.image_rules.specs.Load.{fieldsPass, daysPass};
 ghost use Rattle.image_read.specs.InImage.{HasSizes, Whole, InImage, slotsAt};
 ghost use Rattle.image_fields.specs.SlotsRead.{slotsRead};
 use image_form::Form;
@@ -19,6 +21,7 @@ use image_read::some_of;
 use metric::valid_measures;
 use metric::valid_tag;
 use metric_rules::Row;
+use rows::day_of;
 use rows::mark_of;
 use rows::profile_of;
 use rows::tag_of;
@@ -69,6 +72,29 @@ fn slot_passes(row: Row) -> bool
     ensures { λ r. ⌜ r ≡ fieldsPass row ⌝ }
 {
     valid_tag(tag_of(row)) & valid_measures(profile_of(row)) & (mark_of(row) <= 1)
+}
+
+// Whether a slot has a day.
+fn has_day(row: Row) -> bool
+    ensures { λ r. ⌜ r ≡ validDay (dayOf row) ⌝ }
+{
+    1 <= day_of(row)
+}
+
+// The day of every slot, dead ones too.
+pub fn days_pass(image: &[u8], all: Slots) -> bool
+    requires { ⌜ InImage (now image) all × (all .first ≡ 0) × (all .count ≡ slotsIn (now image)) ⌝ }
+    ensures { λ r. ⌜ r ≡ daysPass (now (image .entry)) ⌝ }
+{
+    let count = all.count;
+    let mut i = 0;
+    while i < count {
+        if !has_day(slot_in(image, all, i)) {
+            return false;
+        }
+        i += 1;
+    }
+    true
 }
 
 // Some slots: a field that fails ends it, and the 0 marks are counted.

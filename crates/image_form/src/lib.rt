@@ -3,7 +3,9 @@ ghost use mathlib.Core.Path.{_≡_};
 ghost use Prim.Native.Nat.{_+_, _*_, _<_, _^_};
 ghost use Rattle.image_rules.specs.Bytes.{writtenForm, headerBytes, tagBytes, recordBytes, pairBytes, sizesEnd, imageLength};
 ghost use Rattle.image_form.specs.Answers.{answerOf, formAnswer};
+use image_rules::DAY_BYTES;
 use image_rules::PAIR_BYTES;
+use image_rules::RECORD_WORDS_BYTES;
 use image_rules::START_BYTES;
 use image_rules::TAG_BYTES;
 use image_rules::WEIGHT_BYTES;
@@ -20,12 +22,15 @@ pub enum Formed {
 
 impl Form {
     // The last form that is read, and the one that is written.
-    pub const LAST: u32 = 1;
+    pub const LAST: u32 = 2;
 
-    pub const WRITTEN: u32 = 1;
+    pub const WRITTEN: u32 = 2;
 
     // The one whose images have no weights.
     pub const WITHOUT_WEIGHTS: u32 = 0;
+
+    // The first whose records have a day.
+    pub const FIRST_WITH_DAYS: u32 = 2;
 
     // The form with this number.
     pub fn new(number: u32) -> Formed
@@ -59,7 +64,11 @@ impl Form {
     pub fn record_bytes(self) -> usize
         ensures { λ r. ⌜ r ≡ recordBytes (self .number) ⌝ }
     {
-        40
+        if self.number < Form::FIRST_WITH_DAYS {
+            RECORD_WORDS_BYTES
+        } else {
+            RECORD_WORDS_BYTES + DAY_BYTES
+        }
     }
 
     // The place of the sizes of bucket k.

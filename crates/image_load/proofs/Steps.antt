@@ -8,13 +8,13 @@ use borrow.Author.Tests.{le-ltb, lt-ltb, leb-true, eqb-true}
 use lib.Dec.{leb, ltb, eqb}
 use lib.ListN.{length}
 use Rattle.metric_rules.specs.Distance.{validMetric, validWeights}
-use Rattle.table_rules.specs.Refusals.{badOrder, badMetric, badWeight, badLength, badImage, shortArea, badTable, unless, when, orElse}
+use Rattle.table_rules.specs.Refusals.{badOrder, badMetric, badWeight, badDay, badLength, badImage, shortArea, badTable, unless, when, orElse}
 use Rattle.table_rules.specs.Geometry.{mostOrder, validOrder, tableRows}
 use Rattle.table_rules.specs.Checks.{sizesPass}
 use Rattle.table_rules.proofs.Buckets.{order-most}
 use Rattle.image_rules.specs.Bytes.{validForm, startBytes, headerBytes, sizesEnd, imageLength}
 use Rattle.image_rules.specs.Read.{orderIn, spaceIn, formIn, builtIn, liveIn, slotsIn}
-use Rattle.image_rules.specs.Load.{slotsPass, loadRefusal}
+use Rattle.image_rules.specs.Load.{daysPass, slotsPass, loadRefusal}
 use Rattle.image_read.specs.declared.Header.{Header}
 use Rattle.image_read.specs.InImage.{Headed, Whole}
 use Rattle.image_load.specs.Steps.{startBy, startRefusal, weightsBy, sizesBy, sizesRefusal, slotsBy, laterRefusal}
@@ -25,7 +25,7 @@ stop-first zero n some = absurd (some refl)
 stop-first (suc m) n some = refl
 
 -- load's checks are that of the first bytes, and then these steps
-by-steps : (order metric form header weights pairs sizes whole roomy slots : Bool)
+by-steps : (order metric form header weights pairs sizes whole roomy days slots : Bool)
     → _≡_ {A = ℕ}
     (unless order badOrder
     (unless metric badMetric
@@ -36,20 +36,21 @@ by-steps : (order metric form header weights pairs sizes whole roomy slots : Boo
     (unless sizes badTable
     (unless whole badLength
     (unless roomy shortArea
+    (unless days badDay
     (unless slots badImage
-    0))))))))))
-    (orElse (startBy order metric form header) (orElse (weightsBy weights) (orElse (sizesBy pairs sizes whole roomy) (slotsBy slots))))
+    0)))))))))))
+    (orElse (startBy order metric form header) (orElse (weightsBy weights) (orElse (sizesBy pairs sizes whole roomy) (slotsBy days slots))))
 unfolding startBy weightsBy sizesBy slotsBy
-by-steps false m z h v p n w r f = refl
-by-steps true false z h v p n w r f = refl
-by-steps true true false h v p n w r f = refl
-by-steps true true true false v p n w r f = refl
-by-steps true true true true false p n w r f = refl
-by-steps true true true true true false n w r f = refl
-by-steps true true true true true true false w r f = refl
-by-steps true true true true true true true false r f = refl
-by-steps true true true true true true true true false f = refl
-by-steps true true true true true true true true true f = refl
+by-steps false m z h v p n w r d f = refl
+by-steps true false z h v p n w r d f = refl
+by-steps true true false h v p n w r d f = refl
+by-steps true true true false v p n w r d f = refl
+by-steps true true true true false p n w r d f = refl
+by-steps true true true true true false n w r d f = refl
+by-steps true true true true true true false w r d f = refl
+by-steps true true true true true true true false r d f = refl
+by-steps true true true true true true true true false d f = refl
+by-steps true true true true true true true true true d f = refl
 
 module _ (rows : ℕ) (image : List ℕ) where
   load-steps : loadRefusal rows image ≡ when (ltb (length image) startBytes) badLength (orElse (startRefusal image) (laterRefusal rows image))
@@ -59,7 +60,7 @@ module _ (rows : ℕ) (image : List ℕ) where
       (by-steps (validOrder (orderIn image)) (validMetric (spaceIn image)) (validForm (formIn image))
       (leb (headerBytes (formIn image)) (length image)) (validWeights (spaceIn image .weights))
       (leb (sizesEnd (formIn image) (orderIn image)) (length image)) (sizesPass (orderIn image) (builtIn image) (liveIn image))
-      (eqb (length image) (imageLength (formIn image) (orderIn image) (slotsIn image))) (leb (tableRows (orderIn image)) rows) (slotsPass image))
+      (eqb (length image) (imageLength (formIn image) (orderIn image) (slotsIn image))) (leb (tableRows (orderIn image)) rows) (daysPass image) (slotsPass image))
 
   pub load-short : length image < startBytes → loadRefusal rows image ≡ badLength
   load-short h = load-steps ∙ ap (λ (b : Bool). when b badLength (orElse (startRefusal image) (laterRefusal rows image))) (lt-ltb (length image) startBytes h)

@@ -6,12 +6,12 @@ use mathlib.Core.List.{List}
 use lib.ListN.{length}
 use lib.Dec.{leb, eqb}
 use Rattle.metric_rules.specs.Distance.{validMetric, validWeights}
-use Rattle.table_rules.specs.Refusals.{badOrder, badMetric, badWeight, badLength, badImage, shortArea, badTable, unless, orElse}
+use Rattle.table_rules.specs.Refusals.{badOrder, badMetric, badWeight, badDay, badLength, badImage, shortArea, badTable, unless, orElse}
 use Rattle.table_rules.specs.Geometry.{validOrder, tableRows}
 use Rattle.table_rules.specs.Checks.{sizesPass}
 use Rattle.image_rules.specs.Bytes.{validForm, headerBytes, sizesEnd, imageLength}
 use Rattle.image_rules.specs.Read.{formIn, orderIn, spaceIn, builtIn, liveIn, slotsIn}
-use Rattle.image_rules.specs.Load.{slotsPass}
+use Rattle.image_rules.specs.Load.{daysPass, slotsPass}
 
 unfoldable pub startBy : Bool → Bool → Bool → Bool → ℕ
 startBy order metric form header =
@@ -41,9 +41,12 @@ sizesRefusal rows image =
     sizesBy (leb (sizesEnd (formIn image) (orderIn image)) (length image)) (sizesPass (orderIn image) (builtIn image) (liveIn image))
     (eqb (length image) (imageLength (formIn image) (orderIn image) (slotsIn image))) (leb (tableRows (orderIn image)) rows)
 
-unfoldable pub slotsBy : Bool → ℕ
-slotsBy slots = unless slots badImage 0
+unfoldable pub slotsBy : Bool → Bool → ℕ
+slotsBy days slots =
+    unless days badDay
+    (unless slots badImage
+    0)
 
 unfoldable pub laterRefusal : ℕ → List ℕ → ℕ
 laterRefusal rows image =
-    orElse (weightsBy (validWeights (spaceIn image .weights))) (orElse (sizesRefusal rows image) (slotsBy (slotsPass image)))
+    orElse (weightsBy (validWeights (spaceIn image .weights))) (orElse (sizesRefusal rows image) (slotsBy (daysPass image) (slotsPass image)))

@@ -11,6 +11,7 @@ ghost use Rattle.image_test.specs.Trees.{slotsFault};
 ghost use Rattle.image_load.specs.Steps.{startRefusal, sizesRefusal, laterRefusal};
 use image_entries::Fault;
 use image_fields::buckets_read;
+use image_fields::days_pass;
 use image_fields::sizes_pass;
 use image_fill::put_buckets;
 use image_form::Form;
@@ -30,6 +31,7 @@ use table_fresh::fresh;
 use table_fresh::header_row;
 use table_order::Order;
 use table_order::Ordered;
+use table_rules::BAD_DAY;
 use table_rules::BAD_IMAGE;
 use table_rules::BAD_LENGTH;
 use table_rules::BAD_METRIC;
@@ -128,7 +130,11 @@ fn load_refusal(image: &[u8], header: Header, rows: usize) -> u32
     if refusal != 0 {
         return refusal;
     }
-    let fault = slots_fault(image, header, all_slots(image, header));
+    let all = all_slots(image, header);
+    if !days_pass(image, all) {
+        return BAD_DAY;
+    }
+    let fault = slots_fault(image, header, all);
     fault.number
 }
 

@@ -1,19 +1,20 @@
 -- Blocks of equal length stored one by one, each behind those before, are the run of all.
 use Prim.Native.Nat.{ℕ, suc, _+_, _*_, _≤_, _<_}
-use mathlib.Core.Path.{_≡_, refl, sym, ap, _∙_}
+use mathlib.Core.Path.{_≡_, refl, sym, ap, ap₂, _∙_}
 use mathlib.Core.List.{List, [], _∷_, _++_, map, map-append, append-nil, flatten}
 use native.Mathlib.Numerals.{add-one}
 use native.Mathlib.Omega.{arith}
-use lib.ListN.{length, getD, take, drop, length-take}
+use lib.ListN.{length, getD, take, drop, replicate, length-take, length-drop, take-append-drop}
 use lib.Seq.{sets, take-suc, take-all}
 use Rattle.lists.specs.Lists.{total, All}
 use Rattle.lists.proofs.Lists.{all-always, all-take}
-use Rattle.metric_rules.specs.Row.{Row}
+use Rattle.metric_rules.specs.Row.{Row, IsRow, rowWidth, dayOf}
 use Rattle.tree_rules.proofs.Stores.{sets-more}
-use Rattle.image_rules.specs.Bytes.{writtenForm, bytesOf, tagFields, recordFields, bytesOfFields, recordBytes, tagWords}
+use Rattle.image_rules.specs.Bytes.{writtenForm, bytesOf, tagFields, dayFields, recordFields, bytesOfFields, recordBytes, tagWords}
 use Rattle.image_rules.specs.Write.{tagsOf, recordsOf}
 use Rattle.image_rules.proofs.Blocks.{length-blocks}
-use Rattle.image_rules.proofs.Bytes.{length-fields}
+use Rattle.image_rules.proofs.Bytes.{length-fields, fields-append}
+use Rattle.image_rules.proofs.ReadBack.{day-last}
 use Rattle.image_rules.proofs.Lengths.{length-parts}
 use Rattle.image_rules.proofs.Counting.{flatten-append}
 
@@ -92,3 +93,13 @@ word-bytes [] [] e h = refl
 word-bytes [] (n ∷ ns) e h = absurd (omega arith)
 word-bytes (w ∷ ws) [] e h = absurd (omega arith)
 word-bytes (w ∷ ws) (n ∷ ns) e h = rw (h .0) (ap (λ (r : List ℕ). bytesOf 4 n ++ r) (word-bytes ws ns (omega arith) (h .1)))
+
+-- and behind the words of a record stands its day
+pub record-words : (row : Row) → IsRow row → recordBlock row ≡ flatten (map (bytesOf 4) (take 10 (drop 2 row))) ++ bytesOf 2 (dayOf row)
+unfolding writtenForm recordFields dayFields tagWords tagFields rowWidth bytesOfFields
+record-words row ok =
+    let words = take 10 (drop 2 row) in
+    let long : length words ≡ 10 = omega (arith, length-take 10 (drop 2 row), length-drop 2 row, ok .width) in
+    ap (bytesOfFields (recordFields writtenForm)) (sym (take-append-drop 10 (drop 2 row)) ∙ ap (λ (r : List ℕ). words ++ r) (day-last row ok))
+    ∙ fields-append (replicate 10 4) (dayFields writtenForm) words (dayOf row ∷ []) long
+    ∙ ap₂ _++_ (word-bytes (replicate 10 4) words long (refl, (refl, (refl, (refl, (refl, (refl, (refl, (refl, (refl, (refl, tt))))))))))) (append-nil (bytesOf 2 (dayOf row)))

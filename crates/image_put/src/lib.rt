@@ -9,10 +9,12 @@ ghost use Rattle.image_rules.specs.Bytes.{writtenForm, bytesOf, tagFields, reco
 ghost use Rattle.image_rules.specs.Write.{tagsOf, recordsOf};
 use image_form::Form;
 use image_rules::RECORD_WORDS;
+use image_rules::RECORD_WORDS_BYTES;
 use image_rules::TAG_BYTES;
 use image_rules::TAG_WORDS;
 use metric_rules::Row;
 use metric_rules::TAG_LOW;
+use rows::day_of;
 
 // The two bytes of a number, and its four.
 pub fn put16(image: &mut [u8], at: usize, n: u32)
@@ -58,6 +60,7 @@ fn put_record(image: &mut [u8], at: usize, row: Row)
     ensures { λ _. ⌜ now (image .exit) ≡ sets (now (image .entry)) at (bytesOfFields (recordFields writtenForm) (drop tagWords row)) ⌝ }
 {
     put_words(image, at, row, TAG_WORDS, RECORD_WORDS);
+    put16(image, at + RECORD_WORDS_BYTES, day_of(row));
 }
 
 // The tags of some rows, one after the other, and their records.

@@ -14,12 +14,14 @@ use Rattle.metric_rules.specs.Row.{Row, rowWidth}
 use Rattle.table_rules.specs.Geometry.{room}
 use Rattle.table_rules.specs.Checks.{sizesPass}
 use Rattle.table_rules.proofs.Sizes.{size-room, sizes-at}
-use Rattle.image_rules.specs.Bytes.{tagFields, recordFields, tagBytes, recordBytes, sizeBytes, pairBytes, sizesEnd, imageLength}
-use Rattle.image_rules.specs.Read.{formIn, orderIn, builtIn, liveIn, slotsBefore, slotsIn, rowIn, bucketIn, fieldsAt}
+use Rattle.image_rules.specs.Bytes.{tagFields, tagBytes, sizeBytes, pairBytes, sizesEnd, imageLength}
+use Rattle.image_rules.specs.Read.{formIn, orderIn, builtIn, liveIn, slotsBefore, slotsIn, rowIn, bucketIn}
 use Rattle.image_rules.proofs.Blocks.{length-count}
 use Rattle.image_rules.proofs.Counting.{total-most}
+use Rattle.image_rules.proofs.Lengths.{row-width}
 use Rattle.lists.proofs.Totals.{total-more}
 use Rattle.image_form.specs.declared.Form.{Form}
+use Rattle.image_form.proofs.Forms.{length-by-parts}
 use Rattle.image_read.specs.declared.Header.{Header}
 use Rattle.image_read.specs.declared.Slots.{Slots}
 use Rattle.image_read.specs.InImage.{HasSizes, Whole, InImage, slotIn, slotsAt}
@@ -49,8 +51,8 @@ slots-sizes {image} p k l = sizes-below {t = orderIn image} (record { formed = p
 
 -- an image has more bytes than slots
 pub few-slots : {image : List ℕ} {at : Slots} → InImage image at → slotsIn image ≤ length image
-unfolding imageLength tagBytes recordBytes tagFields recordFields total
-few-slots p = omega (arith, p .whole)
+unfolding tagBytes tagFields total
+few-slots {image} p = omega (arith, p .whole, length-by-parts (formIn image) (orderIn image) (slotsIn image))
 
 -- the slots of a part are in the image where they are among all
 pub some-in : {image : List ℕ} {all : Slots} → InImage image all → (first count : ℕ) → first + count ≤ slotsIn image
@@ -97,8 +99,8 @@ slots-at image at i d h = let z : 0 + i ≡ i = omega arith in counted-at (slotI
 
 -- every slot read has all its words
 pub slot-width : (image : List ℕ) (at : Slots) (i : ℕ) → length (slotIn image at i) ≡ rowWidth
-unfolding slotIn rowIn fieldsAt tagFields recordFields rowWidth
-slot-width image at i = refl
+unfolding slotIn
+slot-width image at i = row-width image (at .first + i)
 
 -- counted from a on, or from 0 with a added
 pub count-shift : {A : Type 0} (f : ℕ → A) (a b n : ℕ) → map (λ i. f (a + i)) (countFrom b n) ≡ map f (countFrom (a + b) n)

@@ -1,13 +1,16 @@
 // The numbers of an image at their places, and its slots as rows. A slice and a number say where to read.
 ghost use mathlib.Core.Path.{_≡_};
 ghost use Prim.Native.Nat.{_+_, _*_, _≤_, _<_};
-ghost use mathlib.Core.List.{_++_};
+ghost use mathlib.Core.List.{[], _∷_, _++_};
 ghost use lib.ListN.{length};
-ghost use Rattle.image_rules.specs.Bytes.{startBytes, headerBytes, tagFields, recordFields, tagBytes, recordBytes};
-ghost use Rattle.image_rules.specs.Read.{numberAt, fieldsAt, orderIn, formIn, weightsAs, builtIn, liveIn, slotsIn};
+ghost use Rattle.image_rules.specs.Bytes.{startBytes, headerBytes, tagFields, dayFields, recordFields, tagBytes, recordBytes};
+ghost use Rattle.image_rules.specs.Read.{numberAt, fieldsAt, orderIn, formIn, weightsAs, dayAs, builtIn, liveIn, slotsIn};
 ghost use Rattle.image_read.specs.InImage.{Started, Headed, HasSizes, Whole, InImage, slotIn};
 use image_form::Form;
+use image_reader::number_at;
 use image_reader::two_from;
+use image_rules::DAY_BYTES;
+use image_rules::RECORD_WORDS_BYTES;
 use image_rules::SIZE_BYTES;
 use image_rules::START_BYTES;
 use image_rules::TAG_BYTES;
@@ -166,10 +169,21 @@ pub fn some_of(all: Slots, first: usize, count: usize) -> Slots
     }
 }
 
+// The day in the record at r, which is 1 in a form that does not have it.
+fn day_at(image: &[u8], form: Form, r: usize) -> u32
+    requires { ⌜ r + recordBytes (form .number) ≤ length (now image) ⌝ }
+    ensures { λ n. ⌜ (n ∷ []) ≡ fieldsAt (now (image .entry)) (dayFields (form .number)) (r + 40) ++ dayAs (form .number) ⌝ }
+{
+    if form.number < Form::FIRST_WITH_DAYS {
+        return 1;
+    }
+    number_at(image, r + RECORD_WORDS_BYTES, DAY_BYTES)
+}
+
 // The row whose tag stands at t and whose record, of a form, stands at r.
 fn row_at(image: &[u8], form: Form, t: usize, r: usize) -> Row
     requires { ⌜ (t + tagBytes ≤ length (now image)) × (r + recordBytes (form .number) ≤ length (now image)) ⌝ }
-    ensures { λ row. ⌜ row ≡ fieldsAt (now (image .entry)) tagFields t ++ fieldsAt (now (image .entry)) (recordFields (form .number)) r ⌝ }
+    ensures { λ row. ⌜ row ≡ fieldsAt (now (image .entry)) tagFields t ++ fieldsAt (now (image .entry)) (recordFields (form .number)) r ++ dayAs (form .number) ⌝ }
 {
     [
         number32(image, t),
@@ -184,6 +198,7 @@ fn row_at(image: &[u8], form: Form, t: usize, r: usize) -> Row
         number32(image, r + 28),
         number32(image, r + 32),
         number32(image, r + 36),
+        day_at(image, form, r),
     ]
 }
 

@@ -7,14 +7,14 @@ use native.Mathlib.Omega.{arith}
 use lib.ListN.{length, drop}
 use lib.Dec.{leb, ltb, eqb}
 use borrow.Author.Tests.{leb-true, eqb-true, le-ltb, le-leb, eq-eqb}
-use Rattle.lists.specs.Lists.{total, All}
+use Rattle.lists.specs.Lists.{All}
 use Rattle.lists.proofs.Tests.{and-first, and-second, and-pass}
 use Rattle.metric_rules.specs.Distance.{validMetric, validWeights, validSpace}
 use Rattle.table_rules.specs.Geometry.{validOrder, tableRows}
 use Rattle.table_rules.specs.Checks.{sizesPass}
-use Rattle.image_rules.specs.Bytes.{validForm, startFields, startBytes, headerBytes, sizesEnd, imageLength}
+use Rattle.image_rules.specs.Bytes.{validForm, startBytes, headerBytes, sizesEnd, imageLength}
 use Rattle.image_rules.specs.Read.{orderIn, spaceIn, formIn, builtIn, liveIn, slotsIn}
-use Rattle.image_rules.specs.Load.{slotsPass, loadRefusal}
+use Rattle.image_rules.specs.Load.{daysPass, slotsPass, loadRefusal}
 use Rattle.image_rules.proofs.Bytes.{header-after-start}
 
 -- every check of a load into an area of so many rows
@@ -25,6 +25,7 @@ pub record Accepted (rows : ℕ) (image : List ℕ) : Type 0 where
   pub sizes : sizesPass (orderIn image) (builtIn image) (liveIn image) ≡ true
   pub long : length image ≡ imageLength (formIn image) (orderIn image) (slotsIn image)
   pub roomy : tableRows (orderIn image) ≤ rows
+  pub days : daysPass image ≡ true
   pub slots : slotsPass image ≡ true
 
 -- checks one after the other, each with one less than the number it refuses by
@@ -54,28 +55,71 @@ negated : (test : Bool) (a b : ℕ) → _≡_ {A = ℕ} (elim test [ true ↦ a 
 negated true a b = refl
 negated false a b = refl
 
+-- the checks of a load by their outcomes, and the refusal that they come to
+checksBy : (long order metric form header weights pairs sizes whole roomy days slots : Bool) → List Check
+checksBy long order metric form header weights pairs sizes whole roomy days slots =
+    record { test = long; number = 6 }
+    ∷ record { test = order; number = 2 }
+    ∷ record { test = metric; number = 3 }
+    ∷ record { test = form; number = 7 }
+    ∷ record { test = header; number = 6 }
+    ∷ record { test = weights; number = 31 }
+    ∷ record { test = pairs; number = 6 }
+    ∷ record { test = sizes; number = 23 }
+    ∷ record { test = whole; number = 6 }
+    ∷ record { test = roomy; number = 22 }
+    ∷ record { test = days; number = 32 }
+    ∷ record { test = slots; number = 7 }
+    ∷ []
+
+pub refusalBy : (long order metric form header weights pairs sizes whole roomy days slots : Bool) → ℕ
+refusalBy long order metric form header weights pairs sizes whole roomy days slots =
+    firstFailing (checksBy long order metric form header weights pairs sizes whole roomy days slots)
+
 module _ (rows : ℕ) (image : List ℕ) where
   checks : List Check
   checks =
-      record { test = not (ltb (length image) startBytes); number = 6 }
-      ∷ record { test = validOrder (orderIn image); number = 2 }
-      ∷ record { test = validMetric (spaceIn image); number = 3 }
-      ∷ record { test = validForm (formIn image); number = 7 }
-      ∷ record { test = leb (headerBytes (formIn image)) (length image); number = 6 }
-      ∷ record { test = validWeights (spaceIn image .weights); number = 31 }
-      ∷ record { test = leb (sizesEnd (formIn image) (orderIn image)) (length image); number = 6 }
-      ∷ record { test = sizesPass (orderIn image) (builtIn image) (liveIn image); number = 23 }
-      ∷ record { test = eqb (length image) (imageLength (formIn image) (orderIn image) (slotsIn image)); number = 6 }
-      ∷ record { test = leb (tableRows (orderIn image)) rows; number = 22 }
-      ∷ record { test = slotsPass image; number = 7 }
-      ∷ []
+      checksBy (not (ltb (length image) startBytes)) (validOrder (orderIn image)) (validMetric (spaceIn image)) (validForm (formIn image))
+      (leb (headerBytes (formIn image)) (length image)) (validWeights (spaceIn image .weights)) (leb (sizesEnd (formIn image) (orderIn image)) (length image))
+      (sizesPass (orderIn image) (builtIn image) (liveIn image)) (eqb (length image) (imageLength (formIn image) (orderIn image) (slotsIn image)))
+      (leb (tableRows (orderIn image)) rows) (daysPass image) (slotsPass image)
 
   load-checks : loadRefusal rows image ≡ firstFailing checks
-  unfolding loadRefusal checks firstFailing
+  unfolding loadRefusal checks checksBy firstFailing
   load-checks = negated (ltb (length image) startBytes) 7 (firstFailing (drop 1 checks))
 
+  -- an image of the length that its sizes give is cut short nowhere
+  module _ (long : length image ≡ imageLength (formIn image) (orderIn image) (slotsIn image)) where
+    start-there : not (ltb (length image) startBytes) ≡ true
+    unfolding imageLength sizesEnd
+    start-there = ap not (le-ltb (length image) startBytes (omega (arith, long, header-after-start (formIn image))))
+
+    header-there : leb (headerBytes (formIn image)) (length image) ≡ true
+    unfolding imageLength sizesEnd
+    header-there = le-leb (headerBytes (formIn image)) (length image) (omega (arith, long))
+
+    sizes-there : leb (sizesEnd (formIn image) (orderIn image)) (length image) ≡ true
+    unfolding imageLength
+    sizes-there = le-leb (sizesEnd (formIn image) (orderIn image)) (length image) (omega (arith, long))
+
+    whole-there : eqb (length image) (imageLength (formIn image) (orderIn image) (slotsIn image)) ≡ true
+    whole-there = eq-eqb (length image) (imageLength (formIn image) (orderIn image) (slotsIn image)) long
+
+    -- so its refusal is by what it says, if its form is known
+    pub refused-by : validForm (formIn image) ≡ true
+        → loadRefusal rows image
+        ≡ refusalBy true (validOrder (orderIn image)) (validMetric (spaceIn image)) true true (validWeights (spaceIn image .weights)) true
+        (sizesPass (orderIn image) (builtIn image) (liveIn image)) true (leb (tableRows (orderIn image)) rows) (daysPass image) (slotsPass image)
+    unfolding checks refusalBy
+    refused-by form =
+        load-checks
+        ∙ (λ i.
+        refusalBy (start-there i) (validOrder (orderIn image)) (validMetric (spaceIn image)) (form i) (header-there i) (validWeights (spaceIn image .weights))
+        (sizes-there i) (sizesPass (orderIn image) (builtIn image) (liveIn image)) (whole-there i) (leb (tableRows (orderIn image)) rows) (daysPass image)
+        (slotsPass image))
+
   pub accepted : loadRefusal rows image ≡ 0 → Accepted rows image
-  unfolding checks
+  unfolding checks checksBy
   accepted h =
       let a = unfailing checks (sym load-checks ∙ h) in
       let b = a .1 .1 .1 .1 .1 .1 in
@@ -86,20 +130,15 @@ module _ (rows : ℕ) (image : List ℕ) where
         sizes = b .1 .0;
         long = eqb-true (length image) (imageLength (formIn image) (orderIn image) (slotsIn image)) (b .1 .1 .0);
         roomy = leb-true (tableRows (orderIn image)) rows (b .1 .1 .1 .0);
-        slots = b .1 .1 .1 .1 .0;
+        days = b .1 .1 .1 .1 .0;
+        slots = b .1 .1 .1 .1 .1 .0;
       }
 
   pub accepts : Accepted rows image → loadRefusal rows image ≡ 0
-  unfolding checks sizesEnd startBytes startFields total imageLength
+  unfolding checksBy refusalBy
   accepts a =
-      let bytes = length image in
-      let end = sizesEnd (formIn image) (orderIn image) in
-      let order = orderIn image in
-      let body : All (λ c. c .test ≡ true) (drop 8 checks) =
-      (eq-eqb bytes (imageLength (formIn image) order (slotsIn image)) (a .long), (le-leb (tableRows order) rows (a .roomy), (a .slots, tt))) in
-      let sizes : All (λ c. c .test ≡ true) (drop 6 checks) = (le-leb end bytes (omega (arith, a .long)), (a .sizes, body)) in
-      let weights : All (λ c. c .test ≡ true) (drop 4 checks) =
-      (le-leb (headerBytes (formIn image)) bytes (omega (arith, a .long)), (and-second (validMetric (spaceIn image)) _ (a .space), sizes)) in
-      load-checks
-      ∙ passing checks
-      (ap not (le-ltb bytes 4 (omega (arith, a .long, header-after-start (formIn image)))), (a .order, (and-first _ _ (a .space), (a .form, weights))))
+      refused-by (a .long) (a .form)
+      ∙ passing
+      (checksBy true (validOrder (orderIn image)) (validMetric (spaceIn image)) true true (validWeights (spaceIn image .weights)) true
+      (sizesPass (orderIn image) (builtIn image) (liveIn image)) true (leb (tableRows (orderIn image)) rows) (daysPass image) (slotsPass image))
+      (refl, (a .order, (and-first _ _ (a .space), (refl, (refl, (and-second (validMetric (spaceIn image)) _ (a .space), (refl, (a .sizes, (refl, (le-leb (tableRows (orderIn image)) rows (a .roomy), (a .days, (a .slots, tt))))))))))))

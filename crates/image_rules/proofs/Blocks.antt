@@ -1,6 +1,6 @@
 -- Lists put end to end: what stands before and after one of them, and how a run of places picks a part of a list.
 -- Each goes by induction on what stands before the place.
-use Prim.Native.Nat.{ℕ, zero, suc, _+_, _*_, _^_, _<_}
+use Prim.Native.Nat.{ℕ, zero, suc, _+_, _*_, _<_}
 use mathlib.Core.Path.{_≡_, refl, sym, ap, ap₂, _∙_}
 use mathlib.Core.List.{List, [], _∷_, _++_, map, map-append, append-assoc, flatten}
 use native.Mathlib.Nat.{zero-add, suc-add, mul-suc, le-of-suc-le-suc, not-suc-le-zero}
@@ -9,7 +9,6 @@ use lib.ListN.{length, getD, take, drop, length-append}
 use lib.Seq.{getD-at, drop-drop, take-add}
 use Rattle.lists.specs.Lists.{total, countFrom, All}
 use Rattle.lists.proofs.Lists.{all-append}
-use Rattle.metric_rules.specs.Row.{word}
 use Rattle.table_rules.proofs.ByNumber as by-number
 pub use Rattle.table_rules.proofs.ByNumber.{map-count}
 use Rattle.lists.proofs.Totals.{total-more}
@@ -27,11 +26,10 @@ module _ {A : Type 0} (P : A → Type 0) where
   all-at (x ∷ xs) zero d h l = h .0
   all-at (x ∷ xs) (suc i) d h l = all-at xs i d (h .1) (le-of-suc-le-suc l)
 
--- what holds of the element at every place holds of every element
-pub all-words : (xs : List ℕ) → ((i : ℕ) → word xs i < 2 ^ 32) → All (λ x. x < 2 ^ 32) xs
-unfolding word
-all-words [] h = tt
-all-words (x ∷ xs) h = (h 0, all-words xs (λ i. h (suc i)))
+-- numbers that are below a bound at every place
+pub all-below : (m : ℕ) (xs : List ℕ) → ((i : ℕ) → getD xs i 0 < m) → All (λ x. x < m) xs
+all-below m [] h = tt
+all-below m (x ∷ xs) h = (h 0, all-below m xs (λ i. h (suc i)))
 
 module _ {A : Type 0} (f : A → List ℕ) (w : ℕ) where
   -- the block of element i, with what stands before and after it

@@ -1,10 +1,10 @@
 -- Little-endian bytes: a number's bytes read back as the number, and fields of numbers that fit them as these numbers.
 use Prim.Native.Nat.{ℕ, zero, suc, _+_, _/_, _^_, _≤_, _<_}
-use mathlib.Core.Path.{_≡_, refl, ap, ap₂, _∙_}
-use mathlib.Core.List.{List, [], _∷_, _++_, append-assoc}
+use mathlib.Core.Path.{_≡_, refl, sym, ap, ap₂, _∙_}
+use mathlib.Core.List.{List, [], _∷_, _++_, append-assoc, append-nil}
 use native.Mathlib.Nat.{pow-suc}
 use native.Mathlib.Omega.{arith}
-use lib.ListN.{length, length-append}
+use lib.ListN.{length, drop, length-append}
 use lib.Seq.{take-at, drop-at}
 use Rattle.lists.specs.Lists.{total, All}
 use Rattle.image_rules.specs.Bytes.{bytesOf, numberOf, bytesOfFields, startFields, weightFields, headerFields, startBytes, headerBytes}
@@ -28,6 +28,20 @@ length-fields [] ns = refl
 length-fields (w ∷ ws) [] = length-append (bytesOf w 0) (bytesOfFields ws []) ∙ ap₂ _+_ (length-bytes w 0) (length-fields ws [])
 length-fields (w ∷ ws) (n ∷ ns) = length-append (bytesOf w n) (bytesOfFields ws ns) ∙ ap₂ _+_ (length-bytes w n) (length-fields ws ns)
 
+-- fields of two groups, with as many numbers as fields in the first; numbers past the fields are left out
+pub fields-append : (ws vs ns ms : List ℕ) → length ns ≡ length ws → bytesOfFields (ws ++ vs) (ns ++ ms) ≡ bytesOfFields ws ns ++ bytesOfFields vs ms
+unfolding bytesOfFields
+fields-append [] vs [] ms l = refl
+fields-append [] vs (n ∷ ns) ms l = absurd (omega arith)
+fields-append (w ∷ ws) vs [] ms l = absurd (omega arith)
+fields-append (w ∷ ws) vs (n ∷ ns) ms l =
+    ap (λ (r : List ℕ). bytesOf w n ++ r) (fields-append ws vs ns ms (omega arith)) ∙ sym (append-assoc (bytesOf w n) (bytesOfFields ws ns) (bytesOfFields vs ms))
+
+pub fields-past : (ws ns ms : List ℕ) → length ns ≡ length ws → bytesOfFields ws (ns ++ ms) ≡ bytesOfFields ws ns
+unfolding bytesOfFields
+fields-past ws ns ms l =
+    ap (λ (vs : List ℕ). bytesOfFields vs (ns ++ ms)) (sym (append-nil ws)) ∙ fields-append ws [] ns ms l ∙ append-nil (bytesOfFields ws ns)
+
 -- what stands after a list of length `at`
 pub number-at : (a : List ℕ) (w n : ℕ) (c : List ℕ) (at : ℕ) → length a ≡ at → n < 256 ^ w → numberAt (a ++ (bytesOf w n ++ c)) w at ≡ n
 unfolding numberAt
@@ -40,11 +54,12 @@ Fill [] (n ∷ ns) = ⊥
 Fill (w ∷ ws) [] = ⊥
 Fill (w ∷ ws) (n ∷ ns) = (n < 256 ^ w) × Fill ws ns
 
-pub words-fill : (ws ns : List ℕ) → length ns ≡ length ws → All (λ w. w ≡ 4) ws → All (λ n. n < 2 ^ 32) ns → Fill ws ns
-words-fill [] [] e f h = tt
-words-fill [] (n ∷ ns) e f h = omega arith
-words-fill (w ∷ ws) [] e f h = omega arith
-words-fill (w ∷ ws) (n ∷ ns) e f h = (rw (f .0) (h .0), words-fill ws ns (omega arith) (f .1) (h .1))
+-- fields of one width each, and what comes behind them
+pub alike-fill : (w : ℕ) (ws vs ns : List ℕ) → length ws ≤ length ns → All (λ v. v ≡ w) ws → All (λ n. n < 256 ^ w) ns → Fill vs (drop (length ws) ns)
+    → Fill (ws ++ vs) ns
+alike-fill w [] vs ns l f h rest = rest
+alike-fill w (v ∷ ws) vs [] l f h rest = omega arith
+alike-fill w (v ∷ ws) vs (n ∷ ns) l f h rest = (rw (f .0) (h .0), alike-fill w ws vs ns (omega arith) (f .1) (h .1) rest)
 
 pub fields-at : (a ws ns c : List ℕ) (at : ℕ) → length a ≡ at → Fill ws ns → fieldsAt (a ++ (bytesOfFields ws ns ++ c)) ws at ≡ ns
 unfolding fieldsAt bytesOfFields

@@ -1,245 +1,185 @@
--- An image of form 0 is accepted exactly if its translation is, and loads as the same table: both read the same order, space, sizes and rows, only that
--- what stands behind the header stands four bytes further on in the translation.
-use Prim.Native.Nat.{ℕ, zero, suc, _+_, _*_, _≤_}
+-- An image of an older form, of the length that its sizes give, is refused or loads as its translation does. The translation is the bytes in which the newest form
+-- writes what the image says, so it reads back as that, and a load goes by what is read alone where no length is wrong.
+use Prim.Native.Nat.{ℕ, zero, suc, _+_, _*_, _^_, _≤_, _<_}
 use mathlib.Core.Path.{_≡_, refl, sym, ap, ap₂, _∙_}
-use mathlib.Core.Bool.{Bool, true, false, _&&_}
-use mathlib.Core.List.{List, [], _∷_, _++_, map, flatten, foldl}
+use mathlib.Core.Bool.{true}
+use mathlib.Core.List.{List, [], _∷_, _++_, map, map-map, append-assoc, flatten, foldl}
 use native.Mathlib.Omega.{arith}
-use lib.ListN.{length, take, drop}
-use lib.Seq.{drop-drop}
-use lib.Dec.{leb, ltb, eqb}
-use borrow.Author.Tests.{leb-true, leb-false, eqb-true, eqb-false, le-leb, lt-leb, le-ltb, eq-eqb, ne-eqb}
-use Rattle.lists.specs.Lists.{total, countFrom, select, every, distinct}
-use Rattle.metric_rules.specs.Row.{tagOf, isLive}
-use Rattle.metric_rules.specs.Distance.{validMetric, validWeights, weightsOne}
-use Rattle.table_rules.specs.Refusals.{badOrder, badMetric, badWeight, badLength, badImage, shortArea, badTable, unless, when}
+use lib.ListN.{length, take, drop, length-map}
+use lib.Seq.{drop-drop, take-add}
+use lib.Dec.{leb}
+use borrow.Author.Tests.{le-leb}
+use Rattle.lists.specs.Lists.{total, countFrom, every, All}
+use Rattle.metric_rules.specs.Row.{Row}
+use Rattle.metric_rules.specs.Distance.{validMetric, validWeights, weight, weightsOne}
 use Rattle.table_rules.specs.Geometry.{validOrder, bucketsOf, tableRows}
 use Rattle.table_rules.specs.Table.{Table, putBucket}
 use Rattle.table_rules.specs.Checks.{sizesPass}
 use Rattle.table_rules.specs.Fresh.{freshTable}
-use Rattle.image_rules.specs.Bytes.{numberOf, lastForm, validForm, startFields, weightFields, headerFields, tagFields, recordFields, startBytes, headerBytes, tagBytes, recordBytes, sizeBytes, pairBytes, sizesEnd, imageLength}
-use Rattle.image_rules.specs.Read.{numberAt, fieldsAt, startNumbers, orderIn, formIn, weightsAs, spaceIn, builtIn, liveIn, slotsBefore, slotsIn, rowIn, bucketIn}
-use Rattle.image_rules.specs.Load.{bucketPasses, liveRows, slotsPass, loadRefusal, loadedTable, tableAfterLoad}
-use Rattle.image_rules.specs.Translate.{translated}
+use Rattle.table_rules.proofs.ByNumber.{map-count}
+use Rattle.image_rules.specs.Bytes.{lastForm, validForm, writtenForm, bytesOf, bytesOfFields, startFields, weightFields, headerFields, dayFields, recordFields, startBytes, headerBytes, tagBytes, pairBytes, sizesEnd, tagWords, imageLength}
+use Rattle.image_rules.specs.Write.{headerBytesOf, sizesOf, tagsOf, recordsOf}
+use Rattle.image_rules.specs.Read.{numberAt, fieldsAt, startNumbers, orderIn, formIn, weightsAs, spaceIn, builtIn, liveIn, slotsIn, dayAs, rowIn, bucketIn}
+use Rattle.image_rules.specs.Load.{loadRefusal, loadedTable, tableAfterLoad}
+use Rattle.image_rules.specs.Translate.{weightBytes, recordWithDay, translated}
+use Rattle.image_rules.proofs.Bytes.{fields-append, header-after-start}
+use Rattle.image_rules.proofs.Blocks.{length-count}
+use Rattle.image_rules.proofs.Numbers.{number-at-fits, bytes-at, bytes-of-fields-at}
+use Rattle.image_rules.proofs.EachBucket.{fold-buckets, rows-in-buckets}
+use Rattle.image_rules.proofs.ReadBack.{Fields, imageFields, rowsOf, bytesWritten, Fit, Reads, reads-written, form-written}
+use Rattle.image_rules.proofs.ReadTests.{bucketsPass, allWeighed, reads-slots, reads-sizes, buckets-read, reads-days}
+use Rattle.image_rules.proofs.GivesBack.{WellFormed, recordIn, tagsAt, recordsAt, sizes-there, tags-there, record-is, length-record-in, record-bytes}
+use Rattle.image_rules.proofs.Lengths.{length-written, numbers-fit, below-at, built-in-fits, live-in-fits, bucket-in-fits, bucket-days-fit}
+use Rattle.image_rules.proofs.Loaded.{length-bucket-in, four-weights}
+use Rattle.image_rules.proofs.Accepting.{refusalBy, refused-by}
 
--- two images that read alike
-record Alike (a b : List ℕ) : Type 0 where
-  order : orderIn a ≡ orderIn b
-  space : spaceIn a ≡ spaceIn b
-  built : builtIn a ≡ builtIn b
-  live : liveIn a ≡ liveIn b
-  buckets : bucketIn a ≡ bucketIn b
-
-module _ {a b : List ℕ} (alike : Alike a b) where
-  alike-slots : slotsPass a ≡ slotsPass b
-  unfolding slotsPass liveRows
-  alike-slots = λ i.
-      every (λ k. bucketPasses (alike .space i) (alike .live i k) (alike .buckets i k)) (bucketsOf (alike .order i))
-      && distinct (map tagOf (flatten (map (λ k. select isLive (alike .buckets i k)) (bucketsOf (alike .order i)))))
-
-  alike-table : (t : Table) → loadedTable a t ≡ loadedTable b t
+-- a load of an image of a known form and of the length that its sizes give goes by its fields
+module _ {f : Fields} {image : List ℕ} (reads : Reads f image) where
+  loads-by : (t : Table) → loadedTable image t ≡ foldl (λ u k. putBucket k (f .slots k) (f .live k) u) (freshTable (f .order) (f .space) t) (bucketsOf (f .order))
   unfolding loadedTable
-  alike-table t = λ i.
-      foldl (λ u k. putBucket k (alike .buckets i k) (alike .live i k) u) (freshTable (alike .order i) (alike .space i) t) (bucketsOf (alike .order i))
+  loads-by t =
+      rw (reads .order, reads .space)
+      (fold-buckets (λ u k. putBucket k (bucketIn image k) (liveIn image k) u) (λ u k. putBucket k (f .slots k) (f .live k) u) (f .order)
+      (λ k h u. ap₂ (λ slots live. putBucket k slots live u) (reads .slots k h) (reads .live k h)) (freshTable (f .order) (f .space) t))
 
--- a load by its tests
-refusalBy : Bool → Bool → Bool → Bool → Bool → Bool → Bool → Bool → Bool → Bool → Bool → ℕ
-refusalBy short order metric form header weights pairs sizes whole roomy slots =
-    when short badLength
-    (unless order badOrder
-    (unless metric badMetric
-    (unless form badImage
-    (unless header badLength
-    (unless weights badWeight
-    (unless pairs badLength
-    (unless sizes badTable
-    (unless whole badLength
-    (unless roomy shortArea
-    (unless slots badImage
-    0))))))))))
+  refused-so : (rows : ℕ) → length image ≡ imageLength (formIn image) (orderIn image) (slotsIn image) → validForm (formIn image) ≡ true
+      → loadRefusal rows image
+      ≡ refusalBy true (validOrder (f .order)) (validMetric (f .space)) true true (validWeights (f .space .weights)) true (sizesPass (f .order) (f .built) (f .live)) true
+      (leb (tableRows (f .order)) rows) (allWeighed f) (bucketsPass f)
+  refused-so rows long form =
+      refused-by rows image long form
+      ∙ (λ i.
+      refusalBy true (validOrder (reads .order i)) (validMetric (reads .space i)) true true (validWeights (reads .space i .weights)) true (reads-sizes reads i) true
+      (leb (tableRows (reads .order i)) rows) (reads-days reads i) (buckets-read reads i))
 
-by-tests : (rows : ℕ) (image : List ℕ)
-    → loadRefusal rows image
-    ≡ refusalBy (ltb (length image) startBytes) (validOrder (orderIn image)) (validMetric (spaceIn image)) (validForm (formIn image))
-    (leb (headerBytes (formIn image)) (length image)) (validWeights (spaceIn image .weights)) (leb (sizesEnd (formIn image) (orderIn image)) (length image))
-    (sizesPass (orderIn image) (builtIn image) (liveIn image)) (eqb (length image) (imageLength (formIn image) (orderIn image) (slotsIn image)))
-    (leb (tableRows (orderIn image)) rows) (slotsPass image)
-unfolding loadRefusal refusalBy
-by-tests rows image = refl
+-- what bytes say fits the fields of the newest form
+weights-fit : (image : List ℕ) → All (λ b. b < 2 ^ 8) image → (form i : ℕ) → weight (weightsAs form image) i < 256 ^ 1
+unfolding weight weightsAs weightsOne weightFields every
+weights-fit image bytes zero i = below-at 256 (omega arith) (weightsAs zero image .each) (omega arith, (omega arith, (omega arith, (omega arith, tt)))) i
+weights-fit image bytes (suc form) i =
+    below-at 256 (omega arith) (fieldsAt image (weightFields (suc form)) startBytes) (numbers-fit image bytes 1 (weightFields (suc form)) startBytes refl) i
 
--- two numbers, each more by n, compare as before
-module _ (n a b c d : ℕ) (left : c ≡ a + n) (right : d ≡ b + n) where
-  moved-leb : leb c d ≡ leb a b
-  moved-leb = go (leb a b) refl
-    where
-      go : (t : Bool) → leb a b ≡ t → leb c d ≡ leb a b
-      go true e = le-leb c d (omega (arith, leb-true a b e)) ∙ sym e
-      go false e = lt-leb c d (omega (arith, leb-false a b e)) ∙ sym e
+image-fits : (image : List ℕ) → All (λ b. b < 2 ^ 8) image → Fit (imageFields image)
+unfolding orderIn spaceIn startNumbers startFields fieldsAt
+image-fits image bytes =
+    record {
+      order = number-at-fits image bytes 1 0;
+      metric = number-at-fits image bytes 1 1;
+      weights = weights-fit image bytes (formIn image);
+      built = λ k h. built-in-fits image bytes k;
+      live = λ k h. live-in-fits image bytes k;
+      slots = λ k h. length-bucket-in image k;
+      rows = λ k h. bucket-in-fits image bytes k;
+      days = λ k h. bucket-days-fit image bytes k;
+    }
 
-  moved-eqb : eqb c d ≡ eqb a b
-  moved-eqb = go (eqb a b) refl
-    where
-      go : (t : Bool) → eqb a b ≡ t → eqb c d ≡ eqb a b
-      go true e = eq-eqb c d (omega (arith, eqb-true a b e)) ∙ sym e
-      go false e = ne-eqb c d (λ z. eqb-false a b e (omega arith)) ∙ sym e
+-- a record of an older form with day 1 behind it is a record of the newest
+day-added : (form : ℕ) (ns : List ℕ) → form < writtenForm → length ns ≡ length (recordFields form)
+    → bytesOfFields (recordFields writtenForm) (ns ++ dayAs form) ≡ bytesOfFields (recordFields form) ns ++ bytesOf 2 1
+unfolding writtenForm recordFields dayFields dayAs bytesOfFields bytesOf
+day-added zero ns old l = fields-append (recordFields 0) (2 ∷ []) ns (1 ∷ []) l
+day-added (suc zero) ns old l = fields-append (recordFields 1) (2 ∷ []) ns (1 ∷ []) l
+day-added (suc (suc form)) ns old l = absurd (omega arith)
 
--- an image of form 0 of four bytes or more, and its translation
-module _ (a b c d : ℕ) (rest : List ℕ) where
-  older : List ℕ
-  older = a ∷ b ∷ c ∷ d ∷ rest
+module _ (image : List ℕ) (formed : WellFormed image) (old : formIn image < writtenForm) where
+  long : headerBytes (formIn image) + pairBytes * suc (orderIn image) ≤ length image
+  unfolding imageLength sizesEnd
+  long = omega (arith, formed .long)
 
-  newer : List ℕ
-  newer = a ∷ b ∷ 1 ∷ 0 ∷ 1 ∷ 1 ∷ 1 ∷ 1 ∷ rest
+  some : 4 ≤ length image
+  unfolding startBytes startFields total
+  some = omega (arith, long, header-after-start (formIn image))
 
-  newer-translated : translated older ≡ newer
-  unfolding translated older newer
-  newer-translated = refl
+  rows : List Row
+  rows = map (rowIn image) (countFrom 0 (slotsIn image))
 
-  moved : (j : ℕ) → drop (8 + j) newer ≡ drop (4 + j) older
-  unfolding older newer
-  moved j = sym (drop-drop j 8 (a ∷ b ∷ 1 ∷ 0 ∷ 1 ∷ 1 ∷ 1 ∷ 1 ∷ rest)) ∙ drop-drop j 4 (a ∷ b ∷ c ∷ d ∷ rest)
+  -- the translation is what the newest form writes, part by part
+  weights-translated : (form : ℕ) → headerBytes form ≤ length image → bytesOfFields (weightFields writtenForm) (weightsAs form image .each) ≡ weightBytes form image
+  unfolding headerBytes headerFields startFields startBytes weightFields weightsAs weightsOne weightBytes writtenForm bytesOfFields bytesOf total
+  weights-translated zero h = refl
+  weights-translated (suc form) h = bytes-of-fields-at image (formed .bytes) (weightFields (suc form)) startBytes h
 
-  number-moved : (w j : ℕ) → numberAt newer w (8 + j) ≡ numberAt older w (4 + j)
-  unfolding numberAt
-  number-moved w j = ap (λ (bytes : List ℕ). numberOf (take w bytes)) (moved j)
+  head : List ℕ
+  head = take 2 image ++ bytesOf 2 writtenForm ++ weightBytes (formIn image) image
 
-  fields-moved : (ws : List ℕ) (j : ℕ) → fieldsAt newer ws (8 + j) ≡ fieldsAt older ws (4 + j)
-  unfolding fieldsAt
-  fields-moved [] j = refl
-  fields-moved (w ∷ ws) j =
-      let there : 8 + j + w ≡ 8 + (j + w) = omega arith in
-      let here : 4 + (j + w) ≡ 4 + j + w = omega arith in
-      ap₂ _∷_ (number-moved w j) (ap (fieldsAt newer ws) there ∙ fields-moved ws (j + w) ∙ ap (fieldsAt older ws) here)
+  header-translated : headerBytesOf writtenForm (orderIn image) (spaceIn image) ≡ head
+  unfolding head headerBytesOf headerFields startFields orderIn spaceIn startNumbers fieldsAt bytesOfFields
+  header-translated =
+      let order : bytesOf 1 (numberAt image 1 0) ≡ take 1 image = bytes-at image (formed .bytes) 1 0 (omega (arith, some)) in
+      let metric : bytesOf 1 (numberAt image 1 1) ≡ take 1 (drop 1 image) = bytes-at image (formed .bytes) 1 1 (omega (arith, some)) in
+      (λ i. order i ++ (metric i ++ (bytesOf 2 writtenForm ++ weights-translated (formIn image) (omega (arith, long)) i)))
+      ∙ rw (take-add 1 1 image) (simp append-assoc)
 
-  form-newer : formIn newer ≡ 1
-  unfolding newer formIn startNumbers startFields fieldsAt numberAt numberOf
-  form-newer = refl
+  sizes-translated : sizesOf (orderIn image) (builtIn image) (liveIn image) ++ tagsOf rows
+      ≡ take (pairBytes * suc (orderIn image) + tagBytes * slotsIn image) (drop (headerBytes (formIn image)) image)
+  unfolding rows tagsAt
+  sizes-translated =
+      let pairs = pairBytes * suc (orderIn image) in
+      ap₂ _++_ (sizes-there image formed) (tags-there image formed ∙ ap (take (tagBytes * slotsIn image)) (sym (drop-drop pairs (headerBytes (formIn image)) image)))
+      ∙ sym (take-add pairs (tagBytes * slotsIn image) (drop (headerBytes (formIn image)) image))
 
-  module _ (old : formIn older ≡ 0) where
-    order-kept : orderIn newer ≡ orderIn older
-    unfolding older newer orderIn startNumbers startFields fieldsAt numberAt numberOf
-    order-kept = refl
+  records-translated : recordsOf writtenForm rows ≡ flatten (map (recordWithDay image) (countFrom 0 (slotsIn image)))
+  unfolding rows recordsOf recordWithDay recordsAt tagsAt sizesEnd
+  records-translated =
+      let part : Row → List ℕ = λ row. bytesOfFields (recordFields writtenForm) (drop tagWords row) in
+      ap flatten
+      (map-map part (rowIn image) (countFrom 0 (slotsIn image))
+      ∙ map-count (λ i. part (rowIn image i)) (recordWithDay image) 0 (slotsIn image)
+      (λ i l m.
+      ap (bytesOfFields (recordFields writtenForm)) (record-is image formed i)
+      ∙ day-added (formIn image) (recordIn image formed i) old (length-record-in image formed i)
+      ∙ ap (λ (r : List ℕ). r ++ bytesOf 2 1) (record-bytes image formed i (omega arith))))
 
-    space-kept : spaceIn newer ≡ spaceIn older
-    unfolding older newer spaceIn weightsAs weightsOne weightFields startBytes total startNumbers startFields fieldsAt numberAt numberOf formIn
-    space-kept = ap (λ (f : ℕ). record { metric = numberAt older 1 1; weights = weightsAs f older }) (sym old)
+  is-translated : bytesWritten (imageFields image) ≡ translated image
+  unfolding bytesWritten rows head translated
+  is-translated =
+      let sizes = sizesOf (orderIn image) (builtIn image) (liveIn image) in
+      (λ i. header-translated i ++ sizes ++ tagsOf (rows-in-buckets image i) ++ recordsOf writtenForm (rows-in-buckets image i))
+      ∙ ap (λ (r : List ℕ). r ++ recordsOf writtenForm rows) (append-assoc head sizes (tagsOf rows))
+      ∙ ap₂ (λ (m r : List ℕ). head ++ m ++ r) sizes-translated records-translated
 
-    sizes-start : (k : ℕ) → headerBytes (formIn newer) + pairBytes * k ≡ 8 + pairBytes * k
-    unfolding headerBytes headerFields startFields weightFields total
-    sizes-start k = ap (λ (f : ℕ). headerBytes f + pairBytes * k) form-newer
+  -- so it reads back as the image's fields, is of the newest form, and has the length that its sizes give
+  reads : Reads (imageFields image) (translated image)
+  reads = rw (← is-translated) (reads-written (imageFields image) (four-weights image) (image-fits image (formed .bytes)))
 
-    sizes-older : (k : ℕ) → 4 + pairBytes * k ≡ headerBytes (formIn older) + pairBytes * k
-    unfolding headerBytes headerFields startFields weightFields total
-    sizes-older k = ap (λ (f : ℕ). headerBytes f + pairBytes * k) (sym old)
+  form-translated : formIn (translated image) ≡ writtenForm
+  form-translated = rw (← is-translated) (form-written (imageFields image) (four-weights image) (image-fits image (formed .bytes)))
 
-    built-kept : (k : ℕ) → builtIn newer k ≡ builtIn older k
-    unfolding builtIn
-    built-kept k =
-        ap (numberAt newer sizeBytes) (sizes-start k) ∙ number-moved sizeBytes (pairBytes * k) ∙ ap (numberAt older sizeBytes) (sizes-older k)
+  own : Reads (imageFields image) image
+  own = record { order = refl; space = refl; built = λ k h. refl; live = λ k h. refl; slots = λ k h. refl }
 
-    live-kept : (k : ℕ) → liveIn newer k ≡ liveIn older k
-    unfolding liveIn
-    live-kept k =
-        let there : headerBytes (formIn newer) + pairBytes * k + sizeBytes ≡ 8 + (pairBytes * k + sizeBytes) = omega (arith, sizes-start k) in
-        let here : 4 + (pairBytes * k + sizeBytes) ≡ headerBytes (formIn older) + pairBytes * k + sizeBytes = omega (arith, sizes-older k) in
-        ap (numberAt newer sizeBytes) there ∙ number-moved sizeBytes (pairBytes * k + sizeBytes) ∙ ap (numberAt older sizeBytes) here
+  number-of-rows : slotsIn (translated image) ≡ length (rowsOf (imageFields image))
+  number-of-rows =
+      reads-slots reads
+      ∙ sym (reads-slots own)
+      ∙ sym (ap length (rows-in-buckets image) ∙ length-map (countFrom 0 (slotsIn image)) (rowIn image) ∙ length-count 0 (slotsIn image))
 
-    slots-kept : slotsIn newer ≡ slotsIn older
-    unfolding slotsIn slotsBefore
-    slots-kept = λ i. total (map (λ k. built-kept k i) (countFrom 0 (suc (order-kept i))))
+  length-translated : length (translated image) ≡ imageLength (formIn (translated image)) (orderIn (translated image)) (slotsIn (translated image))
+  length-translated =
+      ap length (sym is-translated)
+      ∙ length-written (imageFields image)
+      ∙ sym (λ i. imageLength (form-translated i) (reads .order i) (number-of-rows i))
 
-    -- the place where the tags begin
-    end-newer : sizesEnd (formIn newer) (orderIn newer) ≡ 8 + pairBytes * suc (orderIn older)
-    unfolding sizesEnd
-    end-newer = ap (λ (order : ℕ). headerBytes (formIn newer) + pairBytes * suc order) order-kept ∙ sizes-start (suc (orderIn older))
+  known : validForm (formIn image) ≡ true
+  unfolding validForm lastForm writtenForm
+  known = le-leb (formIn image) lastForm (omega arith)
 
-    end-older : 4 + pairBytes * suc (orderIn older) ≡ sizesEnd (formIn older) (orderIn older)
-    unfolding sizesEnd
-    end-older = sizes-older (suc (orderIn older))
+  known-translated : validForm (formIn (translated image)) ≡ true
+  unfolding validForm lastForm writtenForm
+  known-translated = ap validForm form-translated
 
-    part-kept : (ws : List ℕ) (far : ℕ)
-        → fieldsAt newer ws (sizesEnd (formIn newer) (orderIn newer) + far) ≡ fieldsAt older ws (sizesEnd (formIn older) (orderIn older) + far)
-    part-kept ws far =
-        let start = pairBytes * suc (orderIn older) in
-        let there : sizesEnd (formIn newer) (orderIn newer) + far ≡ 8 + (start + far) = omega (arith, end-newer) in
-        let here : 4 + (start + far) ≡ sizesEnd (formIn older) (orderIn older) + far = omega (arith, end-older) in
-        ap (fieldsAt newer ws) there ∙ fields-moved ws (start + far) ∙ ap (fieldsAt older ws) here
+  refusal-same : (n : ℕ) → loadRefusal n image ≡ loadRefusal n (translated image)
+  refusal-same n = refused-so own n (formed .long) known ∙ sym (refused-so reads n length-translated known-translated)
 
-    row-kept : (n : ℕ) → rowIn newer n ≡ rowIn older n
-    unfolding rowIn recordFields recordBytes total
-    row-kept n =
-        let far : ℕ → ℕ = λ slots. tagBytes * slots + 40 * n in
-        let group : (tags slots : ℕ) → tags + tagBytes * slots + 40 * n ≡ tags + far slots = λ tags slots. omega arith in
-        ap₂ _++_ (part-kept tagFields (tagBytes * n))
-        (ap (fieldsAt newer (recordFields 0)) (group (sizesEnd (formIn newer) (orderIn newer)) (slotsIn newer) ∙ ap (λ (slots : ℕ). sizesEnd (formIn newer) (orderIn newer) + far slots) slots-kept)
-        ∙ part-kept (recordFields 0) (far (slotsIn older))
-        ∙ ap (fieldsAt older (recordFields 0)) (sym (group (sizesEnd (formIn older) (orderIn older)) (slotsIn older))))
+  table-same : (t : Table) → tableAfterLoad image t ≡ tableAfterLoad (translated image) t
+  unfolding tableAfterLoad
+  table-same t = λ i.
+      elim (refusal-same (length t) i) as (λ _. Table) [ zero ↦ (loads-by own t ∙ sym (loads-by reads t)) i | suc n ↦ t ]
 
-    alike : Alike newer older
-    unfolding bucketIn slotsBefore
-    alike =
-        record {
-          order = order-kept;
-          space = space-kept;
-          built = λ i k. built-kept k i;
-          live = λ i k. live-kept k i;
-          buckets = λ i k. map (λ n. row-kept n i) (countFrom (total (map (λ j. built-kept j i) (countFrom 0 k))) (built-kept k i));
-        }
-
-    -- the tests of a load, one by one
-    lengths : length newer ≡ length older + 4
-    unfolding older newer
-    lengths = omega arith
-
-    some : 4 ≤ length older
-    unfolding older
-    some = omega arith
-
-    moved-end : sizesEnd (formIn newer) (orderIn newer) ≡ sizesEnd (formIn older) (orderIn older) + 4
-    moved-end = omega (arith, end-newer, end-older)
-
-    moved-length : imageLength (formIn newer) (orderIn newer) (slotsIn newer) ≡ imageLength (formIn older) (orderIn older) (slotsIn older) + 4
-    unfolding imageLength recordBytes recordFields total
-    moved-length =
-        ap (λ (slots : ℕ). sizesEnd (formIn newer) (orderIn newer) + (tagBytes + 40) * slots) slots-kept ∙ omega (arith, moved-end)
-
-    short-kept : ltb (length newer) startBytes ≡ ltb (length older) startBytes
-    unfolding startBytes startFields total
-    short-kept = le-ltb (length newer) 4 (omega (arith, lengths, some)) ∙ sym (le-ltb (length older) 4 some)
-
-    form-kept : validForm (formIn newer) ≡ validForm (formIn older)
-    unfolding validForm lastForm
-    form-kept = ap validForm form-newer ∙ sym (ap validForm old)
-
-    header-kept : leb (headerBytes (formIn newer)) (length newer) ≡ leb (headerBytes (formIn older)) (length older)
-    unfolding headerBytes headerFields startFields weightFields total
-    header-kept =
-        ap (λ (f : ℕ). leb (headerBytes f) (length newer)) form-newer
-        ∙ moved-leb 4 4 (length older) 8 (length newer) refl lengths
-        ∙ sym (ap (λ (f : ℕ). leb (headerBytes f) (length older)) old)
-
-    refusal-kept : (rows : ℕ) → loadRefusal rows newer ≡ loadRefusal rows older
-    refusal-kept rows =
-        by-tests rows newer
-        ∙ (λ i.
-        refusalBy (short-kept i) (validOrder (order-kept i)) (validMetric (space-kept i)) (form-kept i) (header-kept i) (validWeights (space-kept i .weights))
-        (moved-leb 4 (sizesEnd (formIn older) (orderIn older)) (length older) (sizesEnd (formIn newer) (orderIn newer)) (length newer) moved-end lengths i)
-        (sizesPass (order-kept i) (λ k. built-kept k i) (λ k. live-kept k i))
-        (moved-eqb 4 (length older) (imageLength (formIn older) (orderIn older) (slotsIn older)) (length newer) (imageLength (formIn newer) (orderIn newer) (slotsIn newer)) lengths moved-length i)
-        (leb (tableRows (order-kept i)) rows) (alike-slots alike i))
-        ∙ sym (by-tests rows older)
-
--- an image of form 0, which has its first four bytes: every reply and table of a load is its translation's
-pub translates : (image : List ℕ) → startBytes ≤ length image → formIn image ≡ 0 → (t : Table)
+-- every reply and table of a load is its translation's
+pub translates : (image : List ℕ) → All (λ b. b < 2 ^ 8) image → formIn image < writtenForm
+    → length image ≡ imageLength (formIn image) (orderIn image) (slotsIn image) → (t : Table)
     → (loadRefusal (length t) image ≡ loadRefusal (length t) (translated image)) × (tableAfterLoad image t ≡ tableAfterLoad (translated image) t)
-unfolding startBytes startFields total older newer tableAfterLoad
-translates [] h old t = absurd (omega arith)
-translates (a ∷ []) h old t = absurd (omega arith)
-translates (a ∷ b ∷ []) h old t = absurd (omega arith)
-translates (a ∷ b ∷ c ∷ []) h old t = absurd (omega arith)
-translates (a ∷ b ∷ c ∷ d ∷ rest) h old t =
-    let there = newer-translated a b c d rest in
-    let same = refusal-kept a b c d rest old (length t) in
-    let table : tableAfterLoad (newer a b c d rest) t ≡ tableAfterLoad (older a b c d rest) t =
-    λ i. elim (same i) as (λ _. Table) [ zero ↦ alike-table (alike a b c d rest old) t i | suc n ↦ t ] in
-    (sym same ∙ ap (loadRefusal (length t)) (sym there), sym table ∙ ap (λ (image : List ℕ). tableAfterLoad image t) (sym there))
+translates image bytes old long t =
+    let formed : WellFormed image = record { bytes = bytes; long = long } in
+    (refusal-same image formed old (length t), table-same image formed old t)

@@ -15,16 +15,16 @@ unfoldable pub numberOf : List ℕ → ℕ
 numberOf [] = 0
 numberOf (b ∷ bs) = b + 256 * numberOf bs
 
--- RULES 12.7: images are of forms, which are numbered. Form 0 is from before there were weights; form 1 has them. The last form that is read, and the one
--- that is written. Fields and what follows from them go by the form. A form above the last is refused before any field of it is read
+-- RULES 12.7: images are of forms, which are numbered. Form 0 is from before there were weights, form 1 from before there were days; form 2 has both. The last
+-- form that is read, and the one that is written. Fields and what follows from them go by the form. A form above the last is refused before any field of it is read
 unfoldable pub lastForm : ℕ
-lastForm = 1
+lastForm = 2
 
 unfoldable pub validForm : ℕ → Bool
 validForm form = leb form lastForm
 
 unfoldable pub writtenForm : ℕ
-writtenForm = 1
+writtenForm = 2
 
 -- Fields are a list: of each, in their order, its number of bytes.
 -- What an image of any form begins with: order, metric and form
@@ -44,9 +44,15 @@ headerFields form = startFields ++ weightFields form
 unfoldable pub tagFields : List ℕ
 tagFields = 4 ∷ 4 ∷ []
 
--- and the record's ten, the four measures, the two of each code word, the threshold and the mark
+-- the day, which a record has from form 2 on
+unfoldable pub dayFields : ℕ → List ℕ
+dayFields zero = []
+dayFields (suc zero) = []
+dayFields (suc (suc form)) = 2 ∷ []
+
+-- and the record's, the four measures, the two of each code word, the threshold, the mark and the day
 unfoldable pub recordFields : ℕ → List ℕ
-recordFields form = 4 ∷ 4 ∷ 4 ∷ 4 ∷ 4 ∷ 4 ∷ 4 ∷ 4 ∷ 4 ∷ 4 ∷ []
+recordFields form = 4 ∷ 4 ∷ 4 ∷ 4 ∷ 4 ∷ 4 ∷ 4 ∷ 4 ∷ 4 ∷ 4 ∷ dayFields form
 
 -- the bytes of numbers as these fields; a number that is missing is 0
 unfoldable pub bytesOfFields : List ℕ → List ℕ → List ℕ

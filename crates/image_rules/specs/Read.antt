@@ -50,12 +50,18 @@ slotsBefore image k = total (map (builtIn image) (countFrom 0 k))
 unfoldable pub slotsIn : List ℕ → ℕ
 slotsIn image = slotsBefore image (suc (orderIn image))
 
+-- RULES 12.3: the day of a record that has none is 1
+unfoldable pub dayAs : ℕ → List ℕ
+dayAs zero = 1 ∷ []
+dayAs (suc zero) = 1 ∷ []
+dayAs (suc (suc form)) = []
+
 -- RULES 12.1, slot i of the image: its tag among the tags, then the rest of its row among the records
 unfoldable pub rowIn : List ℕ → ℕ → Row
 rowIn image i =
     let form = formIn image in
     let tags = sizesEnd form (orderIn image) in
-    fieldsAt image tagFields (tags + tagBytes * i) ++ fieldsAt image (recordFields form) (tags + tagBytes * slotsIn image + recordBytes form * i)
+    fieldsAt image tagFields (tags + tagBytes * i) ++ fieldsAt image (recordFields form) (tags + tagBytes * slotsIn image + recordBytes form * i) ++ dayAs form
 
 -- the slots of bucket k
 unfoldable pub bucketIn : List ℕ → ℕ → List Row

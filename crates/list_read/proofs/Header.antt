@@ -27,25 +27,25 @@ header-room list h = by (leb 22 (length list)) refl
     by false e = absurd (false≢true (sym (no-room list (leb-false 22 (length list) e)) ∙ h))
 
 -- the reply and both areas
-abbrev pub Read : Table → List Row → List ℕ → ListRead → Table → List Row → Type 0
-Read t₀ work₀ list reply t work =
-    (reply ≡ readListReply t₀ work₀ list) × ((t ≡ tableAfterReadList t₀ work₀ list) × (work ≡ workAfterReadList t₀ work₀ list))
+abbrev pub Read : Table → List Row → List ℕ → ℕ → ListRead → Table → List Row → Type 0
+Read t₀ work₀ list day reply t work =
+    (reply ≡ readListReply t₀ work₀ list day) × ((t ≡ tableAfterReadList t₀ work₀ list day) × (work ≡ workAfterReadList t₀ work₀ list day))
 
-module _ (t₀ : Table) (work₀ : List Row) (list : List ℕ) where
+module _ (t₀ : Table) (work₀ : List Row) (list : List ℕ) (day : ℕ) where
   by-header : {b : Bool} → hasHeader list ≡ b
-      → listReading t₀ work₀ list ≡ elim b [ false ↦ stopped badListHeader 1 t₀ work₀ | true ↦ reading t₀ work₀ 2 (itemLines list) ]
+      → listReading t₀ work₀ list day ≡ elim b [ false ↦ stopped badListHeader 1 t₀ work₀ | true ↦ reading day t₀ work₀ 2 (itemLines list) ]
   unfolding listReading
-  by-header e = ap (λ b. elim b [ false ↦ stopped badListHeader 1 t₀ work₀ | true ↦ reading t₀ work₀ 2 (itemLines list) ]) e
+  by-header e = ap (λ b. elim b [ false ↦ stopped badListHeader 1 t₀ work₀ | true ↦ reading day t₀ work₀ 2 (itemLines list) ]) e
 
-  pub without-header : hasHeader list ≡ false → Read t₀ work₀ list (record { refusal = 30; line = 1; added = 0; distances = 0 }) t₀ work₀
+  pub without-header : hasHeader list ≡ false → Read t₀ work₀ list day (record { refusal = 30; line = 1; added = 0; distances = 0 }) t₀ work₀
   unfolding readListReply tableAfterReadList workAfterReadList stopped
   without-header e =
       let all = sym (by-header e) in
       (ap (λ r. r .reply) all, (ap (λ r. r .table) all, ap (λ r. r .work) all))
 
   pub with-header : hasHeader list ≡ true → {reply : ListRead} {t : Table} {work : List Row}
-      → reply ≡ reading t₀ work₀ 2 (itemLines list) .reply → t ≡ reading t₀ work₀ 2 (itemLines list) .table
-      → work ≡ reading t₀ work₀ 2 (itemLines list) .work → Read t₀ work₀ list reply t work
+      → reply ≡ reading day t₀ work₀ 2 (itemLines list) .reply → t ≡ reading day t₀ work₀ 2 (itemLines list) .table
+      → work ≡ reading day t₀ work₀ 2 (itemLines list) .work → Read t₀ work₀ list day reply t work
   unfolding readListReply tableAfterReadList workAfterReadList
   with-header e f g h =
       let all = sym (by-header e) in

@@ -55,11 +55,11 @@ fn replied(refusal: u32, line: u32, added: u32, distances: u32) -> ListRead
 }
 
 // The lines behind the header. A line's number is two more than the lines before it, which are all added.
-fn read_lines(table: &mut [Row], work: &mut [Row], list: &[u8]) -> ListRead
+fn read_lines(table: &mut [Row], work: &mut [Row], list: &[u8], day: u32) -> ListRead
     requires { ⌜ length listHeader ≤ length (now list) ⌝ }
-    ensures reply { λ r. ⌜ r ≡ reading (now (table .entry)) (now (work .entry)) 2 (itemLines (now (list .entry))) .reply ⌝ }
-    ensures table { λ _. ⌜ now (table .exit) ≡ reading (now (table .entry)) (now (work .entry)) 2 (itemLines (now (list .entry))) .table ⌝ }
-    ensures work { λ _. ⌜ now (work .exit) ≡ reading (now (table .entry)) (now (work .entry)) 2 (itemLines (now (list .entry))) .work ⌝ }
+    ensures reply { λ r. ⌜ r ≡ reading day (now (table .entry)) (now (work .entry)) 2 (itemLines (now (list .entry))) .reply ⌝ }
+    ensures table { λ _. ⌜ now (table .exit) ≡ reading day (now (table .entry)) (now (work .entry)) 2 (itemLines (now (list .entry))) .table ⌝ }
+    ensures work { λ _. ⌜ now (work .exit) ≡ reading day (now (table .entry)) (now (work .entry)) 2 (itemLines (now (list .entry))) .work ⌝ }
 {
     let mut at: usize = HEADER_BYTES;
     let mut added: u32 = 0;
@@ -71,7 +71,7 @@ fn read_lines(table: &mut [Row], work: &mut [Row], list: &[u8]) -> ListRead
             return replied(BAD_LIST_LINE, number, added, distances);
         }
         let profile = item.profile;
-        let reply = add(table, work, item.tag, profile);
+        let reply = add(table, work, item.tag, profile, day);
         if reply.refusal != 0 {
             return replied(reply.refusal, number, added, distances);
         }
@@ -82,14 +82,14 @@ fn read_lines(table: &mut [Row], work: &mut [Row], list: &[u8]) -> ListRead
     replied(0, 0, added, distances)
 }
 
-// A herd list, for every table, work area and string of bytes.
-pub fn read_list(table: &mut [Row], work: &mut [Row], list: &[u8]) -> ListRead
-    ensures reply { λ r. ⌜ r ≡ readListReply (now (table .entry)) (now (work .entry)) (now (list .entry)) ⌝ }
-    ensures table { λ _. ⌜ now (table .exit) ≡ tableAfterReadList (now (table .entry)) (now (work .entry)) (now (list .entry)) ⌝ }
-    ensures work { λ _. ⌜ now (work .exit) ≡ workAfterReadList (now (table .entry)) (now (work .entry)) (now (list .entry)) ⌝ }
+// A herd list of one day, for every table, work area and string of bytes.
+pub fn read_list(table: &mut [Row], work: &mut [Row], list: &[u8], day: u32) -> ListRead
+    ensures reply { λ r. ⌜ r ≡ readListReply (now (table .entry)) (now (work .entry)) (now (list .entry)) day ⌝ }
+    ensures table { λ _. ⌜ now (table .exit) ≡ tableAfterReadList (now (table .entry)) (now (work .entry)) (now (list .entry)) day ⌝ }
+    ensures work { λ _. ⌜ now (work .exit) ≡ workAfterReadList (now (table .entry)) (now (work .entry)) (now (list .entry)) day ⌝ }
 {
     if !has_header(list) {
         return replied(BAD_LIST_HEADER, 1, 0, 0);
     }
-    read_lines(table, work, list)
+    read_lines(table, work, list, day)
 }

@@ -49,54 +49,54 @@ module _ (f g : ℕ → ℕ) (k : ℕ) (below : (j : ℕ) → j < k → g j ≡ 
             (omega (arith, total-more g k, nothing-below k (omega arith), here))
 
 -- the bucket that is built is the lowest empty one or the one below it
-target-place : (t : Table) (tag : ℕ) (p : Profile) → (addTarget t tag p ≡ lowestEmpty t) ⊎ (suc (addTarget t tag p) ≡ lowestEmpty t)
+target-place : (t : Table) (tag : ℕ) (p : Profile) (day : ℕ) → (addTarget t tag p day ≡ lowestEmpty t) ⊎ (suc (addTarget t tag p day) ≡ lowestEmpty t)
 unfolding addTarget addBucket
-target-place t tag p = by (ltb (room (lowestEmpty t)) (2 * length (gathered t tag p))) (lowestEmpty t)
+target-place t tag p day = by (ltb (room (lowestEmpty t)) (2 * length (gathered t tag p day))) (lowestEmpty t)
   where
     by : (b : Bool) (m : ℕ) → (elim b [ true ↦ m | false ↦ m - 1 ] ≡ m) ⊎ (suc (elim b [ true ↦ m | false ↦ m - 1 ]) ≡ m)
     by true m = inl refl
     by false zero = inl refl
     by false (suc m) = inr (omega arith)
 
-module _ (t : Table) (work : List Row) (tag : ℕ) (p : Profile) (accepted : addRefusal t work tag p ≡ 0) where
+module _ (t : Table) (work : List Row) (tag : ℕ) (p : Profile) (day : ℕ) (accepted : addRefusal t work tag p day ≡ 0) where
   changes : Changeable work t
-  changes = changeable work t (add-accepted t work tag p accepted .0)
+  changes = changeable work t (add-accepted t work tag p day accepted .0)
 
-  target : Target t (countFrom 0 (lowestEmpty t)) (addTarget t tag p) (length (gathered t tag p))
-  target = add-fits t work tag p accepted
+  target : Target t (countFrom 0 (lowestEmpty t)) (addTarget t tag p day) (length (gathered t tag p day))
+  target = add-fits t work tag p day accepted
 
   order-most : orderOf t ≤ 12
   order-most = changes .passed .framed .order
 
   -- below its room
   pub live-below-most : liveTotal t < 4096
-  live-below-most = omega (arith, add-accepted t work tag p accepted .1, room-most (orderOf t) order-most)
+  live-below-most = omega (arith, add-accepted t work tag p day accepted .1, room-most (orderOf t) order-most)
 
   -- c(n) for at most 4,096 items
-  few : length (gathered t tag p) ≤ 4096
-  few = le-trans (target .fits) (room-most (addTarget t tag p) (le-trans (target .reached) order-most))
+  few : length (gathered t tag p day) ≤ 4096
+  few = le-trans (target .fits) (room-most (addTarget t tag p day) (le-trans (target .reached) order-most))
 
-  pub few-distances : addReply t work tag p .distances ≤ 49152
+  pub few-distances : addReply t work tag p day .distances ≤ 49152
   unfolding addReply added rebuilt
   few-distances =
-      let known : addReply t work tag p .distances ≡ cost (length (gathered t tag p)) =
+      let known : addReply t work tag p day .distances ≡ cost (length (gathered t tag p day)) =
       ap
       (λ r.
       elim r as (λ x. Added) [
-        | zero ↦ record { refusal = 0; bucket = addTarget t tag p; distances = cost (length (gathered t tag p)) }
+        | zero ↦ record { refusal = 0; bucket = addTarget t tag p day; distances = cost (length (gathered t tag p day)) }
         | suc n ↦ record { refusal = suc n; bucket = 0; distances = 0 }
       ] .distances)
       accepted in
-      omega (arith, known, cost-bound 12 (length (gathered t tag p)) few, few)
+      omega (arith, known, cost-bound 12 (length (gathered t tag p day)) few, few)
 
   unfoldable now : Table
-  now = added t tag p .table
+  now = added t tag p day .table
 
   roomy : Roomy t
   roomy = passed-roomy (changes .passed)
 
   -- the buckets of the table before that the one built stands for
-  stood-for : total (map (liveOf t) (countFrom 0 (suc (addTarget t tag p)))) ≡ total (map (liveOf t) (countFrom 0 (lowestEmpty t)))
+  stood-for : total (map (liveOf t) (countFrom 0 (suc (addTarget t tag p day)))) ≡ total (map (liveOf t) (countFrom 0 (lowestEmpty t)))
   stood-for =
       ⊎-elim
       (λ e.
@@ -105,35 +105,35 @@ module _ (t : Table) (work : List Row) (tag : ℕ) (p : Profile) (accepted : add
       sym (changes .lives (lowestEmpty t) reached) ∙ ap length (vacant-live t (lowestEmpty t) (not-in-use t (lowestEmpty t) (lowest-empty t reached))) in
       ap (λ k. total (map (liveOf t) (countFrom 0 (suc k)))) e ∙ omega (arith, total-more (liveOf t) (lowestEmpty t), vacant))
       (λ e. ap (λ k. total (map (liveOf t) (countFrom 0 k))) e)
-      (target-place t tag p)
+      (target-place t tag p day)
 
-  below-none : (j : ℕ) → j < addTarget t tag p → liveOf now j ≡ 0
+  below-none : (j : ℕ) → j < addTarget t tag p day → liveOf now j ≡ 0
   unfolding now added
   below-none j h =
-      let within : j < 0 + lowestEmpty t = ⊎-elim (λ e. omega arith) (λ e. omega arith) (target-place t tag p) in
+      let within : j < 0 + lowestEmpty t = ⊎-elim (λ e. omega arith) (λ e. omega arith) (target-place t tag p day) in
       held-live
-      (count-all (λ i. (i ≡ addTarget t tag p → ⊥) → Holds now i [] 0) 0 (lowestEmpty t)
-      (rebuilt-empties t roomy (countFrom 0 (lowestEmpty t)) (gathered-buckets t) (addTarget t tag p) (target .reached) (gathered t tag p) (target .fits)) j (omega arith) within
+      (count-all (λ i. (i ≡ addTarget t tag p day → ⊥) → Holds now i [] 0) 0 (lowestEmpty t)
+      (rebuilt-empties t roomy (countFrom 0 (lowestEmpty t)) (gathered-buckets t) (addTarget t tag p day) (target .reached) (gathered t tag p day) (target .fits)) j (omega arith) within
       (λ e. omega arith))
 
-  built-here : liveOf now (addTarget t tag p) ≡ suc (total (map (liveOf t) (countFrom 0 (suc (addTarget t tag p)))))
+  built-here : liveOf now (addTarget t tag p day) ≡ suc (total (map (liveOf t) (countFrom 0 (suc (addTarget t tag p day)))))
   unfolding now added gathered
   built-here =
-      held-live (rebuilt-holds t roomy (countFrom 0 (lowestEmpty t)) (gathered-buckets t) (addTarget t tag p) (target .reached) (gathered t tag p) (target .fits))
+      held-live (rebuilt-holds t roomy (countFrom 0 (lowestEmpty t)) (gathered-buckets t) (addTarget t tag p day) (target .reached) (gathered t tag p day) (target .fits))
       ∙ ap suc (live-counted t (changes .lives) (lowestEmpty t) (lowest-within t) ∙ sym stood-for)
 
-  only : Only (λ j. All (λ i. j ≡ i → ⊥) (addTarget t tag p ∷ countFrom 0 (lowestEmpty t))) t now
+  only : Only (λ j. All (λ i. j ≡ i → ⊥) (addTarget t tag p day ∷ countFrom 0 (lowestEmpty t))) t now
   unfolding now added
-  only = rebuilt-only t roomy (countFrom 0 (lowestEmpty t)) (gathered-buckets t) (addTarget t tag p) (target .reached) (gathered t tag p) (target .fits)
+  only = rebuilt-only t roomy (countFrom 0 (lowestEmpty t)) (gathered-buckets t) (addTarget t tag p day) (target .reached) (gathered t tag p day) (target .fits)
 
-  above-same : (j : ℕ) → addTarget t tag p < j → j < suc (orderOf t) → liveOf now j ≡ liveOf t j
+  above-same : (j : ℕ) → addTarget t tag p day < j → j < suc (orderOf t) → liveOf now j ≡ liveOf t j
   above-same j h l =
-      let past : lowestEmpty t ≤ j = ⊎-elim (λ e. omega arith) (λ e. omega arith) (target-place t tag p) in
+      let past : lowestEmpty t ≤ j = ⊎-elim (λ e. omega arith) (λ e. omega arith) (target-place t tag p day) in
       kept-live (only .others j (omega arith) ((λ e. omega arith), all-count (λ i. j ≡ i → ⊥) 0 (lowestEmpty t) (λ i a b e. omega arith)))
 
-  pub live-one-more : liveTotal (tableAfterAdd t work tag p) ≡ suc (liveTotal t)
+  pub live-one-more : liveTotal (tableAfterAdd t work tag p day) ≡ suc (liveTotal t)
   unfolding liveTotal bucketsOf tableAfterAdd now
   live-one-more =
       ap (λ r. total (map (liveOf (elim r [ zero ↦ now | suc n ↦ t ])) (countFrom 0 (suc (orderOf (elim r [ zero ↦ now | suc n ↦ t ])))))) accepted
       ∙ ap (λ n. total (map (liveOf now) (countFrom 0 (suc n)))) (same-order (only .header))
-      ∙ grown (liveOf t) (liveOf now) (addTarget t tag p) below-none built-here (suc (orderOf t)) (omega (arith, target .reached)) above-same
+      ∙ grown (liveOf t) (liveOf now) (addTarget t tag p day) below-none built-here (suc (orderOf t)) (omega (arith, target .reached)) above-same

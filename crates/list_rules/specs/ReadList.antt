@@ -41,25 +41,25 @@ oneMore distances r =
       work = r .work;
     }
 
--- RULES 13.4, 13.5, the lines from number n on: the form first, then the add's own refusals; the first line refused ends the reading
-unfoldable pub reading : Table → List Row → ℕ → List ListLine → Reading
-reading t work n [] = stopped 0 0 t work
-reading t work n (malformed ∷ lines) = stopped badListLine n t work
-reading t work n (anItem tag p ∷ lines) =
-    elim (addRefusal t work tag p) [
+-- RULES 13.4, 13.5, the lines from number n on, all of one day: the form first, then the add's own refusals; the first line refused ends the reading
+unfoldable pub reading : ℕ → Table → List Row → ℕ → List ListLine → Reading
+reading day t work n [] = stopped 0 0 t work
+reading day t work n (malformed ∷ lines) = stopped badListLine n t work
+reading day t work n (anItem tag p ∷ lines) =
+    elim (addRefusal t work tag p day) [
       | suc r ↦ stopped (suc r) n t work
-      | zero ↦ oneMore (addReply t work tag p .distances) (reading (tableAfterAdd t work tag p) (workAfterAdd t work tag p) (suc n) lines)
+      | zero ↦ oneMore (addReply t work tag p day .distances) (reading day (tableAfterAdd t work tag p day) (workAfterAdd t work tag p day) (suc n) lines)
     ]
 
 -- RULES 13.2, 13.3: the header is line 1, and 30 comes first of all; with no line behind it nothing more is checked
-unfoldable pub listReading : Table → List Row → List ℕ → Reading
-listReading t work list = elim (hasHeader list) [ false ↦ stopped badListHeader 1 t work | true ↦ reading t work 2 (itemLines list) ]
+unfoldable pub listReading : Table → List Row → List ℕ → ℕ → Reading
+listReading t work list day = elim (hasHeader list) [ false ↦ stopped badListHeader 1 t work | true ↦ reading day t work 2 (itemLines list) ]
 
-unfoldable pub readListReply : Table → List Row → List ℕ → ListRead
-readListReply t work list = listReading t work list .reply
+unfoldable pub readListReply : Table → List Row → List ℕ → ℕ → ListRead
+readListReply t work list day = listReading t work list day .reply
 
-unfoldable pub tableAfterReadList : Table → List Row → List ℕ → Table
-tableAfterReadList t work list = listReading t work list .table
+unfoldable pub tableAfterReadList : Table → List Row → List ℕ → ℕ → Table
+tableAfterReadList t work list day = listReading t work list day .table
 
-unfoldable pub workAfterReadList : Table → List Row → List ℕ → List Row
-workAfterReadList t work list = listReading t work list .work
+unfoldable pub workAfterReadList : Table → List Row → List ℕ → ℕ → List Row
+workAfterReadList t work list day = listReading t work list day .work

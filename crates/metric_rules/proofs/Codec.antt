@@ -15,8 +15,8 @@ use borrow.Author.Tests.{ltb-true, ltb-false, lt-ltb, le-ltb}
 use mir.Facts.{toZ-ofZ, ofZ-toZ, fits-ofZ, fits-of-lt}
 use Rattle.lists.specs.Lists.{countFrom}
 use Rattle.metric_rules.specs.declared.Profile.{Profile}
-use Rattle.metric_rules.specs.Row.{Row, IsRow, IsProfile, rowWidth, thresholdAt, markAt, word, wide, measure, codeWord}
-use Rattle.metric_rules.specs.Row.{tagOf, profileOf, thresholdOf, markOf, rowOf, withThreshold, withMark}
+use Rattle.metric_rules.specs.Row.{Row, IsRow, IsProfile, rowWidth, thresholdAt, markAt, dayAt, word, wide, measure, codeWord}
+use Rattle.metric_rules.specs.Row.{tagOf, profileOf, thresholdOf, markOf, dayOf, rowOf, withThreshold, withMark}
 use Rattle.metric_rules.proofs.Elements.{elements, each-at, at-set}
 
 -- the words of a number of two words, and the number of a number's words
@@ -74,8 +74,8 @@ module _ (row : Row) (is : IsRow row) where
   bits i = ofZ-toZ {w = w32} (fits-of-lt (is .fits i))
 
   -- the row of a row's fields
-  pub row-of-fields : rowOf (tagOf row) (profileOf row) (thresholdOf row) (markOf row) ≡ row
-  unfolding rowWidth rowOf tagOf profileOf thresholdOf markOf countFrom
+  pub row-of-fields : rowOf (tagOf row) (profileOf row) (thresholdOf row) (markOf row) (dayOf row) ≡ row
+  unfolding rowWidth rowOf tagOf profileOf thresholdOf markOf dayOf countFrom
   row-of-fields =
       cc (
         low 0 (word row 1),
@@ -92,18 +92,22 @@ module _ (row : Row) (is : IsRow row) where
       )
 
 -- the fields of a row of given fields
-module _ (tag : ℕ) (p : Profile) (threshold mark : ℕ) where
-  pub tag-of-row : tagOf (rowOf tag p threshold mark) ≡ tag
+module _ (tag : ℕ) (p : Profile) (threshold mark day : ℕ) where
+  pub tag-of-row : tagOf (rowOf tag p threshold mark day) ≡ tag
   unfolding rowOf tagOf
   tag-of-row = wide-words tag
 
-  pub threshold-of-row : thresholdOf (rowOf tag p threshold mark) ≡ threshold
+  pub threshold-of-row : thresholdOf (rowOf tag p threshold mark day) ≡ threshold
   unfolding rowOf thresholdOf
   threshold-of-row = refl
 
-  pub mark-of-row : markOf (rowOf tag p threshold mark) ≡ mark
+  pub mark-of-row : markOf (rowOf tag p threshold mark day) ≡ mark
   unfolding rowOf markOf
   mark-of-row = refl
+
+  pub day-of-row : dayOf (rowOf tag p threshold mark day) ≡ day
+  unfolding rowOf dayOf
+  day-of-row = refl
 
   module _ (is : IsProfile p) where
     back : (i : ℕ) → toZ w32 (ofZ w32 (measure p i)) ≡ measure p i
@@ -112,27 +116,27 @@ module _ (tag : ℕ) (p : Profile) (threshold mark : ℕ) where
     written : (i : ℕ) → ofZ w32 (measure p i) < 2 ^ 32
     written i = fits-ofZ {w = w32} (is .signed i) .fits
 
-    same-measures : profileOf (rowOf tag p threshold mark) .measures ≡ p .measures
+    same-measures : profileOf (rowOf tag p threshold mark day) .measures ≡ p .measures
     unfolding rowOf profileOf countFrom measure
     same-measures = cc (back 0, back 1, back 2, back 3, elements (pos 0) 4 (p .measures) (is .four))
 
-    same-code : profileOf (rowOf tag p threshold mark) .code ≡ p .code
+    same-code : profileOf (rowOf tag p threshold mark day) .code ≡ p .code
     unfolding rowOf profileOf countFrom codeWord
     same-code = cc (wide-words (codeWord p 0), wide-words (codeWord p 1), elements 0 2 (p .code) (is .two))
 
-    pub profile-of-row : profileOf (rowOf tag p threshold mark) ≡ p
+    pub profile-of-row : profileOf (rowOf tag p threshold mark day) ≡ p
     profile-of-row = λ i. record { measures = same-measures i; code = same-code i }
 
-    pub row-fits : tag < 2 ^ 64 → threshold < 2 ^ 32 → mark < 2 ^ 32 → IsRow (rowOf tag p threshold mark)
+    pub row-fits : tag < 2 ^ 64 → threshold < 2 ^ 32 → mark < 2 ^ 32 → day < 2 ^ 32 → IsRow (rowOf tag p threshold mark day)
     unfolding rowOf word rowWidth
-    row-fits ht hm hk =
+    row-fits ht hm hk hd =
         record {
           width = refl;
-          fits = each-at (λ n. n < 2 ^ 32) 0 (lit< tt) (rowOf tag p threshold mark)
+          fits = each-at (λ n. n < 2 ^ 32) 0 (lit< tt) (rowOf tag p threshold mark day)
               (omega (arith, written 0, written 1, written 2, written 3, is .wide 0, is .wide 1));
         }
 
--- A row with another threshold or mark. A word past the tag's and the profile's is written, which keeps both of them, and the last two words are apart.
+-- A row with another threshold or mark. A word past the tag's and the profile's is written, which keeps both of them, and the last three words are apart.
 module _ (row : Row) (n : ℕ) where
   module _ (at : ℕ) (past : thresholdAt ≤ at) where
     early : (i : ℕ) → i < thresholdAt → word (set row at n) i ≡ word row i
@@ -178,6 +182,10 @@ module _ (row : Row) (n : ℕ) where
   unfolding markOf withThreshold
   mark-with-threshold = getD-set-other row thresholdAt markAt n 0 (omega arith)
 
+  pub day-with-threshold : dayOf (withThreshold n row) ≡ dayOf row
+  unfolding dayOf withThreshold
+  day-with-threshold = getD-set-other row thresholdAt dayAt n 0 (omega arith)
+
   pub with-threshold-fits : IsRow row → n < 2 ^ 32 → IsRow (withThreshold n row)
   unfolding withThreshold
   with-threshold-fits is h = set-fits is h thresholdAt
@@ -198,6 +206,10 @@ module _ (row : Row) (n : ℕ) where
   pub threshold-with-mark : thresholdOf (withMark n row) ≡ thresholdOf row
   unfolding thresholdOf withMark
   threshold-with-mark = getD-set-other row markAt thresholdAt n 0 (omega arith)
+
+  pub day-with-mark : dayOf (withMark n row) ≡ dayOf row
+  unfolding dayOf withMark
+  day-with-mark = getD-set-other row markAt dayAt n 0 (omega arith)
 
   pub with-mark-fits : IsRow row → n < 2 ^ 32 → IsRow (withMark n row)
   unfolding withMark

@@ -1,4 +1,4 @@
--- What a function knows of its arguments by their types: an array of twelve words is a row, a struct `Profile` has four signed measures and two
+-- What a function knows of its arguments by their types: an array of thirteen words is a row, a struct `Profile` has four signed measures and two
 -- words, and `Weights` four words. Each follows from the relation that `c .good` holds (and `.ok` of a call's result), element by element.
 use Prim.Native.Nat.{ℕ, zero, suc, _<_, _^_}
 use mathlib.Core.Path.{_≡_, ap, _∙_, subst}
@@ -23,7 +23,7 @@ use Rattle.metric_rules.proofs.Profile as P
 use Rattle.metric_rules.proofs.Weights as W
 
 -- the array's size is `rowWidth`: a type has to name the number itself
-pub is-row : (xs : Row) (vs : List Val) → Is (Array (UInt w32) 12) xs vs → IsRow xs
+pub is-row : (xs : Row) (vs : List Val) → Is (Array (UInt w32) 13) xs vs → IsRow xs
 unfolding rowWidth word
 is-row xs vs g = record { width = g .1 .0 .1; fits = λ i. elem-fits w32 w32 xs (g .0) i (g .1 .1) tt .fits }
 

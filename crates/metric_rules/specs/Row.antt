@@ -1,13 +1,13 @@
--- A slot's row: the twelve words of 32 bits, the fields that they hold, and the row of given fields.
+-- A slot's row: the thirteen words of 32 bits, the fields that they hold, and the row of given fields.
 -- RULES 4.2: they are the image's fields in the image's order, each number's low word first. Decoding and encoding are inverse to each other:
 -- every row is the row of its fields (`row-of-fields`), and a row of given fields has those fields (`tag-of-row`, `profile-of-row`, `threshold-of-row`,
--- `mark-of-row`).
+-- `mark-of-row`, `day-of-row`).
 use Prim.Native.Nat.{ℕ, _+_, _*_, _/_, _%_, _^_, _<_}
 use mathlib.Core.Path.{_≡_}
-use mathlib.Core.Bool.{Bool}
+use mathlib.Core.Bool.{Bool, _&&_}
 use mathlib.Core.List.{List, [], _∷_, _++_}
 use lib.IntN.{ℤ, pos}
-use lib.Dec.{eqb}
+use lib.Dec.{eqb, leb}
 use lib.ListN.{length, getD, set, replicate}
 use mir.Syntax.{w32}
 use mir.Val.{toZ, ofZ, SFits}
@@ -19,9 +19,9 @@ Row = List ℕ
 
 -- how many words a row has: `ROW_WIDTH` in the code, VPINDEX_ROW_WORDS in C
 unfoldable pub rowWidth : ℕ
-rowWidth = 12
+rowWidth = 13
 
--- RULES 4.2: the places of the tag's two words, of the four measures, of the code's four words, of the threshold and of the mark
+-- RULES 4.2: the places of the tag's two words, of the four measures, of the code's four words, of the threshold, of the mark and of the day
 unfoldable pub tagAt : ℕ
 tagAt = 0
 
@@ -36,6 +36,9 @@ thresholdAt = 10
 
 unfoldable pub markAt : ℕ
 markAt = 11
+
+unfoldable pub dayAt : ℕ
+dayAt = 12
 
 unfoldable pub zeroRow : Row
 unfolding rowWidth
@@ -75,6 +78,11 @@ unfoldable pub markOf : Row → ℕ
 unfolding word markAt
 markOf row = word row markAt
 
+-- RULES 2.8: the day on which the item was weighed
+unfoldable pub dayOf : Row → ℕ
+unfolding word dayAt
+dayOf row = word row dayAt
+
 -- RULES 5.5, 15.2: an item is live where its mark is 0; any other mark is dead
 unfoldable pub isLive : Row → Bool
 unfolding markOf
@@ -87,27 +95,28 @@ measure p i = getD (p .measures) i (pos 0)
 unfoldable pub codeWord : Profile → ℕ → ℕ
 codeWord p i = getD (p .code) i 0
 
--- RULES 4.2: the row of a tag, a profile, a threshold and a mark
-unfoldable pub rowOf : ℕ → Profile → ℕ → ℕ → Row
+-- RULES 4.2: the row of a tag, a profile, a threshold, a mark and a day
+unfoldable pub rowOf : ℕ → Profile → ℕ → ℕ → ℕ → Row
 unfolding words measure codeWord
-rowOf tag p threshold mark =
+rowOf tag p threshold mark day =
     words tag
     ++ (ofZ w32 (measure p 0) ∷ ofZ w32 (measure p 1) ∷ ofZ w32 (measure p 2) ∷ ofZ w32 (measure p 3) ∷ [])
     ++ words (codeWord p 0)
     ++ words (codeWord p 1)
-    ++ (threshold ∷ mark ∷ [])
+    ++ (threshold ∷ mark ∷ day ∷ [])
 
 -- the row of a new item: no threshold yet, and live
-abbrev pub newRow : ℕ → Profile → Row
-newRow tag p = rowOf tag p 0 0
+abbrev pub newRow : ℕ → Profile → ℕ → Row
+newRow tag p day = rowOf tag p 0 0 day
 
--- the row that a search makes of its query: no tag, and the radius in the threshold's place
-abbrev pub queryRow : Profile → ℕ → Row
-queryRow query radius = rowOf 0 query radius 0
+-- the row that a search makes of its query: no tag, the radius in the threshold's place, and the first day in the day's
+abbrev pub queryRow : Profile → ℕ → ℕ → Row
+queryRow query radius firstDay = rowOf 0 query radius 0 firstDay
 
--- what a search may report: a slot's row, by the query's row. Every live one
-abbrev pub mayReport : Row → Row → Bool
-mayReport query row = isLive row
+-- RULES 11.5, what a search may report: a slot's row, by the query's row. A live item that was weighed on the first day or later
+unfoldable pub mayReport : Row → Row → Bool
+unfolding isLive dayOf
+mayReport query row = isLive row && leb (dayOf query) (dayOf row)
 
 -- a row with another threshold, or another mark, and every other word kept
 unfoldable pub withThreshold : ℕ → Row → Row
@@ -118,7 +127,7 @@ unfoldable pub withMark : ℕ → Row → Row
 unfolding markAt
 withMark mark row = set row markAt mark
 
--- RULES 4.1, 2.4, 2.5: the values that `[u32; 12]` and `Profile` have
+-- RULES 4.1, 2.4, 2.5: the values that `[u32; 13]` and `Profile` have
 pub record IsRow (row : Row) : Type 0 where
   pub width : length row ≡ rowWidth
   pub fits : (i : ℕ) → word row i < 2 ^ 32

@@ -1,4 +1,4 @@
--- RULES 2.2, 2.4, 14.6: which tags, measures and marks are valid.
+-- RULES 2.2, 2.4, 2.8, 14.6: which tags, measures, days and marks are valid.
 use Prim.Native.Nat.{ℕ, _/_, _%_, _^_}
 use mathlib.Core.Bool.{Bool, _&&_}
 use lib.IntN.{ℤ, natAbs}
@@ -45,3 +45,7 @@ validMeasures p = every validMeasure (p .measures)
 -- a mark is 0, live, or 1, dead; a foreign row may have any
 abbrev pub validMark : Row → Bool
 validMark row = leb (markOf row) 1
+
+-- RULES 2.8: a day is 1 to 65,535; what is handed over has 16 bits
+abbrev pub validDay : ℕ → Bool
+validDay day = leb 1 day

@@ -1,8 +1,8 @@
 // Profiles and rows: what the other crates' definitions and code name them by.
 
 // How many words a slot's row has (`rowWidth` in the definitions, VPINDEX_ROW_WORDS in C), and the place of each: the tag's two, the four measures,
-// the two of each code word, the threshold and the mark.
-pub const ROW_WIDTH: usize = 12;
+// the two of each code word, the threshold, the mark and the day.
+pub const ROW_WIDTH: usize = 13;
 
 pub const TAG_LOW: usize = 0;
 
@@ -28,6 +28,8 @@ pub const THRESHOLD_AT: usize = 10;
 
 pub const MARK_AT: usize = 11;
 
+pub const DAY_AT: usize = 12;
+
 // RULES 4.3: the places of the metric and of the four weights in a table's header row.
 pub const METRIC_AT: usize = 1;
 
@@ -39,7 +41,7 @@ pub const WEIGHT_2: usize = 4;
 
 pub const WEIGHT_3: usize = 5;
 
-// A slot of a table: twelve words of 32 bits. Every twelve words are some slot.
+// A slot of a table: thirteen words of 32 bits. Every thirteen words are some slot.
 pub type Row = [u32; ROW_WIDTH];
 
 // RULES 3.7: what the difference of each measure is multiplied by.

@@ -29,7 +29,7 @@ fn print_word(n: u32) {
     io::print_hex(STDOUT_FILENO, n as u64, 8);
 }
 
-// The table's row, profile, tag, threshold and mark of object i.
+// The table's row, profile, tag, threshold, mark and day of object i.
 fn row_at(i: usize) -> Row {
     let at = i % COUNT * ROW_WIDTH;
     let w = vectors::WORDS;
@@ -46,6 +46,7 @@ fn row_at(i: usize) -> Row {
         w[at + 9],
         w[at + 10],
         w[at + 11],
+        w[at + 12],
     ]
 }
 
@@ -80,12 +81,16 @@ fn mark_at(i: usize) -> u32 {
     vectors::MARKS[i % COUNT]
 }
 
+fn day_at(i: usize) -> u32 {
+    vectors::DAYS[i % COUNT]
+}
+
 fn print_words(row: Row) {
-    for k in 0..11 {
+    for k in 0..12 {
         print_word(row[k]);
         print_space();
     }
-    print_word(row[11]);
+    print_word(row[12]);
     print_end();
 }
 
@@ -106,11 +111,18 @@ fn print_profile(profile: Profile, expected: [i32; 4]) {
 // The row of object i's fields; then the fields of its row in the table, and whether its tag and its measures are valid.
 fn print_object(i: usize) {
     let row = row_at(i);
-    print_words(rows::row_of(tag_at(i), profile_at(i), threshold_at(i), mark_at(i)));
+    print_words(rows::row_of(
+        tag_at(i),
+        profile_at(i),
+        threshold_at(i),
+        mark_at(i),
+        day_at(i),
+    ));
     print_number(rows::tag_of(row));
     print_profile(rows::profile_of(row), measures_at(i));
     print_number(rows::threshold_of(row) as u64);
     print_number(rows::mark_of(row) as u64);
+    print_number(rows::day_of(row) as u64);
     print_number(metric::valid_tag(tag_at(i)) as u64);
     print_last(metric::valid_measures(profile_at(i)) as u64);
 }
@@ -124,7 +136,7 @@ fn print_objects() {
 // A header row with this metric and these weights.
 fn header(metric: u32, weights: [u32; 4]) -> Row {
     let w = weights;
-    [0, metric, w[0], w[1], w[2], w[3], 0, 0, 0, 0, 0, 0]
+    [0, metric, w[0], w[1], w[2], w[3], 0, 0, 0, 0, 0, 0, 0]
 }
 
 // The distance of two rows by a metric's number and these weights.
@@ -139,7 +151,7 @@ fn between(metric: u32, a: Row, b: Row) -> u64 {
 }
 
 fn to_query(metric: u32, a: Row, query: Profile) -> u64 {
-    between(metric, a, rows::row_of(0, query, 0, 0))
+    between(metric, a, rows::row_of(0, query, 0, 0, 0))
 }
 
 // By each metric with these weights.

@@ -6,11 +6,12 @@ ghost use mir.Val.{toZ, ofZ};
 ghost use lib.ListN.{length, replicate};
 ghost use lib.Seq.{sets};
 ghost use Rattle.lists.specs.Lists.{select};
-ghost use Rattle.metric_rules.specs.Row.{tagOf, profileOf, thresholdOf, markOf, isLive, rowOf, newRow, zeroRow};
+ghost use Rattle.metric_rules.specs.Row.{tagOf, profileOf, thresholdOf, markOf, dayOf, isLive, rowOf, newRow, zeroRow};
 use metric_rules::CODE_0_HIGH;
 use metric_rules::CODE_0_LOW;
 use metric_rules::CODE_1_HIGH;
 use metric_rules::CODE_1_LOW;
+use metric_rules::DAY_AT;
 use metric_rules::MARK_AT;
 use metric_rules::MEASURE_0;
 use metric_rules::MEASURE_1;
@@ -84,6 +85,12 @@ pub fn mark_of(row: Row) -> u32
     row[MARK_AT]
 }
 
+pub fn day_of(row: Row) -> u32
+    ensures { λ r. ⌜ r ≡ dayOf row ⌝ }
+{
+    row[DAY_AT]
+}
+
 // Whether the row's item is live; any mark but 0 is dead.
 pub fn is_live(row: Row) -> bool
     ensures { λ r. ⌜ r ≡ isLive row ⌝ }
@@ -105,8 +112,8 @@ fn high(n: u64) -> u32
 }
 
 // The row of these fields.
-pub fn row_of(tag: u64, profile: Profile, threshold: u32, mark: u32) -> Row
-    ensures { λ r. ⌜ r ≡ rowOf tag profile threshold mark ⌝ }
+pub fn row_of(tag: u64, profile: Profile, threshold: u32, mark: u32, day: u32) -> Row
+    ensures { λ r. ⌜ r ≡ rowOf tag profile threshold mark day ⌝ }
 {
     let m = profile.measures;
     let c = profile.code;
@@ -123,14 +130,15 @@ pub fn row_of(tag: u64, profile: Profile, threshold: u32, mark: u32) -> Row
         high(c[1]),
         threshold,
         mark,
+        day,
     ]
 }
 
 // The row of a new item: no threshold yet, and live.
-pub fn new_row(tag: u64, profile: Profile) -> Row
-    ensures { λ r. ⌜ r ≡ newRow tag profile ⌝ }
+pub fn new_row(tag: u64, profile: Profile, day: u32) -> Row
+    ensures { λ r. ⌜ r ≡ newRow tag profile day ⌝ }
 {
-    row_of(tag, profile, 0, 0)
+    row_of(tag, profile, 0, 0, day)
 }
 
 // Every row becomes zero.

@@ -4,22 +4,24 @@ ghost use Rattle.metric_rules.specs.Row.{mayReport};
 ghost use Rattle.search_asked.specs.Asked.{askedOf};
 use metric_rules::Profile;
 use metric_rules::Row;
+use rows::day_of;
 use rows::is_live;
 use rows::row_of;
 
-// The table's header row, and the query as a row whose threshold word is the radius of a range search or the k of a nearest one.
+// The table's header row, and the query as a row whose threshold word is the radius of a range search or the k of a nearest one, and whose
+// day word is the first day.
 pub type Asked = [Row; 2];
 
 // What a search of a table with this header goes by.
-pub fn asked_of(header: Row, query: Profile, number: u32) -> Asked
-    ensures { λ r. ⌜ r ≡ askedOf header query number ⌝ }
+pub fn asked_of(header: Row, query: Profile, number: u32, first_day: u32) -> Asked
+    ensures { λ r. ⌜ r ≡ askedOf header query number «first_day» ⌝ }
 {
-    [header, row_of(0, query, number, 0)]
+    [header, row_of(0, query, number, 0, first_day)]
 }
 
-// Whether a search by this query may report a slot.
+// Whether a search by this query may report a slot: a live item, weighed on the first day or later.
 pub fn may_report(query: &Row, row: Row) -> bool
     ensures { λ r. ⌜ r ≡ mayReport (now (query .entry)) row ⌝ }
 {
-    is_live(row)
+    is_live(row) & (day_of(*query) <= day_of(row))
 }

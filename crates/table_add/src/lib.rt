@@ -10,6 +10,7 @@ use table_insert::insert;
 use table_look_up::is_live_tag;
 use table_rules::ALREADY_LIVE;
 use table_rules::Added;
+use table_rules::BAD_DAY;
 use table_rules::BAD_MEASURE;
 use table_rules::BAD_TAG;
 use table_rules::FULL;
@@ -17,8 +18,8 @@ use table_views::live_total;
 use table_views::order_in;
 
 // The first refusal that applies, in the call's order, or 0.
-fn add_refusal(table: &[Row], work: &[Row], tag: u64, profile: Profile) -> u32
-    ensures { λ r. ⌜ r ≡ addRefusal (now (table .entry)) (now (work .entry)) tag profile ⌝ }
+fn add_refusal(table: &[Row], work: &[Row], tag: u64, profile: Profile, day: u32) -> u32
+    ensures { λ r. ⌜ r ≡ addRefusal (now (table .entry)) (now (work .entry)) tag profile day ⌝ }
 {
     let refusal = change_refusal(table, work.len());
     if refusal != 0 {
@@ -34,6 +35,9 @@ fn add_refusal(table: &[Row], work: &[Row], tag: u64, profile: Profile) -> u32
     let order = order_in(table);
     let most = order.work_rows() as u64;
     let full = most <= live_total(table, order);
+    if day == 0 {
+        return BAD_DAY;
+    }
     if live {
         return ALREADY_LIVE;
     }
@@ -43,13 +47,13 @@ fn add_refusal(table: &[Row], work: &[Row], tag: u64, profile: Profile) -> u32
     0
 }
 
-// An item is put in, for every table, work area, tag and profile.
-pub fn add(table: &mut [Row], work: &mut [Row], tag: u64, profile: Profile) -> Added
-    ensures reply { λ r. ⌜ r ≡ addReply (now (table .entry)) (now (work .entry)) tag profile ⌝ }
-    ensures table { λ _. ⌜ now (table .exit) ≡ tableAfterAdd (now (table .entry)) (now (work .entry)) tag profile ⌝ }
-    ensures work { λ _. ⌜ now (work .exit) ≡ workAfterAdd (now (table .entry)) (now (work .entry)) tag profile ⌝ }
+// An item is put in, for every table, work area, tag, profile and day.
+pub fn add(table: &mut [Row], work: &mut [Row], tag: u64, profile: Profile, day: u32) -> Added
+    ensures reply { λ r. ⌜ r ≡ addReply (now (table .entry)) (now (work .entry)) tag profile day ⌝ }
+    ensures table { λ _. ⌜ now (table .exit) ≡ tableAfterAdd (now (table .entry)) (now (work .entry)) tag profile day ⌝ }
+    ensures work { λ _. ⌜ now (work .exit) ≡ workAfterAdd (now (table .entry)) (now (work .entry)) tag profile day ⌝ }
 {
-    let refusal = add_refusal(table, work, tag, profile);
+    let refusal = add_refusal(table, work, tag, profile, day);
     if refusal != 0 {
         return Added {
             refusal,
@@ -58,5 +62,5 @@ pub fn add(table: &mut [Row], work: &mut [Row], tag: u64, profile: Profile) -> A
         };
     }
     let order = order_in(table);
-    insert(table, work, order, tag, profile)
+    insert(table, work, order, tag, profile, day)
 }

@@ -77,14 +77,15 @@ pub fn insert(
     order: Order,
     tag: u64,
     profile: Profile,
+    day: u32,
 ) -> Added
-    requires { ⌜ (order .t ≡ orderOf (now table)) × (addRefusal (now table) (now work) tag profile ≡ 0) ⌝ }
-    ensures reply { λ r. ⌜ r ≡ record { refusal = 0; bucket = addTarget (now (table .entry)) tag profile; distances = added (now (table .entry)) tag profile .distances } ⌝ }
-    ensures table { λ _. ⌜ now (table .exit) ≡ added (now (table .entry)) tag profile .table ⌝ }
+    requires { ⌜ (order .t ≡ orderOf (now table)) × (addRefusal (now table) (now work) tag profile day ≡ 0) ⌝ }
+    ensures reply { λ r. ⌜ r ≡ record { refusal = 0; bucket = addTarget (now (table .entry)) tag profile day; distances = added (now (table .entry)) tag profile day .distances } ⌝ }
+    ensures table { λ _. ⌜ now (table .exit) ≡ added (now (table .entry)) tag profile day .table ⌝ }
     ensures work { λ _. ⌜ now (work .exit) ≡ cleared zeroRow (workRows (orderOf (now (table .entry)))) (now (work .entry)) ⌝ }
 {
     let k = lowest_empty(table, order);
-    work[0] = new_row(tag, profile);
+    work[0] = new_row(tag, profile, day);
     let n = gather_below(table, order, k, work, 1);
     let target = add_bucket(k, n);
     empty_below(table, order, k);

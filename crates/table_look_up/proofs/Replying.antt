@@ -3,7 +3,7 @@ use Prim.Native.Nat.{ℕ, zero, suc}
 use mathlib.Core.Path.{_≡_, refl, sym, _∙_, ap}
 use mathlib.Core.Bool.{Bool, true, false}
 use mathlib.Core.Option.{Option, none, some}
-use Rattle.metric_rules.specs.Row.{profileOf}
+use Rattle.metric_rules.specs.Row.{profileOf, dayOf}
 use Rattle.metric_rules.specs.Validity.{validTag}
 use Rattle.table_rules.specs.declared.LookedUp.{LookedUp}
 use Rattle.table_rules.specs.Refusals.{badTag, notLive, unless, orElse}
@@ -39,7 +39,7 @@ module _ (t : Table) (tag : ℕ) where
         | suc m ↦ notFound (suc m)
         | zero ↦
             elim o [
-              | some p ↦ record { refusal = 0; bucket = p .bucket; profile = profileOf (p .row) }
+              | some p ↦ record { refusal = 0; bucket = p .bucket; profile = profileOf (p .row); day = dayOf (p .row) }
               | none ↦ notFound notLive
             ]
       ]
@@ -66,7 +66,7 @@ module _ (t : Table) (tag : ℕ) where
   missing-refused e f g = refused 20 (by-tests 0 true false e f (sym (is-not-live g)))
 
   pub looked-up : readRefusal t ≡ 0 → validTag tag ≡ true → (p : Place) → some p ≡ find t tag
-      → record { refusal = 0; bucket = p .bucket; profile = profileOf (p .row) } ≡ lookUpReply t tag
+      → record { refusal = 0; bucket = p .bucket; profile = profileOf (p .row); day = dayOf (p .row) } ≡ lookUpReply t tag
   unfolding refusalBy replyBy
   looked-up e f p g =
       sym

@@ -10,6 +10,7 @@ ghost use Rattle.table_look_up.specs.Spots.{slotPlace, placeOf};
 use metric::valid_tag;
 use metric_rules::Profile;
 use metric_rules::Row;
+use rows::day_of;
 use rows::is_live;
 use rows::profile_of;
 use rows::tag_of;
@@ -85,6 +86,7 @@ fn not_found(refusal: u32) -> LookedUp
             measures: [0i32; 4],
             code: [0u64; 2],
         },
+        day: 0,
     }
 }
 
@@ -102,10 +104,12 @@ pub fn look_up(table: &[Row], tag: u64) -> LookedUp
         Spot::Nowhere => not_found(NOT_LIVE),
         Spot::At { bucket, slot } => {
             let slots = slots_of(table, order_in(table), bucket);
+            let row = slots[slot];
             LookedUp {
                 refusal: 0,
                 bucket,
-                profile: profile_of(slots[slot]),
+                profile: profile_of(row),
+                day: day_of(row),
             }
         }
     }

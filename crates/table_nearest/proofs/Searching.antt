@@ -28,11 +28,11 @@ use Rattle.table_rules.proofs.Down.{below, below-next, below-none, few-slots}
 use Rattle.table_nearest.specs.Tallies.{noneKept, mostSlots, reportedBelow, bucketTally, tallyBelow}
 
 -- by what this table and this query ask, all buckets give what the definition of nearest says
-pub tally-all : (t : Table) (query : Profile) (k : ℕ) → IsProfile query → tallyBelow (askedOf (rowAt t headerRow) query k) t (suc (orderOf t)) noneKept ≡ nearestTally t query k
+pub tally-all : (t : Table) (query : Profile) (k firstDay : ℕ) → IsProfile query → tallyBelow (askedOf (rowAt t headerRow) query k firstDay) t (suc (orderOf t)) noneKept ≡ nearestTally t query k firstDay
 unfolding tallyBelow bucketTally nearestTally bucketsDown bucketsOf tableSpace
-tally-all t query k is =
-    ap₂ (λ (q : Profile) (n : ℕ). foldl (λ tally b. nearestTree (distance (tableSpace t)) q (mayReport (queryRow query k)) n tally (slotsOf t b)) noneKept (bucketsDown t))
-    (profile-of-row 0 query k 0 is) (threshold-of-row 0 query k 0)
+tally-all t query k firstDay is =
+    ap₂ (λ (q : Profile) (n : ℕ). foldl (λ tally b. nearestTree (distance (tableSpace t)) q (mayReport (queryRow query k firstDay)) n tally (slotsOf t b)) noneKept (bucketsDown t))
+    (profile-of-row 0 query k 0 firstDay is) (threshold-of-row 0 query k 0 firstDay)
 
 module _ (reports : Row → Bool) (t : Table) where
   -- one bucket more has its own slots to report

@@ -103,9 +103,15 @@ fn nearest_buckets(table: &[Row], order: Order, area: &mut [Entry], asked: &Aske
 }
 
 // RULES 11, nearest over a table: every value of every argument, a table and an area of any length and content.
-pub fn nearest(table: &[Row], result: &mut [Entry], query: Profile, k: u32) -> Searched
-    ensures reply { λ r. ⌜ r ≡ nearestReply (now (table .entry)) (now (result .entry)) query k ⌝ }
-    ensures area { λ _. ⌜ now (result .exit) ≡ resultAfterNearest (now (table .entry)) (now (result .entry)) query k ⌝ }
+pub fn nearest(
+    table: &[Row],
+    result: &mut [Entry],
+    query: Profile,
+    k: u32,
+    first_day: u32,
+) -> Searched
+    ensures reply { λ r. ⌜ r ≡ nearestReply (now (table .entry)) (now (result .entry)) query k «first_day» ⌝ }
+    ensures area { λ _. ⌜ now (result .exit) ≡ resultAfterNearest (now (table .entry)) (now (result .entry)) query k «first_day» ⌝ }
 {
     let refusal = read_refusal(table);
     if refusal != 0 {
@@ -118,7 +124,7 @@ pub fn nearest(table: &[Row], result: &mut [Entry], query: Profile, k: u32) -> S
         return refused(NO_COUNT);
     }
     let order = order_in(table);
-    let asked = asked_of(table[HEADER_ROW], query, k);
+    let asked = asked_of(table[HEADER_ROW], query, k, first_day);
     if !reply_fits(table, order, result.len(), &asked) {
         return too_short(result);
     }

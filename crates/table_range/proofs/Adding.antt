@@ -82,8 +82,8 @@ module _ (asked : List Row) (t : Table) where
       (all-append Pair (rangeAsked asked (slotsOf t n) .hits) (metBelow asked t n .hits) (range-pairs (distanceAsked asked) (queryAsked asked) (reportsAsked asked) (radiusAsked asked) (slotsOf t n)) (met-pairs n))
 
 -- by what this table and this query ask, all buckets give what the definition of range says
-pub met-all : (t : Table) (query : Profile) (radius : ℕ) → IsProfile query → metBelow (askedOf (rowAt t headerRow) query radius) t (suc (orderOf t)) ≡ rangeMet t query radius
+pub met-all : (t : Table) (query : Profile) (radius firstDay : ℕ) → IsProfile query → metBelow (askedOf (rowAt t headerRow) query radius firstDay) t (suc (orderOf t)) ≡ rangeMet t query radius firstDay
 unfolding metBelow rangeMet bucketsDown bucketsOf tableSpace
-met-all t query radius is =
-    ap₂ (λ (q : Profile) (r : ℕ). foldr (λ k met. both (rangeTree (distance (tableSpace t)) q (mayReport (queryRow query radius)) r (slotsOf t k)) met) nothing (bucketsDown t))
-    (profile-of-row 0 query radius 0 is) (threshold-of-row 0 query radius 0)
+met-all t query radius firstDay is =
+    ap₂ (λ (q : Profile) (r : ℕ). foldr (λ k met. both (rangeTree (distance (tableSpace t)) q (mayReport (queryRow query radius firstDay)) r (slotsOf t k)) met) nothing (bucketsDown t))
+    (profile-of-row 0 query radius 0 firstDay is) (threshold-of-row 0 query radius 0 firstDay)

@@ -24,23 +24,23 @@ use Rattle.table_rules.specs.Search.{Answer, rangeMet, rangeAnswer, rangeReply,
 use Rattle.table_rules.proofs.Replies.{not-short, refused-search, held-search, short-search, range-stopped, range-measure, range-fits}
 use Rattle.table_range.specs.Below.{noneFound}
 
-module _ (t : Table) (area : List Entry) (query : Profile) (radius : ℕ) where
+module _ (t : Table) (area : List Entry) (query : Profile) (radius firstDay : ℕ) where
   -- a refusal that is not 6
-  refused-by : (n : ℕ) → rangeRefusal t area query radius ≡ n → (n ≡ 0 → ⊥) → (n ≡ noRoom → ⊥)
-      → (record { refusal = n; found = 0; distances = 0 } ≡ rangeReply t area query radius) × (area ≡ resultAfterRange t area query radius)
+  refused-by : (n : ℕ) → rangeRefusal t area query radius firstDay ≡ n → (n ≡ 0 → ⊥) → (n ≡ noRoom → ⊥)
+      → (record { refusal = n; found = 0; distances = 0 } ≡ rangeReply t area query radius firstDay) × (area ≡ resultAfterRange t area query radius firstDay)
   unfolding rangeReply resultAfterRange
-  refused-by n e some other = refused-search area (rangeAnswer t query radius) (rangeRefusal t area query radius) n e some other
+  refused-by n e some other = refused-search area (rangeAnswer t query radius firstDay) (rangeRefusal t area query radius firstDay) n e some other
 
   pub refused-table : (n : ℕ) → n ≡ readRefusal t → (n ≡ 0 → ⊥)
-      → (record { refusal = n; found = 0; distances = 0 } ≡ rangeReply t area query radius) × (area ≡ resultAfterRange t area query radius)
-  refused-table n e some = refused-by n (range-stopped t area query radius (λ z. some (e ∙ z)) ∙ sym e) some (λ six. not-short t (sym e ∙ six))
+      → (record { refusal = n; found = 0; distances = 0 } ≡ rangeReply t area query radius firstDay) × (area ≡ resultAfterRange t area query radius firstDay)
+  refused-table n e some = refused-by n (range-stopped t area query radius firstDay (λ z. some (e ∙ z)) ∙ sym e) some (λ six. not-short t (sym e ∙ six))
 
   pub refused-measure : readRefusal t ≡ 0 → validMeasures query ≡ false
-      → (record { refusal = badMeasure; found = 0; distances = 0 } ≡ rangeReply t area query radius) × (area ≡ resultAfterRange t area query radius)
-  refused-measure e v = refused-by badMeasure (range-measure t area query radius e v) (λ z. omega arith) (λ z. omega arith)
+      → (record { refusal = badMeasure; found = 0; distances = 0 } ≡ rangeReply t area query radius firstDay) × (area ≡ resultAfterRange t area query radius firstDay)
+  refused-measure e v = refused-by badMeasure (range-measure t area query radius firstDay e v) (λ z. omega arith) (λ z. omega arith)
 
   -- what was met, and what `reply_with` says of it
-  module _ (passes : readRefusal t ≡ 0) (valid : validMeasures query ≡ true) (f : Found) (mid : List Entry) (met : Met) (is : met ≡ rangeMet t query radius) (pairs : All Pair (met .hits))
+  module _ (passes : readRefusal t ≡ 0) (valid : validMeasures query ≡ true) (f : Found) (mid : List Entry) (met : Met) (is : met ≡ rangeMet t query radius firstDay) (pairs : All Pair (met .hits))
       (found : f ≡ foundAfter noneFound met) (collects : mid ≡ collected area noneFound met) where
     hits : f .hits ≡ length (met .hits)
     unfolding foundAfter
@@ -54,7 +54,7 @@ module _ (t : Table) (area : List Entry) (query : Profile) (radius : ℕ) where
     same-length = ap length collects ∙ collected-length area noneFound met
 
     answer : Answer
-    answer = rangeAnswer t query radius
+    answer = rangeAnswer t query radius firstDay
 
     entries : answer .entries ≡ ordered (met .hits)
     unfolding answer rangeAnswer
@@ -68,9 +68,9 @@ module _ (t : Table) (area : List Entry) (query : Profile) (radius : ℕ) where
     unfolding answer rangeAnswer
     visits = ap (λ (m : Met). m .count) (sym is) ∙ sym count
 
-    refusal-is : rangeRefusal t area query radius ≡ fitRefusal area answer
+    refusal-is : rangeRefusal t area query radius firstDay ≡ fitRefusal area answer
     unfolding answer
-    refusal-is = range-fits t area query radius passes valid
+    refusal-is = range-fits t area query radius firstDay passes valid
 
     -- the front of the area holds the hits
     front : f .hits ≤ length area → take (f .hits) mid ≡ met .hits
@@ -82,10 +82,10 @@ module _ (t : Table) (area : List Entry) (query : Profile) (radius : ℕ) where
         (held : f .hits ≤ length mid → r ≡ record { refusal = 0; found = f .hits; distances = f .count })
         (sorted : f .hits ≤ length mid → All Pair (take (f .hits) mid) → last ≡ ordered (take (f .hits) mid) ++ replicate (length mid - f .hits) zeroEntry)
         (short : length mid < f .hits → (r ≡ record { refusal = noRoom; found = 0; distances = 0 }) × (last ≡ replicate (length mid) zeroEntry)) where
-      fits : f .hits ≤ length area → (r ≡ rangeReply t area query radius) × (last ≡ resultAfterRange t area query radius)
+      fits : f .hits ≤ length area → (r ≡ rangeReply t area query radius firstDay) × (last ≡ resultAfterRange t area query radius firstDay)
       unfolding rangeReply resultAfterRange answer
       fits h =
-          let s = held-search area answer (rangeRefusal t area query radius) refusal-is (omega (arith, size)) in
+          let s = held-search area answer (rangeRefusal t area query radius firstDay) refusal-is (omega (arith, size)) in
           let m : f .hits ≤ length mid = omega (arith, same-length) in
           let rest : length mid - f .hits ≡ length area - length (answer .entries) = omega (arith, same-length, size) in (
             held m ∙ (λ i. record { refusal = 0; found = sym size i; distances = sym visits i }) ∙ s .0,
@@ -94,12 +94,12 @@ module _ (t : Table) (area : List Entry) (query : Profile) (radius : ℕ) where
                 ∙ s .1,
           )
 
-      over : length area < f .hits → (r ≡ rangeReply t area query radius) × (last ≡ resultAfterRange t area query radius)
+      over : length area < f .hits → (r ≡ rangeReply t area query radius firstDay) × (last ≡ resultAfterRange t area query radius firstDay)
       unfolding rangeReply resultAfterRange answer
       over h =
-          let s = short-search area answer (rangeRefusal t area query radius) refusal-is (omega (arith, size)) in
+          let s = short-search area answer (rangeRefusal t area query radius firstDay) refusal-is (omega (arith, size)) in
           let c = short (omega (arith, same-length)) in
           (c .0 ∙ s .0, c .1 ∙ ap (λ (n : ℕ). replicate n zeroEntry) same-length ∙ s .1)
 
-      pub answered : (r ≡ rangeReply t area query radius) × (last ≡ resultAfterRange t area query radius)
+      pub answered : (r ≡ rangeReply t area query radius firstDay) × (last ≡ resultAfterRange t area query radius firstDay)
       answered = elim (decLe (f .hits) (length area)) [ yes h ↦ fits h | no h ↦ over (lt-of-not-le h) ]

@@ -63,9 +63,15 @@ fn reply_with(area: &mut [Entry], found: Found) -> Searched
 }
 
 // RULES 11, range over a table: every value of every argument, a table and an area of any length and content.
-pub fn range(table: &[Row], result: &mut [Entry], query: Profile, radius: u32) -> Searched
-    ensures reply { λ r. ⌜ r ≡ rangeReply (now (table .entry)) (now (result .entry)) query radius ⌝ }
-    ensures area { λ _. ⌜ now (result .exit) ≡ resultAfterRange (now (table .entry)) (now (result .entry)) query radius ⌝ }
+pub fn range(
+    table: &[Row],
+    result: &mut [Entry],
+    query: Profile,
+    radius: u32,
+    first_day: u32,
+) -> Searched
+    ensures reply { λ r. ⌜ r ≡ rangeReply (now (table .entry)) (now (result .entry)) query radius «first_day» ⌝ }
+    ensures area { λ _. ⌜ now (result .exit) ≡ resultAfterRange (now (table .entry)) (now (result .entry)) query radius «first_day» ⌝ }
 {
     let refusal = read_refusal(table);
     if refusal != 0 {
@@ -74,7 +80,7 @@ pub fn range(table: &[Row], result: &mut [Entry], query: Profile, radius: u32) -
     if !valid_measures(query) {
         return refused(BAD_MEASURE);
     }
-    let asked = asked_of(table[HEADER_ROW], query, radius);
+    let asked = asked_of(table[HEADER_ROW], query, radius, first_day);
     let found = range_buckets(table, order_in(table), result, &asked);
     reply_with(result, found)
 }

@@ -96,31 +96,31 @@ module _ (t : Table) where
         let used : Used j (builtOf t j) (liveOf t j) = size-in-use j (builtOf t j) (liveOf t j) passes (in-use t j (lowest-used j h)) in
         (used .quarter, omega (arith, used .live-built, used .built-room))
 
-    module _ (tag : ℕ) (p : Profile) (notFull : liveTotal t < room (orderOf t)) where
-      gathered-number : length (gathered t tag p) ≡ suc (total (map (liveOf t) (countFrom 0 (lowestEmpty t))))
+    module _ (tag : ℕ) (p : Profile) (day : ℕ) (notFull : liveTotal t < room (orderOf t)) where
+      gathered-number : length (gathered t tag p day) ≡ suc (total (map (liveOf t) (countFrom 0 (lowestEmpty t))))
       unfolding gathered
       gathered-number = ap suc (live-counted lives (lowestEmpty t) lowest-within)
 
-      gathered-bounds : (room (lowestEmpty t) < 4 * length (gathered t tag p)) × (length (gathered t tag p) ≤ room (lowestEmpty t))
+      gathered-bounds : (room (lowestEmpty t) < 4 * length (gathered t tag p day)) × (length (gathered t tag p day) ≤ room (lowestEmpty t))
       gathered-bounds = rw gathered-number (live-below (liveOf t) (lowestEmpty t) gathered-below)
 
       -- not the bucket past the last: the table is not full
-      top-bound : lowestEmpty t ≡ suc (orderOf t) → 2 * length (gathered t tag p) ≤ room (lowestEmpty t)
+      top-bound : lowestEmpty t ≡ suc (orderOf t) → 2 * length (gathered t tag p day) ≤ room (lowestEmpty t)
       unfolding liveTotal bucketsOf
       top-bound e =
-          let count : length (gathered t tag p) ≡ suc (liveTotal t) =
+          let count : length (gathered t tag p day) ≡ suc (liveTotal t) =
           gathered-number ∙ ap (λ (k : ℕ). suc (total (map (liveOf t) (countFrom 0 k)))) e in
           rw e (omega (arith, count, notFull, room-next (orderOf t)))
 
-      pub add-target : Target t (countFrom 0 (lowestEmpty t)) (addTarget t tag p) (length (gathered t tag p))
+      pub add-target : Target t (countFrom 0 (lowestEmpty t)) (addTarget t tag p day) (length (gathered t tag p day))
       unfolding addTarget addBucket
-      add-target = go (ltb (room (lowestEmpty t)) (2 * length (gathered t tag p))) refl
+      add-target = go (ltb (room (lowestEmpty t)) (2 * length (gathered t tag p day))) refl
         where
           go :
-              (b : Bool) → ltb (room (lowestEmpty t)) (2 * length (gathered t tag p)) ≡ b
-              → Target t (countFrom 0 (lowestEmpty t)) (elim b [ true ↦ lowestEmpty t | false ↦ lowestEmpty t - 1 ]) (length (gathered t tag p))
+              (b : Bool) → ltb (room (lowestEmpty t)) (2 * length (gathered t tag p day)) ≡ b
+              → Target t (countFrom 0 (lowestEmpty t)) (elim b [ true ↦ lowestEmpty t | false ↦ lowestEmpty t - 1 ]) (length (gathered t tag p day))
           go true h =
-              let more = ltb-true (room (lowestEmpty t)) (2 * length (gathered t tag p)) h in
+              let more = ltb-true (room (lowestEmpty t)) (2 * length (gathered t tag p day)) h in
               let reached : lowestEmpty t ≤ orderOf t =
               elim (ℕ-discrete (lowestEmpty t) (suc (orderOf t))) [
                 | yes e ↦ absurd (omega (arith, more, top-bound e))
@@ -133,7 +133,7 @@ module _ (t : Table) where
                 vacant = λ a. vacant-live t (lowestEmpty t) (not-in-use t (lowestEmpty t) (lowest-empty reached));
               }
           go false h =
-              let few = ltb-false (room (lowestEmpty t)) (2 * length (gathered t tag p)) h in
+              let few = ltb-false (room (lowestEmpty t)) (2 * length (gathered t tag p day)) h in
               let some : 0 < lowestEmpty t =
               elim (ℕ-discrete (lowestEmpty t) 0) [
                 | yes e ↦ absurd (omega (arith, few, gathered-number, ap room e ∙ room-zero))

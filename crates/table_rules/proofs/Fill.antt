@@ -11,8 +11,8 @@ use Rattle.lists.specs.Lists.{every, countFrom}
 use Rattle.lists.proofs.Tests.{and-second}
 use Rattle.metric_rules.specs.declared.Profile.{Profile}
 use Rattle.metric_rules.specs.Row.{Row}
-use Rattle.metric_rules.specs.Validity.{validTag, validMeasures, validMark}
-use Rattle.table_rules.specs.Refusals.{badTag, badMeasure, alreadyLive, full}
+use Rattle.metric_rules.specs.Validity.{validTag, validMeasures, validDay, validMark}
+use Rattle.table_rules.specs.Refusals.{badTag, badMeasure, badDay, alreadyLive, full}
 use Rattle.table_rules.specs.Geometry.{room, workRows}
 use Rattle.table_rules.specs.Table.{Table, orderOf, liveOf, liveTotal, slotsOf, liveSlots}
 use Rattle.table_rules.specs.Checks.{liveSizeHolds, slotsMarked, marksPass, changeRefusal}
@@ -57,20 +57,21 @@ changeable work t e =
     }
 
 -- an add that is not refused: 23 and 24 pass, and an item fewer than the table's room is live
-pub add-accepted : (t : Table) (work : List Row) (tag : ℕ) (p : Profile) → addRefusal t work tag p ≡ 0 → (changeRefusal (length work) t ≡ 0) × (liveTotal t < room (orderOf t))
+pub add-accepted : (t : Table) (work : List Row) (tag : ℕ) (p : Profile) (day : ℕ) → addRefusal t work tag p day ≡ 0 → (changeRefusal (length work) t ≡ 0) × (liveTotal t < room (orderOf t))
 unfolding addRefusal
-add-accepted t work tag p e =
+add-accepted t work tag p day e =
     let first = or-zero (changeRefusal (length work) t) _ e in
     let named = unless-zero (validTag tag) badTag _ (omega arith) (first .1) in
     let measured = unless-zero (validMeasures p) badMeasure _ (omega arith) (named .1) in
-    let new = when-zero (isLiveTag t tag) alreadyLive _ (omega arith) (measured .1) in
+    let dated = unless-zero (validDay day) badDay _ (omega arith) (measured .1) in
+    let new = when-zero (isLiveTag t tag) alreadyLive _ (omega arith) (dated .1) in
     let roomy = when-zero (leb (room (orderOf t)) (liveTotal t)) full 0 (omega arith) (new .1) in
     (first .0, leb-false (room (orderOf t)) (liveTotal t) (roomy .0))
 
 pub add-fits :
-    (t : Table) (work : List Row) (tag : ℕ) (p : Profile) → addRefusal t work tag p ≡ 0
-    → Target t (countFrom 0 (lowestEmpty t)) (addTarget t tag p) (length (gathered t tag p))
-add-fits t work tag p e =
-    let a = add-accepted t work tag p e in
+    (t : Table) (work : List Row) (tag : ℕ) (p : Profile) (day : ℕ) → addRefusal t work tag p day ≡ 0
+    → Target t (countFrom 0 (lowestEmpty t)) (addTarget t tag p day) (length (gathered t tag p day))
+add-fits t work tag p day e =
+    let a = add-accepted t work tag p day e in
     let c : Changeable work t = changeable work t (a .0) in
-    add-target t (c .passed .sizes) (c .lives) tag p (a .1)
+    add-target t (c .passed .sizes) (c .lives) tag p day (a .1)

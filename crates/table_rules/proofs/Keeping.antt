@@ -14,17 +14,17 @@ use Rattle.search_rules.proofs.NearestLaws.{nearest-counted}
 use Rattle.table_rules.specs.Table.{Table, tableSpace, slotsOf}
 use Rattle.table_rules.specs.Search.{bucketsDown, nearestTally, nearestAnswer}
 
-module _ (t : Table) (query : Profile) (k : ℕ) where
+module _ (t : Table) (query : Profile) (k firstDay : ℕ) where
   kept-over : (bs : List ℕ) (u : Tally) → length (u .kept) ≤ k
-      → length (foldl (λ tally b. nearestTree (distance (tableSpace t)) query (mayReport (queryRow query k)) k tally (slotsOf t b)) u bs .kept)
-      ≡ min k (length (u .kept) + total (map (λ b. length (select (mayReport (queryRow query k)) (slotsOf t b))) bs))
+      → length (foldl (λ tally b. nearestTree (distance (tableSpace t)) query (mayReport (queryRow query k firstDay)) k tally (slotsOf t b)) u bs .kept)
+      ≡ min k (length (u .kept) + total (map (λ b. length (select (mayReport (queryRow query k firstDay)) (slotsOf t b))) bs))
   unfolding total
   kept-over [] u few = omega arith
   kept-over (b ∷ bs) u few =
-      let next = nearestTree (distance (tableSpace t)) query (mayReport (queryRow query k)) k u (slotsOf t b) in
-      let size = nearest-counted (distance (tableSpace t)) query (mayReport (queryRow query k)) k u (slotsOf t b) few .size in
+      let next = nearestTree (distance (tableSpace t)) query (mayReport (queryRow query k firstDay)) k u (slotsOf t b) in
+      let size = nearest-counted (distance (tableSpace t)) query (mayReport (queryRow query k firstDay)) k u (slotsOf t b) few .size in
       omega (arith, size, kept-over bs next (omega (arith, size)))
 
-  pub nearest-size : length (nearestAnswer t query k .entries) ≡ min k (total (map (λ b. length (select (mayReport (queryRow query k)) (slotsOf t b))) (bucketsDown t)))
+  pub nearest-size : length (nearestAnswer t query k firstDay .entries) ≡ min k (total (map (λ b. length (select (mayReport (queryRow query k firstDay)) (slotsOf t b))) (bucketsDown t)))
   unfolding nearestAnswer nearestTally
   nearest-size = kept-over (bucketsDown t) (record { kept = []; count = 0 }) (omega arith) ∙ omega arith

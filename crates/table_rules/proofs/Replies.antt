@@ -88,43 +88,43 @@ module _ (area : List Entry) (a : Answer) (m : ℕ) where
 
 -- which test stops a search
 module _ (t : Table) (area : List Entry) (query : Profile) where
-  module _ (radius : ℕ) where
-    pub range-stopped : (readRefusal t ≡ 0 → ⊥) → rangeRefusal t area query radius ≡ readRefusal t
+  module _ (radius firstDay : ℕ) where
+    pub range-stopped : (readRefusal t ≡ 0 → ⊥) → rangeRefusal t area query radius firstDay ≡ readRefusal t
     unfolding rangeRefusal
     range-stopped some = stops-first (readRefusal t) _ some
 
     range-goes : (b : Bool) → readRefusal t ≡ 0 → validMeasures query ≡ b
-        → rangeRefusal t area query radius ≡ unless b badMeasure (fitRefusal area (rangeAnswer t query radius))
+        → rangeRefusal t area query radius firstDay ≡ unless b badMeasure (fitRefusal area (rangeAnswer t query radius firstDay))
     unfolding rangeRefusal
     range-goes b e v =
-        let fit : ℕ = fitRefusal area (rangeAnswer t query radius) in
+        let fit : ℕ = fitRefusal area (rangeAnswer t query radius firstDay) in
         ap (λ (n : ℕ). orElse n (unless (validMeasures query) badMeasure fit)) e ∙ ap (λ (x : Bool). unless x badMeasure fit) v
 
-    pub range-measure : readRefusal t ≡ 0 → validMeasures query ≡ false → rangeRefusal t area query radius ≡ badMeasure
+    pub range-measure : readRefusal t ≡ 0 → validMeasures query ≡ false → rangeRefusal t area query radius firstDay ≡ badMeasure
     range-measure e v = range-goes false e v
 
-    pub range-fits : readRefusal t ≡ 0 → validMeasures query ≡ true → rangeRefusal t area query radius ≡ fitRefusal area (rangeAnswer t query radius)
+    pub range-fits : readRefusal t ≡ 0 → validMeasures query ≡ true → rangeRefusal t area query radius firstDay ≡ fitRefusal area (rangeAnswer t query radius firstDay)
     range-fits e v = range-goes true e v
 
-  module _ (k : ℕ) where
-    pub nearest-stopped : (readRefusal t ≡ 0 → ⊥) → nearestRefusal t area query k ≡ readRefusal t
+  module _ (k firstDay : ℕ) where
+    pub nearest-stopped : (readRefusal t ≡ 0 → ⊥) → nearestRefusal t area query k firstDay ≡ readRefusal t
     unfolding nearestRefusal
     nearest-stopped some = stops-first (readRefusal t) _ some
 
     nearest-goes : (b z : Bool) → readRefusal t ≡ 0 → validMeasures query ≡ b → eqb k 0 ≡ z
-        → nearestRefusal t area query k ≡ unless b badMeasure (when z noCount (fitRefusal area (nearestAnswer t query k)))
+        → nearestRefusal t area query k firstDay ≡ unless b badMeasure (when z noCount (fitRefusal area (nearestAnswer t query k firstDay)))
     unfolding nearestRefusal
     nearest-goes b z e v f =
-        let fit : ℕ = fitRefusal area (nearestAnswer t query k) in
+        let fit : ℕ = fitRefusal area (nearestAnswer t query k firstDay) in
         ap (λ (n : ℕ). orElse n (unless (validMeasures query) badMeasure (when (eqb k 0) noCount fit))) e
         ∙ ap (λ (x : Bool). unless x badMeasure (when (eqb k 0) noCount fit)) v
         ∙ ap (λ (x : Bool). unless b badMeasure (when x noCount fit)) f
 
-    pub nearest-measure : readRefusal t ≡ 0 → validMeasures query ≡ false → nearestRefusal t area query k ≡ badMeasure
+    pub nearest-measure : readRefusal t ≡ 0 → validMeasures query ≡ false → nearestRefusal t area query k firstDay ≡ badMeasure
     nearest-measure e v = nearest-goes false _ e v refl
 
-    pub nearest-none : readRefusal t ≡ 0 → validMeasures query ≡ true → k ≡ 0 → nearestRefusal t area query k ≡ noCount
+    pub nearest-none : readRefusal t ≡ 0 → validMeasures query ≡ true → k ≡ 0 → nearestRefusal t area query k firstDay ≡ noCount
     nearest-none e v z = nearest-goes true true e v (ap (λ (n : ℕ). eqb n 0) z)
 
-    pub nearest-fits : readRefusal t ≡ 0 → validMeasures query ≡ true → (k ≡ 0 → ⊥) → nearestRefusal t area query k ≡ fitRefusal area (nearestAnswer t query k)
+    pub nearest-fits : readRefusal t ≡ 0 → validMeasures query ≡ true → (k ≡ 0 → ⊥) → nearestRefusal t area query k firstDay ≡ fitRefusal area (nearestAnswer t query k firstDay)
     nearest-fits e v some = nearest-goes true false e v (ne-eqb k 0 some)

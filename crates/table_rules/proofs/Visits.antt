@@ -14,15 +14,15 @@ use Rattle.search_rules.proofs.Reaching.{range-count}
 use Rattle.table_rules.specs.Table.{Table, tableSpace, slotsOf}
 use Rattle.table_rules.specs.Search.{bucketsDown, rangeMet, rangeAnswer}
 
-module _ (t : Table) (query : Profile) (radius : ℕ) where
+module _ (t : Table) (query : Profile) (radius firstDay : ℕ) where
   visits : (ks : List ℕ)
-      → foldr (λ k met. both (rangeTree (distance (tableSpace t)) query (mayReport (queryRow query radius)) radius (slotsOf t k)) met) nothing ks .count
+      → foldr (λ k met. both (rangeTree (distance (tableSpace t)) query (mayReport (queryRow query radius firstDay)) radius (slotsOf t k)) met) nothing ks .count
       ≡ total (map (λ k. length (reached (distance (tableSpace t)) query radius (slotsOf t k))) ks)
   unfolding nothing both total
   visits [] = refl
-  visits (k ∷ ks) = ap₂ _+_ (range-count (distance (tableSpace t)) query (mayReport (queryRow query radius)) radius (slotsOf t k)) (visits ks)
+  visits (k ∷ ks) = ap₂ _+_ (range-count (distance (tableSpace t)) query (mayReport (queryRow query radius firstDay)) radius (slotsOf t k)) (visits ks)
 
   pub range-visits :
-      rangeAnswer t query radius .count ≡ total (map (λ k. length (reached (distance (tableSpace t)) query radius (slotsOf t k))) (bucketsDown t))
+      rangeAnswer t query radius firstDay .count ≡ total (map (λ k. length (reached (distance (tableSpace t)) query radius (slotsOf t k))) (bucketsDown t))
   unfolding rangeAnswer rangeMet
   range-visits = visits (bucketsDown t)

@@ -6,7 +6,7 @@ use mathlib.Core.Option.{Option, none, some}
 use lib.IntN.{pos}
 use lib.Dec.{eqb}
 use Rattle.metric_rules.specs.declared.Profile.{Profile}
-use Rattle.metric_rules.specs.Row.{Row, tagOf, profileOf, isLive}
+use Rattle.metric_rules.specs.Row.{Row, tagOf, profileOf, dayOf, isLive}
 use Rattle.metric_rules.specs.Validity.{validTag}
 use Rattle.table_rules.specs.declared.LookedUp.{LookedUp}
 use Rattle.table_rules.specs.Refusals.{badTag, notLive, unless, orElse}
@@ -56,16 +56,16 @@ unfoldable pub noProfile : Profile
 noProfile = record { measures = pos 0 ∷ pos 0 ∷ pos 0 ∷ pos 0 ∷ []; code = 0 ∷ 0 ∷ [] }
 
 unfoldable pub notFound : ℕ → LookedUp
-notFound n = record { refusal = n; bucket = 0; profile = noProfile }
+notFound n = record { refusal = n; bucket = 0; profile = noProfile; day = 0 }
 
--- RULES 10.2: the bucket and the profile
+-- RULES 10.2: the bucket, the profile and the day
 unfoldable pub lookUpReply : Table → ℕ → LookedUp
 lookUpReply t tag =
     elim (lookUpRefusal t tag) [
       | suc n ↦ notFound (suc n)
       | zero ↦
           elim (find t tag) [
-            | some place ↦ record { refusal = 0; bucket = place .bucket; profile = profileOf (place .row) }
+            | some place ↦ record { refusal = 0; bucket = place .bucket; profile = profileOf (place .row); day = dayOf (place .row) }
             | none ↦ notFound notLive
           ]
     ]

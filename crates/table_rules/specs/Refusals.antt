@@ -58,6 +58,10 @@ badTable = 24
 abbrev pub badWeight : ℕ
 badWeight = 32
 
+-- the day is 0 (add, load)
+abbrev pub badDay : ℕ
+badDay = 33
+
 -- A refusal is a list of tests in the rules' order: the first that stops the call gives its number, and later ones are not worked out.
 
 -- n, unless the test passes: then what is tested after it

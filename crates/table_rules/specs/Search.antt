@@ -26,41 +26,41 @@ unfoldable pub bucketsDown : Table → List ℕ
 bucketsDown t = reverse (bucketsOf (orderOf t))
 
 -- RULES 11.5: range with one radius over all buckets: what each meets, joined
-unfoldable pub rangeMet : Table → Profile → ℕ → Met
-rangeMet t query radius =
-    foldr (λ k met. both (rangeTree (distance (tableSpace t)) query (mayReport (queryRow query radius)) radius (slotsOf t k)) met) nothing (bucketsDown t)
+unfoldable pub rangeMet : Table → Profile → ℕ → ℕ → Met
+rangeMet t query radius firstDay =
+    foldr (λ k met. both (rangeTree (distance (tableSpace t)) query (mayReport (queryRow query radius firstDay)) radius (slotsOf t k)) met) nothing (bucketsDown t)
 
 -- RULES 11.6, 11.10: the hits by distance, then tag. The count is the number of slots all of whose ancestors let their side be entered (`range-visits`)
-unfoldable pub rangeAnswer : Table → Profile → ℕ → Answer
-rangeAnswer t query radius = let met = rangeMet t query radius in record { entries = ordered (met .hits); count = met .count }
+unfoldable pub rangeAnswer : Table → Profile → ℕ → ℕ → Answer
+rangeAnswer t query radius firstDay = let met = rangeMet t query radius firstDay in record { entries = ordered (met .hits); count = met .count }
 
 -- RULES 11.8: the kept entries and the count pass through every bucket
-unfoldable pub nearestTally : Table → Profile → ℕ → Tally
-nearestTally t query k =
-    foldl (λ tally b. nearestTree (distance (tableSpace t)) query (mayReport (queryRow query k)) k tally (slotsOf t b)) (record { kept = []; count = 0 }) (bucketsDown t)
+unfoldable pub nearestTally : Table → Profile → ℕ → ℕ → Tally
+nearestTally t query k firstDay =
+    foldl (λ tally b. nearestTree (distance (tableSpace t)) query (mayReport (queryRow query k firstDay)) k tally (slotsOf t b)) (record { kept = []; count = 0 }) (bucketsDown t)
 
 -- RULES 11.9, 15.3: the reply is what is kept, over any table min(k, Z) entries, Z being the number of built slots that may be reported (`nearest-size`)
-unfoldable pub nearestAnswer : Table → Profile → ℕ → Answer
-nearestAnswer t query k = let tally = nearestTally t query k in record { entries = tally .kept; count = tally .count }
+unfoldable pub nearestAnswer : Table → Profile → ℕ → ℕ → Answer
+nearestAnswer t query k firstDay = let tally = nearestTally t query k firstDay in record { entries = tally .kept; count = tally .count }
 
 -- RULES 11.11, refusal 6: fewer entries in the area than in the reply
 unfoldable pub fitRefusal : List Entry → Answer → ℕ
 fitRefusal area a = unless (leb (length (a .entries)) (length area)) noRoom 0
 
 -- RULES 14.4, after 23 and 24: 2, 6
-unfoldable pub rangeRefusal : Table → List Entry → Profile → ℕ → ℕ
-rangeRefusal t area query radius =
+unfoldable pub rangeRefusal : Table → List Entry → Profile → ℕ → ℕ → ℕ
+rangeRefusal t area query radius firstDay =
     orElse (readRefusal t)
     (unless (validMeasures query) badMeasure
-    (fitRefusal area (rangeAnswer t query radius)))
+    (fitRefusal area (rangeAnswer t query radius firstDay)))
 
 -- RULES 14.4, after 23 and 24: 2, 5, 6
-unfoldable pub nearestRefusal : Table → List Entry → Profile → ℕ → ℕ
-nearestRefusal t area query k =
+unfoldable pub nearestRefusal : Table → List Entry → Profile → ℕ → ℕ → ℕ
+nearestRefusal t area query k firstDay =
     orElse (readRefusal t)
     (unless (validMeasures query) badMeasure
     (when (eqb k 0) noCount
-    (fitRefusal area (nearestAnswer t query k))))
+    (fitRefusal area (nearestAnswer t query k firstDay))))
 
 -- RULES 11.11, 14.2, the reply by the refusal: number and zeros, or the numbers of the answer
 unfoldable pub searchReply : ℕ → Answer → Searched
@@ -77,14 +77,14 @@ resultAfter zero area a = a .entries ++ replicate (length area - length (a .entr
 resultAfter (suc n) area a = elim (eqb (suc n) noRoom) [ true ↦ replicate (length area) zeroEntry | false ↦ area ]
 
 -- RULES 11.11, 14.2: each search's reply, and the result area after the call
-unfoldable pub rangeReply : Table → List Entry → Profile → ℕ → Searched
-rangeReply t area query radius = let a = rangeAnswer t query radius in searchReply (rangeRefusal t area query radius) a
+unfoldable pub rangeReply : Table → List Entry → Profile → ℕ → ℕ → Searched
+rangeReply t area query radius firstDay = let a = rangeAnswer t query radius firstDay in searchReply (rangeRefusal t area query radius firstDay) a
 
-unfoldable pub resultAfterRange : Table → List Entry → Profile → ℕ → List Entry
-resultAfterRange t area query radius = let a = rangeAnswer t query radius in resultAfter (rangeRefusal t area query radius) area a
+unfoldable pub resultAfterRange : Table → List Entry → Profile → ℕ → ℕ → List Entry
+resultAfterRange t area query radius firstDay = let a = rangeAnswer t query radius firstDay in resultAfter (rangeRefusal t area query radius firstDay) area a
 
-unfoldable pub nearestReply : Table → List Entry → Profile → ℕ → Searched
-nearestReply t area query k = let a = nearestAnswer t query k in searchReply (nearestRefusal t area query k) a
+unfoldable pub nearestReply : Table → List Entry → Profile → ℕ → ℕ → Searched
+nearestReply t area query k firstDay = let a = nearestAnswer t query k firstDay in searchReply (nearestRefusal t area query k firstDay) a
 
-unfoldable pub resultAfterNearest : Table → List Entry → Profile → ℕ → List Entry
-resultAfterNearest t area query k = let a = nearestAnswer t query k in resultAfter (nearestRefusal t area query k) area a
+unfoldable pub resultAfterNearest : Table → List Entry → Profile → ℕ → ℕ → List Entry
+resultAfterNearest t area query k firstDay = let a = nearestAnswer t query k firstDay in resultAfter (nearestRefusal t area query k firstDay) area a

@@ -30,6 +30,8 @@ pub const BAD_TABLE: u32 = 24;
 
 pub const BAD_WEIGHT: u32 = 32;
 
+pub const BAD_DAY: u32 = 33;
+
 #[repr(C)]
 pub struct Added {
     pub refusal: u32,
@@ -48,6 +50,7 @@ pub struct LookedUp {
     pub refusal: u32,
     pub bucket: u32,
     pub profile: Profile,
+    pub day: u32,
 }
 
 #[repr(C)]

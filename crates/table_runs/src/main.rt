@@ -46,6 +46,11 @@ fn tag_at(national: u32) -> u64 {
     COUNTRY + national as u64
 }
 
+// A number as a day; every one here is of 16 bits.
+fn day_at(n: u32) -> u16 {
+    (n % 0x1_0000) as u16
+}
+
 // Profiles that differ in measures and in codes, with ties among them.
 fn profile_at(national: u32) -> Profile {
     let n = national as u64;
@@ -64,7 +69,7 @@ fn profile_at(national: u32) -> Profile {
 fn change(table: &mut [Row], work: &mut [Row], kind: u32, national: u32, so_far: u64) -> Last {
     let tag = tag_at(national);
     if kind == 1 {
-        let r = vpindex::vpindex_add(table, work, tag, profile_at(national));
+        let r = vpindex::vpindex_add(table, work, tag, profile_at(national), day_at(national));
         let total = std::num::wrapping_add_u64(so_far, r.distances as u64);
         return last_of(r.refusal, r.bucket, r.distances, total);
     }
@@ -84,13 +89,13 @@ fn change_all(table: &mut [Row], work: &mut [Row], kind: u32, first: u32, count:
     last
 }
 
-fn search(table: &[Row], result: &mut [Entry], kind: u32, k: u32) -> Last {
+fn search(table: &[Row], result: &mut [Entry], kind: u32, first: u32, k: u32) -> Last {
     let query = profile_at(0);
     if kind == 3 {
-        let r = vpindex::vpindex_range(table, result, query, 0xffff_ffff);
+        let r = vpindex::vpindex_range(table, result, query, 0xffff_ffff, day_at(first));
         return last_of(r.refusal, r.found, r.distances, 0);
     }
-    let r = vpindex::vpindex_nearest(table, result, query, k);
+    let r = vpindex::vpindex_nearest(table, result, query, k, day_at(first));
     last_of(r.refusal, r.found, r.distances, 0)
 }
 
@@ -116,7 +121,7 @@ fn perform(
     if kind <= 2 {
         return change_all(table, work, kind, first, second);
     }
-    search(table, result, kind, second)
+    search(table, result, kind, first, second)
 }
 
 // The buckets of a table of this order; of no order there are as many as of the last.

@@ -28,7 +28,7 @@ pub extern "C" fn vpindex_fresh(table: &mut [Row], order: u32, metric: u32, weig
     table_fresh::fresh(table, order, Space { metric, weights })
 }
 
-// The table that these bytes are the image of. The reply is the refusal: 7, 3, 4, 8, 7, 32, 7, 24, 7, 23, 8, or 0.
+// The table that these bytes are the image of. The reply is the refusal: 7, 3, 4, 8, 7, 32, 7, 24, 7, 23, 33, 8, or 0.
 #[no_mangle]
 pub extern "C" fn vpindex_load(table: &mut [Row], image: &[u8]) -> u32
     ensures reply { λ r. ⌜ r ≡ beginReply (load (now (image .entry))) (length (now (table .entry))) ⌝ }
@@ -37,19 +37,20 @@ pub extern "C" fn vpindex_load(table: &mut [Row], image: &[u8]) -> u32
     image_load::load(table, image)
 }
 
-// An item put in; the reply has the bucket that was built and the distances that its build worked out.
+// An item put in, with the day on which it was weighed; the reply has the bucket that was built and the distances that its build worked out.
 #[no_mangle]
 pub extern "C" fn vpindex_add(
     table: &mut [Row],
     work: &mut [Row],
     tag: u64,
     profile: Profile,
+    day: u16,
 ) -> Added
-    ensures reply { λ r. ⌜ r ≡ changeReply (add tag profile) (now (table .entry)) (now (work .entry)) ⌝ }
-    ensures table { λ _. ⌜ now (table .exit) ≡ tableChanged (add tag profile) (now (table .entry)) (now (work .entry)) ⌝ }
-    ensures work { λ _. ⌜ now (work .exit) ≡ workChanged (add tag profile) (now (table .entry)) (now (work .entry)) ⌝ }
+    ensures reply { λ r. ⌜ r ≡ changeReply (add tag profile day) (now (table .entry)) (now (work .entry)) ⌝ }
+    ensures table { λ _. ⌜ now (table .exit) ≡ tableChanged (add tag profile day) (now (table .entry)) (now (work .entry)) ⌝ }
+    ensures work { λ _. ⌜ now (work .exit) ≡ workChanged (add tag profile day) (now (table .entry)) (now (work .entry)) ⌝ }
 {
-    table_add::add(table, work, tag, profile)
+    table_add::add(table, work, tag, profile, day as u32)
 }
 
 // An item struck out; the reply has the distances that a build worked out, 0 where none was built.
@@ -62,7 +63,7 @@ pub extern "C" fn vpindex_remove(table: &mut [Row], work: &mut [Row], tag: u64) 
     table_remove::remove(table, work, tag)
 }
 
-// The bucket and the profile of the live item with this tag.
+// The bucket, the profile and the day of the live item with this tag.
 #[no_mangle]
 pub extern "C" fn vpindex_look_up(table: &[Row], tag: u64) -> LookedUp
     ensures reply { λ r. ⌜ r ≡ askReply (lookUp tag) (now (table .entry)) tt ⌝ }
@@ -70,32 +71,34 @@ pub extern "C" fn vpindex_look_up(table: &[Row], tag: u64) -> LookedUp
     table_look_up::look_up(table, tag)
 }
 
-// Every live item within this radius of the query, by distance, then tag.
+// Every live item within this radius of the query that was weighed on the first day or later, by distance, then tag.
 #[no_mangle]
 pub extern "C" fn vpindex_range(
     table: &[Row],
     result: &mut [Entry],
     query: Profile,
     radius: u32,
+    first_day: u16,
 ) -> Searched
-    ensures reply { λ r. ⌜ r ≡ askReply (range query radius) (now (table .entry)) (now (result .entry)) ⌝ }
-    ensures result { λ _. ⌜ now (result .exit) ≡ areasAnswered (range query radius) (now (table .entry)) (now (result .entry)) ⌝ }
+    ensures reply { λ r. ⌜ r ≡ askReply (range query radius «first_day») (now (table .entry)) (now (result .entry)) ⌝ }
+    ensures result { λ _. ⌜ now (result .exit) ≡ areasAnswered (range query radius «first_day») (now (table .entry)) (now (result .entry)) ⌝ }
 {
-    table_range::range(table, result, query, radius)
+    table_range::range(table, result, query, radius, first_day as u32)
 }
 
-// The k live items nearest to the query, or all if there are fewer, by distance, then tag.
+// Of the live items weighed on the first day or later the k nearest to the query, or all if there are fewer, by distance, then tag.
 #[no_mangle]
 pub extern "C" fn vpindex_nearest(
     table: &[Row],
     result: &mut [Entry],
     query: Profile,
     k: u32,
+    first_day: u16,
 ) -> Searched
-    ensures reply { λ r. ⌜ r ≡ askReply (nearest query k) (now (table .entry)) (now (result .entry)) ⌝ }
-    ensures result { λ _. ⌜ now (result .exit) ≡ areasAnswered (nearest query k) (now (table .entry)) (now (result .entry)) ⌝ }
+    ensures reply { λ r. ⌜ r ≡ askReply (nearest query k «first_day») (now (table .entry)) (now (result .entry)) ⌝ }
+    ensures result { λ _. ⌜ now (result .exit) ≡ areasAnswered (nearest query k «first_day») (now (table .entry)) (now (result .entry)) ⌝ }
 {
-    table_nearest::nearest(table, result, query, k)
+    table_nearest::nearest(table, result, query, k, first_day as u32)
 }
 
 // The image of the table, its length in the reply; bytes after it are unchanged.
@@ -107,12 +110,17 @@ pub extern "C" fn vpindex_write(table: &[Row], image: &mut [u8]) -> Written
     image_write::write(table, image)
 }
 
-// A herd list: each line an add, up to the first line refused. The reply has that line's refusal and number, the items added and their distances.
+// A herd list of one day: each line an add, up to the first line refused. The reply has that line's refusal and number, the items added and their distances.
 #[no_mangle]
-pub extern "C" fn vpindex_read_list(table: &mut [Row], work: &mut [Row], list: &[u8]) -> ListRead
-    ensures reply { λ r. ⌜ r ≡ changeReply (readList (now (list .entry))) (now (table .entry)) (now (work .entry)) ⌝ }
-    ensures table { λ _. ⌜ now (table .exit) ≡ tableChanged (readList (now (list .entry))) (now (table .entry)) (now (work .entry)) ⌝ }
-    ensures work { λ _. ⌜ now (work .exit) ≡ workChanged (readList (now (list .entry))) (now (table .entry)) (now (work .entry)) ⌝ }
+pub extern "C" fn vpindex_read_list(
+    table: &mut [Row],
+    work: &mut [Row],
+    list: &[u8],
+    day: u16,
+) -> ListRead
+    ensures reply { λ r. ⌜ r ≡ changeReply (readList (now (list .entry)) day) (now (table .entry)) (now (work .entry)) ⌝ }
+    ensures table { λ _. ⌜ now (table .exit) ≡ tableChanged (readList (now (list .entry)) day) (now (table .entry)) (now (work .entry)) ⌝ }
+    ensures work { λ _. ⌜ now (work .exit) ≡ workChanged (readList (now (list .entry)) day) (now (table .entry)) (now (work .entry)) ⌝ }
 {
-    list_read::read_list(table, work, list)
+    list_read::read_list(table, work, list, day as u32)
 }

@@ -22,7 +22,7 @@ const ENTRIES: usize = 256;
 // The first line of a reply, and 37 bytes for each entry.
 const OUT: usize = 65 + 37 * ENTRIES;
 
-// No command is longer than 90 bytes.
+// No command is longer than 96 bytes.
 const LINE: usize = 128;
 
 // So many pieces of 4,096 bytes are fewer than 2^64 bytes.
@@ -44,7 +44,7 @@ fn take_piece(
     piece: &[u8],
     before: Place,
 ) -> Place
-    requires { ⌜ (65 + 37 * length (now result) ≤ length (now out)) × (90 ≤ length (now area)) × (length (now area) < 2 ^ 32) × (before .number + length (now piece) < 2 ^ 64) ⌝ }
+    requires { ⌜ (65 + 37 * length (now result) ≤ length (now out)) × (96 ≤ length (now area)) × (length (now area) < 2 ^ 32) × (before .number + length (now piece) < 2 ^ 64) ⌝ }
     ensures { λ r. ⌜ r .number ≤ before .number + length (now (piece .entry)) ⌝ }
     ensures { λ r. ⌜ ((m : Midway) → Matches m (lent (now (table .entry)) (now (work .entry)) (now (result .entry))) (now (area .entry)) before → Matches (fed m (now (piece .entry))) (lent (now (table .exit)) (now (work .exit)) (now (result .exit))) (now (area .exit)) r) ⌝ }
 {
@@ -68,7 +68,7 @@ fn converse(
     area: &mut [u8],
     piece: &mut [u8],
 )
-    requires { ⌜ (65 + 37 * length (now result) ≤ length (now out)) × (90 ≤ length (now area)) × (length (now area) < 2 ^ 32) × (length (now piece) ≤ 4096) × Ample (lent (now table) (now work) (now result)) ⌝ }
+    requires { ⌜ (65 + 37 * length (now result) ≤ length (now out)) × (96 ≤ length (now area)) × (length (now area) < 2 ^ 32) × (length (now piece) ≤ 4096) × Ample (lent (now table) (now work) (now result)) ⌝ }
 {
     let mut at = yard_session::begin();
     let mut left = MOST_PIECES;

@@ -39,10 +39,10 @@ ServedBy a m = Served (a .table) (a .work) (a .result) m
 
 -- the counts of a line's own reply
 unfoldable pub countsAt : Areas → Command → Profile → Counts
-countsAt a (command.Add tag) p = let r = addReply (a .table) (a .work) tag p in record { bucket = r .bucket; distances = r .distances }
+countsAt a (command.Add tag day) p = let r = addReply (a .table) (a .work) tag p day in record { bucket = r .bucket; distances = r .distances }
 countsAt a (command.Remove tag) p = record { bucket = 0; distances = removeReply (a .table) (a .work) tag .distances }
-countsAt a (command.Within radius) p = record { bucket = 0; distances = rangeAnswer (a .table) p radius .count }
-countsAt a (command.Nearest k) p = record { bucket = 0; distances = nearestAnswer (a .table) p k .count }
+countsAt a (command.Within radius firstDay) p = record { bucket = 0; distances = rangeAnswer (a .table) p radius firstDay .count }
+countsAt a (command.Nearest k firstDay) p = record { bucket = 0; distances = nearestAnswer (a .table) p k firstDay .count }
 countsAt a command.Other p = record { bucket = 0; distances = 0 }
 
 -- a search's text is its number or its entries
@@ -56,27 +56,27 @@ search-text letter (suc n) result a = append-nil (replyLine letter (suc n ∷ []
 module _ {a : Areas} {m : Model} (s : ServedBy a m) where
   pub text-served : (number : ℕ) (c : Command) (p : Profile) → textAfter a number c p ≡ modelText m number c p (countsAt a c p)
   unfolding textAfter modelText lineRefusal countsAt addText removeText rangeReply resultAfterRange nearestReply resultAfterNearest
-  text-served number (command.Add tag) p =
-      let r = addReply (a .table) (a .work) tag p in
-      ap (λ (n : ℕ). replyLine letterA (replyNumbers n (r .bucket ∷ r .distances ∷ []))) (add-told s tag p)
+  text-served number (command.Add tag day) p =
+      let r = addReply (a .table) (a .work) tag p day in
+      ap (λ (n : ℕ). replyLine letterA (replyNumbers n (r .bucket ∷ r .distances ∷ []))) (add-told s tag p day)
   text-served number (command.Remove tag) p =
       ap (λ (n : ℕ). replyLine letterR (replyNumbers n (removeReply (a .table) (a .work) tag .distances ∷ []))) (remove-told s tag)
-  text-served number (command.Within radius) p =
-      let found : Answer = rangeAnswer (a .table) p radius in
-      search-text letterW (rangeRefusal (a .table) (a .result) p radius) (a .result) found
-      ∙ ap₂ (λ (n : ℕ) (es : List Entry). searchLines letterW n es (found .count)) (range-refused s p radius) (range-alike (s .matches) p radius)
-  text-served number (command.Nearest k) p =
-      let found : Answer = nearestAnswer (a .table) p k in
-      search-text letterN (nearestRefusal (a .table) (a .result) p k) (a .result) found
-      ∙ ap₂ (λ (n : ℕ) (es : List Entry). searchLines letterN n es (found .count)) (nearest-refused s p k) (nearest-alike (s .matches) p k)
+  text-served number (command.Within radius firstDay) p =
+      let found : Answer = rangeAnswer (a .table) p radius firstDay in
+      search-text letterW (rangeRefusal (a .table) (a .result) p radius firstDay) (a .result) found
+      ∙ ap₂ (λ (n : ℕ) (es : List Entry). searchLines letterW n es (found .count)) (range-refused s p radius firstDay) (range-alike (s .matches) p radius firstDay)
+  text-served number (command.Nearest k firstDay) p =
+      let found : Answer = nearestAnswer (a .table) p k firstDay in
+      search-text letterN (nearestRefusal (a .table) (a .result) p k firstDay) (a .result) found
+      ∙ ap₂ (λ (n : ℕ) (es : List Entry). searchLines letterN n es (found .count)) (nearest-refused s p k firstDay) (nearest-alike (s .matches) p k firstDay)
   text-served number command.Other p = refl
 
   pub stays-served : (c : Command) (p : Profile) → CommandFits c p → ServedBy (areasAfter a c p) (modelAfter m c p)
   unfolding areasAfter modelAfter lineRefusal resultAfterRange resultAfterNearest
-  stays-served (command.Add tag) p is = add-served s tag p (is .0) (is .1)
+  stays-served (command.Add tag day) p is = add-served s tag p day (is .0) (is .1) (is .2)
   stays-served (command.Remove tag) p is = remove-served s tag
-  stays-served (command.Within radius) p is = search-served s (rangeRefusal (a .table) (a .result) p radius) (rangeAnswer (a .table) p radius)
-  stays-served (command.Nearest k) p is = search-served s (nearestRefusal (a .table) (a .result) p k) (nearestAnswer (a .table) p k)
+  stays-served (command.Within radius firstDay) p is = search-served s (rangeRefusal (a .table) (a .result) p radius firstDay) (rangeAnswer (a .table) p radius firstDay)
+  stays-served (command.Nearest k firstDay) p is = search-served s (nearestRefusal (a .table) (a .result) p k firstDay) (nearestAnswer (a .table) p k firstDay)
   stays-served command.Other p is = s
 
 -- rows grow with the order, so what is enough for order 8 is enough below it

@@ -8,7 +8,8 @@ use mathlib.Core.List.{List, [], _∷_, _++_, append-nil}
 use lib.Dec.{leb, eqb}
 use lib.ListN.{length}
 use Rattle.metric_rules.specs.declared.Profile.{Profile}
-use Rattle.metric_rules.specs.Validity.{validTag, validMeasures}
+use Rattle.metric_rules.specs.Validity.{validTag, validMeasures, validDay}
+use Rattle.table_rules.specs.Refusals.{badDay}
 use Rattle.table_rules.specs.Geometry.{room}
 use Rattle.table_rules.specs.Fresh.{tableAfterFresh}
 use Rattle.call_rules.specs.Calls.Begin.{fresh}
@@ -92,9 +93,9 @@ pub every-conversation : EveryConversation
 unfolding conversation
 every-conversation a ample input = all-as-model a ample (linesIn input)
 
--- the model's numbers are below 6, or 20 to 22
+-- the model's numbers are below 6, or 20 to 22, or 33
 abbrev Number : ℕ → Type 0
-Number n = (n < 6) ⊎ ((19 < n) × (n < 23))
+Number n = (n < 6) ⊎ (((19 < n) × (n < 23)) ⊎ (n ≡ badDay))
 
 either : (test : Bool) {x y : ℕ} → Number x → Number y → Number (elim test [ true ↦ x | false ↦ y ])
 either true h k = h
@@ -102,16 +103,18 @@ either false h k = k
 
 line-number : (m : Model) (c : Command) (p : Profile) → Number (lineRefusal m c p)
 unfolding lineRefusal itemRefusal tagRefusal
-line-number m (command.Add tag) p =
+line-number m (command.Add tag day) p =
     either (validTag tag)
     (either (validMeasures p)
-    (either (isIn m tag) (inr (omega arith, omega arith))
-    (either (leb (room (m .order)) (length (m .items))) (inr (omega arith, omega arith)) (inl (omega arith))))
+    (either (validDay day)
+    (either (isIn m tag) (inr (inl (omega arith, omega arith)))
+    (either (leb (room (m .order)) (length (m .items))) (inr (inl (omega arith, omega arith))) (inl (omega arith))))
+    (inr (inr refl)))
     (inl (omega arith)))
     (inl (omega arith))
-line-number m (command.Remove tag) p = either (validTag tag) (either (isIn m tag) (inl (omega arith)) (inr (omega arith, omega arith))) (inl (omega arith))
-line-number m (command.Within radius) p = either (validMeasures p) (inl (omega arith)) (inl (omega arith))
-line-number m (command.Nearest k) p = either (validMeasures p) (either (eqb k 0) (inl (omega arith)) (inl (omega arith))) (inl (omega arith))
+line-number m (command.Remove tag) p = either (validTag tag) (either (isIn m tag) (inl (omega arith)) (inr (inl (omega arith, omega arith)))) (inl (omega arith))
+line-number m (command.Within radius firstDay) p = either (validMeasures p) (inl (omega arith)) (inl (omega arith))
+line-number m (command.Nearest k firstDay) p = either (validMeasures p) (either (eqb k 0) (inl (omega arith)) (inl (omega arith))) (inl (omega arith))
 line-number m command.Other p = inl (omega arith)
 
 pub no-area-refused : NoAreaRefused
@@ -119,4 +122,5 @@ no-area-refused m c p = apart (lineRefusal m c p) (line-number m c p)
   where
     apart : (n : ℕ) → Number n → (n ≡ 6 → ⊥) × ((n ≡ 23 → ⊥) × ((n ≡ 24 → ⊥) × Unit {0}))
     apart n (inl h) = ((λ e. omega arith), ((λ e. omega arith), ((λ e. omega arith), tt)))
-    apart n (inr h) = ((λ e. omega (arith, h .0)), ((λ e. omega (arith, h .1)), ((λ e. omega (arith, h .1)), tt)))
+    apart n (inr (inl h)) = ((λ e. omega (arith, h .0)), ((λ e. omega (arith, h .1)), ((λ e. omega (arith, h .1)), tt)))
+    apart n (inr (inr h)) = ((λ e. omega arith), ((λ e. omega arith), ((λ e. omega arith), tt)))

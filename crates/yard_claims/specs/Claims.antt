@@ -28,20 +28,21 @@ pub record Counts : Type 0 where
   pub bucket : ℕ
   pub distances : ℕ
 
--- RULES 14.4, the number by which the model refuses a line's call: add 1, 2, 20, 22; remove 1, 21; range 2; nearest 2, 5
+-- RULES 14.4, the number by which the model refuses a line's call: add 1, 2, 33, 20, 22; remove 1, 21; range 2; nearest 2, 5
 unfoldable pub lineRefusal : Model → Command → Profile → ℕ
-lineRefusal m (command.Add tag) p = itemRefusal m tag p
+lineRefusal m (command.Add tag day) p = itemRefusal m tag p day
 lineRefusal m (command.Remove tag) p = tagRefusal m tag
-lineRefusal m (command.Within radius) p = unless (validMeasures p) badMeasure 0
-lineRefusal m (command.Nearest k) p = unless (validMeasures p) badMeasure (when (eqb k 0) noCount 0)
+lineRefusal m (command.Within radius firstDay) p = unless (validMeasures p) badMeasure 0
+lineRefusal m (command.Nearest k firstDay) p = unless (validMeasures p) badMeasure (when (eqb k 0) noCount 0)
 lineRefusal m command.Other p = 0
 
 -- RULES 16.4, the model after a line: an accepted add puts its item in, an accepted removal strikes it out
 unfoldable pub modelAfter : Model → Command → Profile → Model
-modelAfter m (command.Add tag) p = afterUnless (lineRefusal m (command.Add tag) p) m (with (record { tag = tag; profile = p }) m)
+modelAfter m (command.Add tag day) p =
+    afterUnless (lineRefusal m (command.Add tag day) p) m (with (record { tag = tag; profile = p; day = day }) m)
 modelAfter m (command.Remove tag) p = afterUnless (lineRefusal m (command.Remove tag) p) m (without tag m)
-modelAfter m (command.Within radius) p = m
-modelAfter m (command.Nearest k) p = m
+modelAfter m (command.Within radius firstDay) p = m
+modelAfter m (command.Nearest k firstDay) p = m
 modelAfter m command.Other p = m
 
 -- RULES 18.3, 18.4, a search's lines: the number of its entries and its distances, then each entry; or its refusal
@@ -51,12 +52,13 @@ searchLines letter (suc n) entries distances = replyLine letter (suc n ∷ [])
 
 -- RULES 18.3, 16.5, what the model prints for a line of this number: its refusal or 0, for a search its scan, and the counts of the reply
 unfoldable pub modelText : Model → ℕ → Command → Profile → Counts → List ℕ
-modelText m number (command.Add tag) p counts =
-    replyLine letterA (replyNumbers (lineRefusal m (command.Add tag) p) (counts .bucket ∷ counts .distances ∷ []))
+modelText m number (command.Add tag day) p counts =
+    replyLine letterA (replyNumbers (lineRefusal m (command.Add tag day) p) (counts .bucket ∷ counts .distances ∷ []))
 modelText m number (command.Remove tag) p counts = replyLine letterR (replyNumbers (lineRefusal m (command.Remove tag) p) (counts .distances ∷ []))
-modelText m number (command.Within radius) p counts =
-    searchLines letterW (lineRefusal m (command.Within radius) p) (modelRange m p radius) (counts .distances)
-modelText m number (command.Nearest k) p counts = searchLines letterN (lineRefusal m (command.Nearest k) p) (modelNearest m p k) (counts .distances)
+modelText m number (command.Within radius firstDay) p counts =
+    searchLines letterW (lineRefusal m (command.Within radius firstDay) p) (modelRange m p radius firstDay) (counts .distances)
+modelText m number (command.Nearest k firstDay) p counts =
+    searchLines letterN (lineRefusal m (command.Nearest k firstDay) p) (modelNearest m p k firstDay) (counts .distances)
 modelText m number command.Other p counts = otherText number
 
 -- some lines, numbered from `number` on, each on what those before it left; `counts 0` are the first line's, `counts 1` the next one's

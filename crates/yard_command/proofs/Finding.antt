@@ -27,22 +27,22 @@ fit-found area a = by (leb (length (a .entries)) (length area)) refl
     by true e = leb-true (length (a .entries)) (length area) e
     by false e = omega arith
 
-pub range-found : (t : Table) (area : List Entry) (query : Profile) (radius : ℕ) → rangeReply t area query radius .found ≤ length area
+pub range-found : (t : Table) (area : List Entry) (query : Profile) (radius firstDay : ℕ) → rangeReply t area query radius firstDay .found ≤ length area
 unfolding rangeReply rangeRefusal
-range-found t area query radius = by (readRefusal t) (validMeasures query)
+range-found t area query radius firstDay = by (readRefusal t) (validMeasures query)
   where
-    by : (n : ℕ) (b : Bool) → searchReply (orElse n (unless b badMeasure (fitRefusal area (rangeAnswer t query radius)))) (rangeAnswer t query radius) .found ≤ length area
-    by (suc n) b = none-found n (rangeAnswer t query radius) (length area)
-    by zero false = none-found 1 (rangeAnswer t query radius) (length area)
-    by zero true = fit-found area (rangeAnswer t query radius)
+    by : (n : ℕ) (b : Bool) → searchReply (orElse n (unless b badMeasure (fitRefusal area (rangeAnswer t query radius firstDay)))) (rangeAnswer t query radius firstDay) .found ≤ length area
+    by (suc n) b = none-found n (rangeAnswer t query radius firstDay) (length area)
+    by zero false = none-found 1 (rangeAnswer t query radius firstDay) (length area)
+    by zero true = fit-found area (rangeAnswer t query radius firstDay)
 
-pub nearest-found : (t : Table) (area : List Entry) (query : Profile) (k : ℕ) → nearestReply t area query k .found ≤ length area
+pub nearest-found : (t : Table) (area : List Entry) (query : Profile) (k firstDay : ℕ) → nearestReply t area query k firstDay .found ≤ length area
 unfolding nearestReply nearestRefusal
-nearest-found t area query k = by (readRefusal t) (validMeasures query) (eqb k 0)
+nearest-found t area query k firstDay = by (readRefusal t) (validMeasures query) (eqb k 0)
   where
     by : (n : ℕ) (b z : Bool)
-        → searchReply (orElse n (unless b badMeasure (when z noCount (fitRefusal area (nearestAnswer t query k))))) (nearestAnswer t query k) .found ≤ length area
-    by (suc n) b z = none-found n (nearestAnswer t query k) (length area)
-    by zero false z = none-found 1 (nearestAnswer t query k) (length area)
-    by zero true true = none-found 4 (nearestAnswer t query k) (length area)
-    by zero true false = fit-found area (nearestAnswer t query k)
+        → searchReply (orElse n (unless b badMeasure (when z noCount (fitRefusal area (nearestAnswer t query k firstDay))))) (nearestAnswer t query k firstDay) .found ≤ length area
+    by (suc n) b z = none-found n (nearestAnswer t query k firstDay) (length area)
+    by zero false z = none-found 1 (nearestAnswer t query k firstDay) (length area)
+    by zero true true = none-found 4 (nearestAnswer t query k firstDay) (length area)
+    by zero true false = fit-found area (nearestAnswer t query k firstDay)

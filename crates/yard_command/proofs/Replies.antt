@@ -15,7 +15,7 @@ use Rattle.yard_rules.specs.declared.Command.{Command}
 use Rattle.yard_rules.specs.declared.Command.the-variants as command
 use Rattle.text_rules.specs.Text.{space, partsIn, numeral}
 use Rattle.text_rules.specs.Fields.{isTag}
-use Rattle.yard_rules.specs.Line.{letterA, letterN, letterR, letterW, questionMark, field, isNumber, opens, hasProfile, commandIn, profileIn}
+use Rattle.yard_rules.specs.Line.{letterA, letterN, letterR, letterW, questionMark, field, isNumber, opens, hasProfile, dayOr, commandIn, profileIn}
 use Rattle.yard_rules.specs.Reply.{replyLine, addText, removeText, searchText}
 use Rattle.yard_rules.specs.Conversation.{areasAfter, textAfter, otherText}
 use Rattle.yard_reply.specs.Put.{Puts}
@@ -23,10 +23,10 @@ use Rattle.yard_command.specs.Lent.{lent}
 
 -- an add and the searches have a profile beside them
 abbrev pub needsProfile : Command → Bool
-needsProfile (command.Add tag) = true
+needsProfile (command.Add tag day) = true
 needsProfile (command.Remove tag) = false
-needsProfile (command.Within radius) = true
-needsProfile (command.Nearest k) = true
+needsProfile (command.Within radius firstDay) = true
+needsProfile (command.Nearest k firstDay) = true
 needsProfile command.Other = false
 
 unprofiled : (b t : Bool) (c : Command) (n : ℕ) → needsProfile (elim b [ true ↦ c | false ↦ elim t [ true ↦ command.Remove n | false ↦ command.Other ] ]) ≡ true → b ≡ true
@@ -40,11 +40,11 @@ profile-beside line h =
     let number = numeral 10 (field line 1) in
     unprofiled (hasProfile line) (eqb (partsIn space line) 2 && opens letterR isTag line)
     (elim (opens letterA isTag line) [
-      | true ↦ command.Add number
+      | true ↦ command.Add number (dayOr 1 line)
       | false ↦
           elim (opens letterW isNumber line) [
-            | true ↦ command.Within number
-            | false ↦ elim (opens letterN isNumber line) [ true ↦ command.Nearest number | false ↦ command.Other ]
+            | true ↦ command.Within number (dayOr 0 line)
+            | false ↦ elim (opens letterN isNumber line) [ true ↦ command.Nearest number (dayOr 0 line) | false ↦ command.Other ]
           ]
     ])
     number
@@ -61,25 +61,25 @@ module _ (t : Table) (w : List Row) (q : List Entry) (number : ℕ) (line : List
   answered-by c p t' w' q' e f h k =
       (h ∙ ap₂ (areasAfter (lent t w q)) e f, subst (Puts out after n) (ap₂ (textAfter (lent t w q) number) e f) k)
 
-  pub add-answered : (tag : ℕ) (p : Profile) (t' : Table) (w' : List Row) → command.Add tag ≡ commandIn line → p ≡ profileIn line
-      → t' ≡ tableAfterAdd t w tag p → w' ≡ workAfterAdd t w tag p → Puts out after n (addText (addReply t w tag p)) → Answers t' w' q
+  pub add-answered : (tag : ℕ) (p : Profile) (day : ℕ) (t' : Table) (w' : List Row) → command.Add tag day ≡ commandIn line → p ≡ profileIn line
+      → t' ≡ tableAfterAdd t w tag p day → w' ≡ workAfterAdd t w tag p day → Puts out after n (addText (addReply t w tag p day)) → Answers t' w' q
   unfolding areasAfter textAfter lent
-  add-answered tag p t' w' e f h i k = answered-by (command.Add tag) p t' w' q e f (ap₂ (λ (x : Table) (y : List Row). lent x y q) h i) k
+  add-answered tag p day t' w' e f h i k = answered-by (command.Add tag day) p t' w' q e f (ap₂ (λ (x : Table) (y : List Row). lent x y q) h i) k
 
   pub remove-answered : (tag : ℕ) (t' : Table) (w' : List Row) → command.Remove tag ≡ commandIn line
       → t' ≡ tableAfterRemove t w tag → w' ≡ workAfterRemove t w tag → Puts out after n (removeText (removeReply t w tag)) → Answers t' w' q
   unfolding areasAfter textAfter lent
   remove-answered tag t' w' e h i k = answered-by (command.Remove tag) (profileIn line) t' w' q e refl (ap₂ (λ (x : Table) (y : List Row). lent x y q) h i) k
 
-  pub within-answered : (radius : ℕ) (p : Profile) (q' : List Entry) → command.Within radius ≡ commandIn line → p ≡ profileIn line
-      → q' ≡ resultAfterRange t q p radius → Puts out after n (searchText letterW (rangeReply t q p radius) (resultAfterRange t q p radius)) → Answers t w q'
+  pub within-answered : (radius : ℕ) (p : Profile) (firstDay : ℕ) (q' : List Entry) → command.Within radius firstDay ≡ commandIn line → p ≡ profileIn line
+      → q' ≡ resultAfterRange t q p radius firstDay → Puts out after n (searchText letterW (rangeReply t q p radius firstDay) (resultAfterRange t q p radius firstDay)) → Answers t w q'
   unfolding areasAfter textAfter lent
-  within-answered radius p q' e f h k = answered-by (command.Within radius) p t w q' e f (ap (lent t w) h) k
+  within-answered radius p firstDay q' e f h k = answered-by (command.Within radius firstDay) p t w q' e f (ap (lent t w) h) k
 
-  pub nearest-answered : (k : ℕ) (p : Profile) (q' : List Entry) → command.Nearest k ≡ commandIn line → p ≡ profileIn line
-      → q' ≡ resultAfterNearest t q p k → Puts out after n (searchText letterN (nearestReply t q p k) (resultAfterNearest t q p k)) → Answers t w q'
+  pub nearest-answered : (k : ℕ) (p : Profile) (firstDay : ℕ) (q' : List Entry) → command.Nearest k firstDay ≡ commandIn line → p ≡ profileIn line
+      → q' ≡ resultAfterNearest t q p k firstDay → Puts out after n (searchText letterN (nearestReply t q p k firstDay) (resultAfterNearest t q p k firstDay)) → Answers t w q'
   unfolding areasAfter textAfter lent
-  nearest-answered k p q' e f h put = answered-by (command.Nearest k) p t w q' e f (ap (lent t w) h) put
+  nearest-answered k p firstDay q' e f h put = answered-by (command.Nearest k firstDay) p t w q' e f (ap (lent t w) h) put
 
   pub other-answered : command.Other ≡ commandIn line → Puts out after n (replyLine questionMark (number ∷ [])) → Answers t w q
   unfolding areasAfter textAfter otherText

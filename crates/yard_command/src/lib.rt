@@ -15,13 +15,20 @@ use metric_rules::Row;
 use search_rules::Entry;
 use yard_rules::Command;
 
-fn run_add(table: &mut [Row], work: &mut [Row], out: &mut [u8], tag: u64, profile: Profile) -> usize
+fn run_add(
+    table: &mut [Row],
+    work: &mut [Row],
+    out: &mut [u8],
+    tag: u64,
+    profile: Profile,
+    day: u32,
+) -> usize
     requires { ⌜ 65 ≤ length (now out) ⌝ }
-    ensures table { λ _. ⌜ now (table .exit) ≡ tableAfterAdd (now (table .entry)) (now (work .entry)) tag profile ⌝ }
-    ensures work { λ _. ⌜ now (work .exit) ≡ workAfterAdd (now (table .entry)) (now (work .entry)) tag profile ⌝ }
-    ensures text { λ r. ⌜ Puts (now (out .entry)) (now (out .exit)) r (addText (addReply (now (table .entry)) (now (work .entry)) tag profile)) ⌝ }
+    ensures table { λ _. ⌜ now (table .exit) ≡ tableAfterAdd (now (table .entry)) (now (work .entry)) tag profile day ⌝ }
+    ensures work { λ _. ⌜ now (work .exit) ≡ workAfterAdd (now (table .entry)) (now (work .entry)) tag profile day ⌝ }
+    ensures text { λ r. ⌜ Puts (now (out .entry)) (now (out .exit)) r (addText (addReply (now (table .entry)) (now (work .entry)) tag profile day)) ⌝ }
 {
-    yard_reply::put_added(out, table_add::add(table, work, tag, profile))
+    yard_reply::put_added(out, table_add::add(table, work, tag, profile, day))
 }
 
 fn run_remove(table: &mut [Row], work: &mut [Row], out: &mut [u8], tag: u64) -> usize
@@ -40,21 +47,29 @@ fn run_range(
     out: &mut [u8],
     query: Profile,
     radius: u32,
+    first_day: u32,
 ) -> usize
     requires { ⌜ 65 + 37 * length (now result) ≤ length (now out) ⌝ }
-    ensures result { λ _. ⌜ now (result .exit) ≡ resultAfterRange (now (table .entry)) (now (result .entry)) query radius ⌝ }
-    ensures text { λ r. ⌜ Puts (now (out .entry)) (now (out .exit)) r (searchText letterW (rangeReply (now (table .entry)) (now (result .entry)) query radius) (resultAfterRange (now (table .entry)) (now (result .entry)) query radius)) ⌝ }
+    ensures result { λ _. ⌜ now (result .exit) ≡ resultAfterRange (now (table .entry)) (now (result .entry)) query radius «first_day» ⌝ }
+    ensures text { λ r. ⌜ Puts (now (out .entry)) (now (out .exit)) r (searchText letterW (rangeReply (now (table .entry)) (now (result .entry)) query radius «first_day») (resultAfterRange (now (table .entry)) (now (result .entry)) query radius «first_day»)) ⌝ }
 {
-    let reply = table_range::range(table, result, query, radius);
+    let reply = table_range::range(table, result, query, radius, first_day);
     yard_reply::put_searched(out, b'W', reply, result)
 }
 
-fn run_nearest(table: &[Row], result: &mut [Entry], out: &mut [u8], query: Profile, k: u32) -> usize
+fn run_nearest(
+    table: &[Row],
+    result: &mut [Entry],
+    out: &mut [u8],
+    query: Profile,
+    k: u32,
+    first_day: u32,
+) -> usize
     requires { ⌜ 65 + 37 * length (now result) ≤ length (now out) ⌝ }
-    ensures result { λ _. ⌜ now (result .exit) ≡ resultAfterNearest (now (table .entry)) (now (result .entry)) query k ⌝ }
-    ensures text { λ r. ⌜ Puts (now (out .entry)) (now (out .exit)) r (searchText letterN (nearestReply (now (table .entry)) (now (result .entry)) query k) (resultAfterNearest (now (table .entry)) (now (result .entry)) query k)) ⌝ }
+    ensures result { λ _. ⌜ now (result .exit) ≡ resultAfterNearest (now (table .entry)) (now (result .entry)) query k «first_day» ⌝ }
+    ensures text { λ r. ⌜ Puts (now (out .entry)) (now (out .exit)) r (searchText letterN (nearestReply (now (table .entry)) (now (result .entry)) query k «first_day») (resultAfterNearest (now (table .entry)) (now (result .entry)) query k «first_day»)) ⌝ }
 {
-    let reply = table_nearest::nearest(table, result, query, k);
+    let reply = table_nearest::nearest(table, result, query, k, first_day);
     yard_reply::put_searched(out, b'N', reply, result)
 }
 
@@ -72,12 +87,21 @@ pub fn answer(
     ensures text { λ r. ⌜ Puts (now (out .entry)) (now (out .exit)) r (textAfter (lent (now (table .entry)) (now (work .entry)) (now (result .entry))) number (commandIn (now (line .entry))) (profileIn (now (line .entry)))) ⌝ }
 {
     match yard_line::command(line) {
-        Command::Add(tag) => run_add(table, work, out, tag, yard_line::profile(line)),
+        Command::Add(tag, day) => run_add(table, work, out, tag, yard_line::profile(line), day),
         Command::Remove(tag) => run_remove(table, work, out, tag),
-        Command::Within(radius) => {
-            run_range(table, result, out, yard_line::profile(line), radius)
+        Command::Within(radius, first_day) => {
+            run_range(
+                table,
+                result,
+                out,
+                yard_line::profile(line),
+                radius,
+                first_day,
+            )
         }
-        Command::Nearest(k) => run_nearest(table, result, out, yard_line::profile(line), k),
+        Command::Nearest(k, first_day) => {
+            run_nearest(table, result, out, yard_line::profile(line), k, first_day)
+        }
         Command::Other => yard_reply::put_one(out, b'?', number),
     }
 }

@@ -1,5 +1,5 @@
--- The fields of a line in turn: a number within 32 bits, a code, the fields behind the second one, and the command of a letter. Each law has the tests in the
--- order of the code.
+-- The fields of a line in turn: a number below a bound, a code, the fields behind the second one, the day behind these, and the command of a letter. Each law has
+-- the tests in the order of the code.
 use Prim.Native.Nat.{ℕ, suc, _+_, _-_, _^_, _≤_, _<_}
 use mathlib.Core.Path.{_≡_, refl, ap, ap₂, sym, subst, _∙_}
 use mathlib.Core.Bool.{Bool, true, false, _&&_, _||_, false≢true}
@@ -7,11 +7,11 @@ use mathlib.Core.List.{List, [], _∷_}
 use native.Mathlib.Omega.{arith}
 use lib.Dec.{leb, ltb, eqb}
 use lib.ListN.{length, getD, take, drop, length-take, length-drop, take-append-drop}
-use lib.Seq.{getD-drop}
-use borrow.Author.Tests.{eq-eqb, ne-eqb, eqb-true, leb-true, leb-false}
+use lib.Seq.{getD-drop, drop-drop}
+use borrow.Author.Tests.{eq-eqb, ne-eqb, eqb-true, eqb-false, leb-true, leb-false}
 use Rattle.lists.specs.Lists.{every, All}
 use Rattle.lists.proofs.Lists.{all-append, all-take, all-drop}
-use Rattle.lists.proofs.Tests.{every-all, all-every}
+use Rattle.lists.proofs.Tests.{and-second, every-all, all-every}
 use Rattle.text_rules.specs.Text.{space, point, minus, parted, partAt, partsIn, isDigit, isNumeral, numeral}
 use Rattle.text_rules.specs.Fields.{isTag, isMeasure, measureIn}
 use Rattle.text_rules.proofs.Digits.{length-passes, numeral-digits, numeral-longest, numeral-shortest}
@@ -19,17 +19,17 @@ use Rattle.text_read.specs.declared.MeasuresRead.{MeasuresRead}
 use Rattle.text_read.specs.Parts.{partsBehind, PartEnd}
 use Rattle.text_read.specs.Found.{fourMeasures, measuresOf, MeasuresAt}
 use Rattle.text_read.proofs.Finding.{first-part, next-part, none-behind, some-behind}
-use Rattle.text_read.proofs.Forms.{one-more, left-over}
+use Rattle.text_read.proofs.Forms.{one-more}
 use Rattle.yard_rules.specs.declared.Header.the-variants as header
 use Rattle.yard_rules.specs.declared.Command.{Command}
 use Rattle.yard_rules.specs.declared.Command.the-variants as command
-use Rattle.yard_rules.specs.Line.{onlyByte, isNumber, isCode, codeIn, hasProfile, profileIn, headerIn, opens, commandIn, letterA, letterN, letterR, letterW}
+use Rattle.yard_rules.specs.Line.{onlyByte, isBelow, isNumber, isDay, isCode, codeIn, hasDay, hasProfile, profileIn, headerIn, opens, dayOr, commandIn, letterA, letterN, letterR, letterW}
 use Rattle.yard_line.specs.declared.WordRead.{WordRead}
 use Rattle.yard_line.specs.declared.WordRead.the-variants.{Word, NoWord}
 use Rattle.yard_line.specs.declared.CodeRead.{CodeRead}
 use Rattle.yard_line.specs.declared.ProfileRead.{ProfileRead}
-use Rattle.yard_line.specs.Found.{wordIf, wordIn, CodeAt, areProfile, profileOf, ProfileAt, areWhole, commandBy, commandOf}
-use Rattle.yard_line.proofs.Lines.{header-by, profile-seven, command-by}
+use Rattle.yard_line.specs.Found.{wordIf, wordIn, CodeAt, areProfile, profileOf, ProfileAt, dayIn, usualDay, dayFor, commandBy, commandOf}
+use Rattle.yard_line.proofs.Lines.{header-by, ended, profile-seven, command-by}
 
 pub fails : (t : Bool) → (t ≡ true → ⊥) → t ≡ false
 fails true h = absurd (h refl)
@@ -42,11 +42,11 @@ and-false false = refl
 two-more : (n m : ℕ) → eqb (suc (suc n)) (suc (suc m)) ≡ eqb n m
 two-more n m = one-more (suc n) (suc m) ∙ one-more n m
 
--- a number within 32 bits
-module _ (text : List ℕ) where
-  pub word-by : {s t : Bool} {n : ℕ} → isNumeral 10 1 10 text ≡ s → ltb (numeral 10 text) (2 ^ 32) ≡ t → n ≡ numeral 10 text → wordIf (s && t) n ≡ wordIn text
-  unfolding wordIn isNumber
-  word-by e f g = λ i. wordIf (sym e i && sym f i) (g i)
+-- a number below a bound
+module _ (most bound : ℕ) (text : List ℕ) where
+  pub word-by : {s t : Bool} {n : ℕ} → isNumeral 10 1 most text ≡ s → n ≡ numeral 10 text → ltb n bound ≡ t → wordIf (s && t) n ≡ wordIn most bound text
+  unfolding wordIn isBelow
+  word-by {s} {t} {n} e f g = ap (λ u. wordIf (s && u) n) (sym g) ∙ (λ i. wordIf (sym e i && ltb (f i) bound) (f i))
 
 module _ (t : Bool) (n : ℕ) where
   abbrev AsWord : Bool → WordRead → Type 0
@@ -151,60 +151,135 @@ module _ (text : List ℕ) where
                 ∙ ap (λ t. elim t [ true ↦ 0 ∷ 0 ∷ [] | false ↦ numeral 16 (take 16 text) ∷ numeral 16 (drop 16 text) ∷ [] ]) (sym (ne-eqb (onlyByte text) minus no-minus));
           }
 
--- the fields behind the second
-pub fields-by : (ps : List (List ℕ)) {s t u : Bool} → eqb (length ps) 5 ≡ s → fourMeasures point ps ≡ t → isCode (getD ps 4 []) ≡ u → areProfile ps ≡ ((s && t) && u)
+-- the fields behind the second: a profile
+no-code : isCode [] ≡ false
+unfolding isCode onlyByte isNumeral
+no-code = refl
+
+fields-by : (ps : List (List ℕ)) {s t : Bool} → fourMeasures point ps ≡ s → isCode (getD ps 4 []) ≡ t → areProfile ps ≡ (s && t)
 unfolding areProfile
-fields-by ps e f g = λ i. (e i && f i) && g i
+fields-by ps e f = λ i. e i && f i
 
-module _ (ps : List (List ℕ)) where
-  no-profile-at : {r : ProfileRead} → r .found ≡ false → areProfile ps ≡ false → ProfileAt ps r
-  no-profile-at e f = record { found = e ∙ sym f; profile = λ g. absurd (false≢true (sym f ∙ g)) }
+module _ {line : List ℕ} {ps : List (List ℕ)} where
+  no-profile-at : {r : ProfileRead} → r .found ≡ false → areProfile ps ≡ false → ProfileAt line ps r
+  no-profile-at e f = record { found = e ∙ sym f; profile = λ g. absurd (false≢true (sym f ∙ g)); behind = λ g. absurd (false≢true (sym f ∙ g)) }
 
-  pub measures-wrong : {r : ProfileRead} → r .found ≡ false → fourMeasures point ps ≡ false → ProfileAt ps r
-  measures-wrong e f = no-profile-at e (fields-by ps refl f refl ∙ ap (λ t. t && isCode (getD ps 4 [])) (and-false (eqb (length ps) 5)))
+  pub measures-wrong : {r : ProfileRead} → r .found ≡ false → fourMeasures point ps ≡ false → ProfileAt line ps r
+  measures-wrong e f = no-profile-at e (fields-by ps f refl)
 
-  other-number : {r : ProfileRead} → r .found ≡ false → (length ps ≡ 5 → ⊥) → ProfileAt ps r
-  other-number e h = no-profile-at e (fields-by ps (ne-eqb (length ps) 5 h) refl refl)
+  module _ {m : MeasuresRead} (known : MeasuresAt space point line ps m) (four : fourMeasures point ps ≡ true) where
+    fifth : getD ps 4 [] ≡ getD (partsBehind space line (m .end)) 0 []
+    fifth = sym (getD-drop 4 ps 0 []) ∙ ap (λ qs. getD qs 0 []) (sym (known .behind four))
 
-module _ {line : List ℕ} {ps : List (List ℕ)} {m : MeasuresRead} (known : MeasuresAt space point line ps m) (four : fourMeasures point ps ≡ true) where
-  pub code-missing : {r : ProfileRead} → r .found ≡ false → length line ≤ m .end → ProfileAt ps r
-  code-missing e h = other-number ps e (λ f. omega (arith, f, left-over known four, ap length (none-behind space line (m .end) h)))
+    pub code-missing : {r : ProfileRead} → r .found ≡ false → length line ≤ m .end → ProfileAt line ps r
+    code-missing e h = no-profile-at e (fields-by ps four (ap isCode (fifth ∙ ap (λ qs. getD qs 0 []) (none-behind space line (m .end) h)) ∙ no-code))
 
-  module _ {last : ℕ} (within : m .end < length line) (p : PartEnd space line (m .end + 1) last) where
-    abbrev coded : List ℕ
-    coded = take (last - (m .end + 1)) (drop (m .end + 1) line)
+    module _ {last : ℕ} (within : m .end < length line) (p : PartEnd space line (m .end + 1) last) where
+      abbrev coded : List ℕ
+      coded = take (last - (m .end + 1)) (drop (m .end + 1) line)
 
-    behind : partsBehind space line (m .end) ≡ coded ∷ partsBehind space line last
-    behind = next-part space line (m .end) last within p
+      behind : partsBehind space line (m .end) ≡ coded ∷ partsBehind space line last
+      behind = next-part space line (m .end) last within p
 
-    pub more-behind : {r : ProfileRead} → r .found ≡ false → last < length line → ProfileAt ps r
-    more-behind e h = other-number ps e (λ f. omega (arith, f, left-over known four, ap length behind, some-behind space line last h))
+      pub code-here : {c : CodeRead} → CodeAt coded c
+          → ProfileAt line ps (record { found = c .found; profile = record { measures = m .measures; code = c .words }; end = last })
+      unfolding profileOf
+      code-here k =
+          let here : getD ps 4 [] ≡ coded = fifth ∙ ap (λ qs. getD qs 0 []) behind in
+          let same : areProfile ps ≡ isCode coded = fields-by ps four (ap isCode here) in
+          record {
+            found = k .found ∙ sym same;
+            profile = λ e. λ i. record { measures = known .values four i; code = (k .words (sym same ∙ e) ∙ ap codeIn (sym here)) i };
+            behind = λ e. ap (drop 1) (sym behind ∙ known .behind four) ∙ drop-drop 1 4 ps;
+          }
 
-    pub last-field : length line ≤ last → {c : CodeRead} → CodeAt coded c
-        → ProfileAt ps (record { found = c .found; profile = record { measures = m .measures; code = c .words } })
-    unfolding profileOf
-    last-field h k =
-        let five : length ps ≡ 5 = omega (arith, left-over known four, ap length behind, ap length (none-behind space line last h)) in
-        let fifth : getD ps 4 [] ≡ coded = sym (getD-drop 4 ps 0 []) ∙ ap (λ qs. getD qs 0 []) (sym (known .behind four) ∙ behind) in
-        let same : areProfile ps ≡ isCode coded = fields-by ps (eq-eqb (length ps) 5 five) four (ap isCode fifth) in
-        record {
-          found = k .found ∙ sym same;
-          profile = λ e. λ i. record { measures = known .values four i; code = (k .words (sym same ∙ e) ∙ ap codeIn (sym fifth)) i };
-        }
+-- the day of a line that has none
+pub usual-of-item : (letter : ℕ) → letter ≡ letterA → 1 ≡ usualDay letter
+unfolding usualDay
+usual-of-item letter e = ap (λ t. elim t [ true ↦ 1 | false ↦ 0 ]) (sym (eq-eqb letter letterA e))
+
+pub usual-of-search : (letter : ℕ) → (letter ≡ letterA → ⊥) → 0 ≡ usualDay letter
+unfolding usualDay
+usual-of-search letter h = ap (λ t. elim t [ true ↦ 1 | false ↦ 0 ]) (sym (ne-eqb letter letterA h))
+
+-- the fields behind a profile: its day
+module _ (line : List ℕ) (end usual : ℕ) where
+  pub no-day : length line ≤ end → Word usual ≡ dayIn usual (partsBehind space line end)
+  unfolding dayIn
+  no-day h = ap (dayIn usual) (sym (none-behind space line end h))
+
+  module _ {last : ℕ} (within : end < length line) (p : PartEnd space line (end + 1) last) where
+    pub more-than-a-day : last < length line → NoWord ≡ dayIn usual (partsBehind space line end)
+    unfolding dayIn
+    more-than-a-day h = several _ (partsBehind space line last) (some-behind space line last h) ∙ ap (dayIn usual) (sym (next-part space line end last within p))
+      where
+        several : (text : List ℕ) (qs : List (List ℕ)) → 0 < length qs → NoWord ≡ dayIn usual (text ∷ qs)
+        several text [] k = absurd (omega arith)
+        several text (q ∷ qs) k = refl
+
+    pub day-here : length line ≤ last → {r : WordRead} → r ≡ wordIn 5 (2 ^ 16) (take (last - (end + 1)) (drop (end + 1) line)) → r ≡ dayIn usual (partsBehind space line end)
+    unfolding dayIn
+    day-here h e =
+        e
+        ∙ ap (λ qs. dayIn usual (take (last - (end + 1)) (drop (end + 1) line) ∷ qs)) (sym (none-behind space line last h))
+        ∙ ap (dayIn usual) (sym (next-part space line end last within p))
+
+-- a line's day by all of its fields: seven, or eight with a day
+abbrev inEighth : List (List ℕ) → Bool
+inEighth qs = eqb (length qs) 8 && isDay (getD qs 7 [])
+
+abbrev dayBy : ℕ → List (List ℕ) → WordRead
+dayBy usual qs = wordIf (eqb (length qs) 7 || inEighth qs) (elim (inEighth qs) [ true ↦ numeral 10 (getD qs 7 []) | false ↦ usual ])
+
+module _ (usual : ℕ) (x y a b c d e : List ℕ) where
+  day-by : (qs : List (List ℕ)) → dayIn usual qs ≡ dayBy usual (x ∷ y ∷ a ∷ b ∷ c ∷ d ∷ e ∷ qs)
+  unfolding dayIn wordIn wordIf
+  day-by [] = refl
+  day-by (text ∷ []) = by (isDay text)
+    where
+      by : (t : Bool) → wordIf t (numeral 10 text) ≡ wordIf t (elim t [ true ↦ numeral 10 text | false ↦ usual ])
+      by true = refl
+      by false = refl
+  day-by (text ∷ next ∷ qs) =
+      let n : ℕ = suc (suc (suc (suc (suc (suc (suc (suc (suc (length qs))))))))) in
+      ap₂ (λ s t. wordIf (s || t && isDay text) (elim (t && isDay text) [ true ↦ numeral 10 text | false ↦ usual ]))
+      (sym (ne-eqb n 7 (λ k. omega arith))) (sym (ne-eqb n 8 (λ k. omega arith)))
 
 -- a line whose third field begins ps
 module _ (line : List ℕ) {x y : List ℕ} {ps : List (List ℕ)} (parts : parted space line ≡ x ∷ y ∷ ps) where
-  pub has-profile : hasProfile line ≡ areProfile ps
-  unfolding hasProfile areProfile fourMeasures partsIn partAt
+  has-profile : hasProfile line ≡ (ended line && areProfile ps)
+  unfolding hasProfile areProfile fourMeasures partAt
   has-profile =
-      ap (λ qs. ((((eqb (length qs) 7 && isMeasure point (getD qs 2 [])) && isMeasure point (getD qs 3 [])) && isMeasure point (getD qs 4 [])) && isMeasure point (getD qs 5 [])) && isCode (getD qs 6 [])) parts
-      ∙ by (eqb (suc (suc (length ps))) 7) (two-more (length ps) 5)
+      ap (λ qs. ((((ended line && isMeasure point (getD qs 2 [])) && isMeasure point (getD qs 3 [])) && isMeasure point (getD qs 4 [])) && isMeasure point (getD qs 5 [])) && isCode (getD qs 6 [])) parts
+      ∙ by (ended line)
     where
-      by : (t : Bool) → t ≡ eqb (length ps) 5
+      by : (t : Bool)
           → (((((t && isMeasure point (getD ps 0 [])) && isMeasure point (getD ps 1 [])) && isMeasure point (getD ps 2 [])) && isMeasure point (getD ps 3 [])) && isCode (getD ps 4 []))
-          ≡ ((eqb (length ps) 5 && (((isMeasure point (getD ps 0 []) && isMeasure point (getD ps 1 [])) && isMeasure point (getD ps 2 [])) && isMeasure point (getD ps 3 []))) && isCode (getD ps 4 []))
-      by true e = ap (λ t. (t && (((isMeasure point (getD ps 0 []) && isMeasure point (getD ps 1 [])) && isMeasure point (getD ps 2 [])) && isMeasure point (getD ps 3 []))) && isCode (getD ps 4 [])) e
-      by false e = ap (λ t. (t && (((isMeasure point (getD ps 0 []) && isMeasure point (getD ps 1 [])) && isMeasure point (getD ps 2 [])) && isMeasure point (getD ps 3 []))) && isCode (getD ps 4 [])) e
+          ≡ (t && ((((isMeasure point (getD ps 0 []) && isMeasure point (getD ps 1 [])) && isMeasure point (getD ps 2 [])) && isMeasure point (getD ps 3 [])) && isCode (getD ps 4 [])))
+      by true = refl
+      by false = refl
+
+  pub are-profile : hasProfile line ≡ true → areProfile ps ≡ true
+  are-profile e = and-second (ended line) (areProfile ps) (sym has-profile ∙ e)
+
+  -- behind a profile stands a day or nothing, or else the line is of another form
+  day-behind : (usual : ℕ) → areProfile ps ≡ true → dayIn usual (drop 5 ps) ≡ wordIf (hasProfile line) (dayOr usual line)
+  unfolding areProfile dayOr hasDay partsIn partAt
+  day-behind usual e =
+      go ps parts (and-second (fourMeasures point ps) (isCode (getD ps 4 [])) e)
+      ∙ ap (λ t. wordIf t (dayOr usual line)) (whole (ended line) ∙ ap (λ t. ended line && t) (sym e) ∙ sym has-profile)
+    where
+      whole : (t : Bool) → t ≡ (t && true)
+      whole true = refl
+      whole false = refl
+
+      go : (qs : List (List ℕ)) → parted space line ≡ x ∷ y ∷ qs → isCode (getD qs 4 []) ≡ true → dayIn usual (drop 5 qs) ≡ wordIf (ended line) (dayOr usual line)
+      go [] f g = absurd (false≢true (sym no-code ∙ g))
+      go (a ∷ []) f g = absurd (false≢true (sym no-code ∙ g))
+      go (a ∷ b ∷ []) f g = absurd (false≢true (sym no-code ∙ g))
+      go (a ∷ b ∷ c ∷ []) f g = absurd (false≢true (sym no-code ∙ g))
+      go (a ∷ b ∷ c ∷ d ∷ []) f g = absurd (false≢true (sym no-code ∙ g))
+      go (a ∷ b ∷ c ∷ d ∷ e ∷ qs) f g = day-by usual x y a b c d e qs ∙ ap (dayBy usual) (sym f)
 
   pub profile-in : profileOf ps ≡ profileIn line
   unfolding profileIn profileOf measuresOf partAt
@@ -231,20 +306,33 @@ module _ (line : List ℕ) {end : ℕ} (p : PartEnd space line 0 end) where
   two-fields {last} h q = first-part space line end p ∙ ap (λ ps. take end line ∷ ps) (next-part space line end last h q)
 
 -- what a letter asks for
-module _ (letter : ℕ) (line : List ℕ) (end : ℕ) where
-  pub nothing-more : letter ≡ letterR → leb (length line) end ≡ areWhole letter (partsBehind space line end)
-  unfolding areWhole
-  nothing-more e =
-      by (leb (length line) end) refl
-      ∙ ap (λ t. elim t [ true ↦ eqb (length (partsBehind space line end)) 0 | false ↦ areProfile (partsBehind space line end) ]) (sym (eq-eqb letter letterR e))
-    where
-      by : (t : Bool) → leb (length line) end ≡ t → t ≡ eqb (length (partsBehind space line end)) 0
-      by true f = sym (eq-eqb (length (partsBehind space line end)) 0 (ap length (none-behind space line end (leb-true (length line) end f))))
-      by false f = sym (ne-eqb (length (partsBehind space line end)) 0 (λ g. omega (arith, g, some-behind space line end (leb-false (length line) end f))))
+module _ (letter : ℕ) (ps : List (List ℕ)) where
+  for-by : {r p : Bool} → eqb letter letterR ≡ r → areProfile ps ≡ p
+      → elim r [ true ↦ wordIf (eqb (length ps) 0) 0 | false ↦ elim p [ true ↦ dayIn (usualDay letter) (drop 5 ps) | false ↦ NoWord ] ] ≡ dayFor letter ps
+  unfolding dayFor
+  for-by e f = λ i. elim (sym e i) [ true ↦ wordIf (eqb (length ps) 0) 0 | false ↦ elim (sym f i) [ true ↦ dayIn (usualDay letter) (drop 5 ps) | false ↦ NoWord ] ]
 
-  pub a-profile : (letter ≡ letterR → ⊥) → areProfile (partsBehind space line end) ≡ areWhole letter (partsBehind space line end)
-  unfolding areWhole
-  a-profile h = ap (λ t. elim t [ true ↦ eqb (length (partsBehind space line end)) 0 | false ↦ areProfile (partsBehind space line end) ]) (sym (ne-eqb letter letterR h))
+  module _ (no-removal : letter ≡ letterR → ⊥) where
+    pub no-profile-for : areProfile ps ≡ false → NoWord ≡ dayFor letter ps
+    no-profile-for e = for-by (ne-eqb letter letterR no-removal) e
+
+    pub profile-for : areProfile ps ≡ true → dayIn (usualDay letter) (drop 5 ps) ≡ dayFor letter ps
+    profile-for e = for-by (ne-eqb letter letterR no-removal) e
+
+module _ (letter : ℕ) (line : List ℕ) (end : ℕ) (removal : letter ≡ letterR) where
+  abbrev after : List (List ℕ)
+  after = partsBehind space line end
+
+  removal-by : {t : Bool} → eqb (length after) 0 ≡ t → wordIf t 0 ≡ dayFor letter after
+  removal-by e = ap (λ t. wordIf t 0) (sym e) ∙ for-by letter after (eq-eqb letter letterR removal) refl
+
+  pub nothing-more : length line ≤ end → Word 0 ≡ dayFor letter after
+  unfolding wordIf
+  nothing-more h = removal-by (eq-eqb (length after) 0 (ap length (none-behind space line end h)))
+
+  pub something-more : end < length line → NoWord ≡ dayFor letter after
+  unfolding wordIf
+  something-more h = removal-by (ne-eqb (length after) 0 (λ f. omega (arith, f, some-behind space line end h)))
 
 -- the command of a letter
 other-letter : (letter other : ℕ) (t : Bool) → (letter ≡ other → ⊥) → (eqb letter other && t) ≡ false
@@ -253,40 +341,40 @@ other-letter letter other t h = ap (λ s. s && t) (ne-eqb letter other h)
 this-letter : (letter other : ℕ) {s t : Bool} → letter ≡ other → t ≡ s → (eqb letter other && t) ≡ s
 this-letter letter other h e = ap₂ _&&_ (eq-eqb letter other h) e
 
-module _ (letter : ℕ) (text : List ℕ) where
+module _ (letter : ℕ) (text : List ℕ) (day : ℕ) where
   of-by : {a w n r : Bool} {v : ℕ} → (eqb letter letterA && isTag text) ≡ a → (eqb letter letterW && isNumber text) ≡ w → (eqb letter letterN && isNumber text) ≡ n
-      → (eqb letter letterR && isTag text) ≡ r → v ≡ numeral 10 text → commandBy a w n r v ≡ commandOf letter text
+      → (eqb letter letterR && isTag text) ≡ r → v ≡ numeral 10 text → commandBy a w n r v day ≡ commandOf letter text day
   unfolding commandOf
-  of-by e f g h k = λ i. commandBy (sym e i) (sym f i) (sym g i) (sym h i) (k i)
+  of-by e f g h k = λ i. commandBy (sym e i) (sym f i) (sym g i) (sym h i) (k i) day
 
   module _ {t : Bool} {v : ℕ} (value : v ≡ numeral 10 text) where
-    pub within-is : letter ≡ letterW → isNumber text ≡ t → commandBy false t false false v ≡ commandOf letter text
+    pub within-is : letter ≡ letterW → isNumber text ≡ t → commandBy false t false false v day ≡ commandOf letter text day
     within-is e f =
         of-by (other-letter letter letterA _ (λ k. omega arith)) (this-letter letter letterW e f) (other-letter letter letterN _ (λ k. omega arith))
         (other-letter letter letterR _ (λ k. omega arith)) value
 
-    pub nearest-is : letter ≡ letterN → isNumber text ≡ t → commandBy false false t false v ≡ commandOf letter text
+    pub nearest-is : letter ≡ letterN → isNumber text ≡ t → commandBy false false t false v day ≡ commandOf letter text day
     nearest-is e f =
         of-by (other-letter letter letterA _ (λ k. omega arith)) (other-letter letter letterW _ (λ k. omega arith)) (this-letter letter letterN e f)
         (other-letter letter letterR _ (λ k. omega arith)) value
 
-    pub add-is : letter ≡ letterA → isTag text ≡ t → commandBy t false false false v ≡ commandOf letter text
+    pub add-is : letter ≡ letterA → isTag text ≡ t → commandBy t false false false v day ≡ commandOf letter text day
     add-is e f =
         of-by (this-letter letter letterA e f) (other-letter letter letterW _ (λ k. omega arith)) (other-letter letter letterN _ (λ k. omega arith))
         (other-letter letter letterR _ (λ k. omega arith)) value
 
-    pub remove-is : letter ≡ letterR → isTag text ≡ t → commandBy false false false t v ≡ commandOf letter text
+    pub remove-is : letter ≡ letterR → isTag text ≡ t → commandBy false false false t v day ≡ commandOf letter text day
     remove-is e f =
         of-by (other-letter letter letterA _ (λ k. omega arith)) (other-letter letter letterW _ (λ k. omega arith)) (other-letter letter letterN _ (λ k. omega arith))
         (this-letter letter letterR e f) value
 
   module _ (no-within : letter ≡ letterW → ⊥) (no-nearest : letter ≡ letterN → ⊥) where
-    pub no-tag-is : isTag text ≡ false → command.Other ≡ commandOf letter text
+    pub no-tag-is : isTag text ≡ false → command.Other ≡ commandOf letter text day
     no-tag-is e =
         of-by (ap (λ t. eqb letter letterA && t) e ∙ and-false (eqb letter letterA)) (other-letter letter letterW _ no-within) (other-letter letter letterN _ no-nearest)
         (ap (λ t. eqb letter letterR && t) e ∙ and-false (eqb letter letterR)) refl
 
-    pub neither-is : (letter ≡ letterA → ⊥) → (letter ≡ letterR → ⊥) → command.Other ≡ commandOf letter text
+    pub neither-is : (letter ≡ letterA → ⊥) → (letter ≡ letterR → ⊥) → command.Other ≡ commandOf letter text day
     neither-is h k =
         of-by (other-letter letter letterA _ h) (other-letter letter letterW _ no-within) (other-letter letter letterN _ no-nearest) (other-letter letter letterR _ k) refl
 
@@ -341,33 +429,67 @@ module _ (line : List ℕ) where
     unfolding partsIn
     count = ap (λ qs. eqb (length qs) 2) parts ∙ two-more (length ps) 0
 
-    -- the grammar's choice, by the tests that the code makes
-    pub whole-is : (t : Bool) → areWhole b ps ≡ t → elim t [ true ↦ commandOf b y | false ↦ command.Other ] ≡ commandIn line
-    unfolding areWhole
-    whole-is t e = by (eqb b letterR) refl t e
+    not-opened : (l : ℕ) (form : List ℕ → Bool) → (b ≡ l → ⊥) → opens l form line ≡ false
+    not-opened l form h = opens-as l form ∙ other-letter b l (form y) h
+
+    -- what the code makes of the day that it finds
+    abbrev told : WordRead → Command
+    told (Word day) = commandOf b y day
+    told NoWord = command.Other
+
+    -- a removal has a tag and nothing behind it
+    removed : b ≡ letterR → (t : Bool) → eqb (length ps) 0 ≡ t → told (wordIf t 0) ≡ commandIn line
+    unfolding wordIf partsIn
+    removed f true e =
+        let two : partsIn space line ≡ 2 = ap length parts ∙ ap (λ n. suc (suc n)) (eqb-true (length ps) 0 e) in
+        sym (remove-is b y 0 refl f refl)
+        ∙ ap (λ v. commandBy false false false (isTag y) v 0) second
+        ∙ command-by line (fails (hasProfile line) (λ k. omega (arith, two, profile-seven line k))) refl refl refl (count ∙ e) (opens-as letterR isTag ∙ this-letter b letterR f refl)
+    removed f false e = by (hasProfile line) refl
       where
-        whole-by : {u : Bool} → eqb b letterR ≡ u → areWhole b ps ≡ elim u [ true ↦ eqb (length ps) 0 | false ↦ areProfile ps ]
-        whole-by f = ap (λ u. elim u [ true ↦ eqb (length ps) 0 | false ↦ areProfile ps ]) f
+        by : (p : Bool) → hasProfile line ≡ p → command.Other ≡ commandIn line
+        by true k =
+            command-by line k (not-opened letterA isTag (λ l. omega arith)) (not-opened letterW isNumber (λ l. omega arith)) (not-opened letterN isNumber (λ l. omega arith)) refl
+            refl
+        by false k = command-by line k refl refl refl (count ∙ e) refl
 
-        no : (l : ℕ) (form : List ℕ → Bool) → (b ≡ l → ⊥) → opens l form line ≡ false
-        no l form h = opens-as l form ∙ other-letter b l (form y) h
+    module _ (no-removal : b ≡ letterR → ⊥) where
+      day-for : dayFor b ps ≡ wordIf (hasProfile line) (dayOr (usualDay b) line)
+      unfolding wordIf
+      day-for = by (areProfile ps) refl
+        where
+          by : (t : Bool) → areProfile ps ≡ t → dayFor b ps ≡ wordIf (hasProfile line) (dayOr (usualDay b) line)
+          by true e = sym (profile-for b ps no-removal e) ∙ day-behind line parts (usualDay b) e
+          by false e =
+              sym (no-profile-for b ps no-removal e)
+              ∙ ap (λ t. wordIf t (dayOr (usualDay b) line)) (sym (has-profile line parts ∙ ap (λ t. ended line && t) e ∙ and-false (ended line)))
 
-        removal : b ≡ letterR → (t : Bool) → eqb (length ps) 0 ≡ t → elim t [ true ↦ commandOf b y | false ↦ command.Other ] ≡ commandIn line
-        removal f true e =
-            sym (remove-is b y refl f refl)
-            ∙ ap (λ v. commandBy false false false (isTag y) v) second
-            ∙ command-by line (has-profile line parts ∙ fields-by ps (ne-eqb (length ps) 5 (λ k. omega (arith, k, eqb-true (length ps) 0 e))) refl refl) refl refl refl (count ∙ e)
-            (opens-as letterR isTag ∙ this-letter b letterR f refl)
-        removal f false e = kept (hasProfile line) refl
-          where
-            kept : (p : Bool) → hasProfile line ≡ p → command.Other ≡ commandIn line
-            kept true k = command-by line k (no letterA isTag (λ l. omega arith)) (no letterW isNumber (λ l. omega arith)) (no letterN isNumber (λ l. omega arith)) refl refl
-            kept false k = command-by line k refl refl refl (count ∙ e) refl
+      -- an item's day, or the first day of a search
+      dated : hasProfile line ≡ true → commandOf b y (dayOr (usualDay b) line) ≡ commandIn line
+      unfolding usualDay
+      dated e = by (eqb b letterA) refl
+        where
+          by : (t : Bool) → eqb b letterA ≡ t → commandOf b y (dayOr (elim t [ true ↦ 1 | false ↦ 0 ]) line) ≡ commandIn line
+          by true f =
+              let add : b ≡ letterA = eqb-true b letterA f in
+              sym (add-is b y (dayOr 1 line) refl add refl)
+              ∙ ap (λ v. commandBy (isTag y) false false false v (dayOr 1 line)) second
+              ∙ command-by line e (opens-as letterA isTag ∙ this-letter b letterA add refl) (not-opened letterW isNumber (λ l. omega arith))
+              (not-opened letterN isNumber (λ l. omega arith)) refl refl
+          by false f =
+              sym (of-by b y (dayOr 0 line) (other-letter b letterA _ (eqb-false b letterA f)) refl refl (other-letter b letterR _ no-removal) refl)
+              ∙ ap (λ v. commandBy false (eqb b letterW && isNumber y) (eqb b letterN && isNumber y) false v (dayOr 0 line)) second
+              ∙ command-by line e (not-opened letterA isTag (eqb-false b letterA f)) (opens-as letterW isNumber) (opens-as letterN isNumber) refl refl
 
-        by : (u : Bool) → eqb b letterR ≡ u → (t : Bool) → areWhole b ps ≡ t → elim t [ true ↦ commandOf b y | false ↦ command.Other ] ≡ commandIn line
-        by true f t e = removal (eqb-true b letterR f) t (sym (whole-by f) ∙ e)
-        by false f true e =
-            sym (of-by b y refl refl refl (ap (λ u. u && isTag y) f) refl)
-            ∙ ap (λ v. commandBy (eqb b letterA && isTag y) (eqb b letterW && isNumber y) (eqb b letterN && isNumber y) false v) second
-            ∙ command-by line (has-profile line parts ∙ sym (whole-by f) ∙ e) (opens-as letterA isTag) (opens-as letterW isNumber) (opens-as letterN isNumber) refl refl
-        by false f false e = other-command (has-profile line parts ∙ sym (whole-by f) ∙ e) (opens-as letterR isTag ∙ ap (λ u. u && isTag y) f)
+      serves : (t : Bool) → hasProfile line ≡ t → told (wordIf t (dayOr (usualDay b) line)) ≡ commandIn line
+      unfolding wordIf
+      serves true e = dated e
+      serves false e = other-command e (not-opened letterR isTag no-removal)
+
+    -- the grammar's choice, by the tests that the code makes
+    pub whole-is : (r : WordRead) → r ≡ dayFor b ps → told r ≡ commandIn line
+    whole-is r e = by (eqb b letterR) refl
+      where
+        by : (t : Bool) → eqb b letterR ≡ t → told r ≡ commandIn line
+        by true f = ap told (e ∙ sym (for-by b ps f refl)) ∙ removed (eqb-true b letterR f) (eqb (length ps) 0) refl
+        by false f = ap told (e ∙ day-for (eqb-false b letterR f)) ∙ serves (eqb-false b letterR f) (hasProfile line) refl

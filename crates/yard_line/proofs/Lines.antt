@@ -1,8 +1,9 @@
 -- A line's definitions by the outcomes of their tests, in the order of the code: a test that was not made may have any outcome.
-use Prim.Native.Nat.{ℕ}
-use mathlib.Core.Path.{_≡_, sym}
-use mathlib.Core.Bool.{Bool, true, false, _&&_}
+use Prim.Native.Nat.{ℕ, _≤_}
+use mathlib.Core.Path.{_≡_, refl, ap, sym, _∙_}
+use mathlib.Core.Bool.{Bool, true, false, _&&_, _||_}
 use mathlib.Core.List.{List}
+use native.Mathlib.Omega.{arith}
 use lib.Dec.{eqb}
 use borrow.Author.Tests.{eqb-true}
 use Rattle.lists.proofs.Tests.{and-first, and-second}
@@ -11,7 +12,7 @@ use Rattle.yard_rules.specs.declared.Command.{Command}
 use Rattle.yard_rules.specs.declared.Command.the-variants as command
 use Rattle.text_rules.specs.Text.{space, point, partsIn, numeral}
 use Rattle.text_rules.specs.Fields.{isTag, isMeasure}
-use Rattle.yard_rules.specs.Line.{field, onlyByte, isNumber, isCode, hasProfile, headerIn, opens, commandIn, letterA, letterN, letterR, letterW}
+use Rattle.yard_rules.specs.Line.{field, onlyByte, isNumber, isDay, isCode, hasDay, hasProfile, headerIn, opens, dayOr, commandIn, letterA, letterN, letterR, letterW}
 
 module _ (line : List ℕ) where
   -- a letter and a field of a form
@@ -28,53 +29,68 @@ module _ (line : List ℕ) where
     | false ↦ header.Other
   ]
 
+  -- what stands behind a profile: nothing, or a day
+  abbrev pub ended : Bool
+  ended = eqb (partsIn space line) 7 || hasDay line
+
+  pub a-day : hasDay line ≡ true → (partsIn space line ≡ 8) × (isDay (field line 7) ≡ true)
+  unfolding hasDay
+  a-day e = (
+    eqb-true (partsIn space line) 8 (and-first (eqb (partsIn space line) 8) (isDay (field line 7)) e),
+    and-second (eqb (partsIn space line) 8) (isDay (field line 7)) e,
+  )
+
   -- what a profile's form says of each field
   module _ (e : hasProfile line ≡ true) where
-    abbrev sevens : Bool
-    sevens = eqb (partsIn space line) 7
-
     abbrev m : ℕ → Bool
     m n = isMeasure point (field line n)
 
-    to5 : ((((sevens && m 2) && m 3) && m 4) && m 5) ≡ true
+    to5 : ((((ended && m 2) && m 3) && m 4) && m 5) ≡ true
     unfolding hasProfile
-    to5 = and-first ((((sevens && m 2) && m 3) && m 4) && m 5) (isCode (field line 6)) e
+    to5 = and-first ((((ended && m 2) && m 3) && m 4) && m 5) (isCode (field line 6)) e
 
-    to4 : (((sevens && m 2) && m 3) && m 4) ≡ true
-    to4 = and-first (((sevens && m 2) && m 3) && m 4) (m 5) to5
+    to4 : (((ended && m 2) && m 3) && m 4) ≡ true
+    to4 = and-first (((ended && m 2) && m 3) && m 4) (m 5) to5
 
-    to3 : ((sevens && m 2) && m 3) ≡ true
-    to3 = and-first ((sevens && m 2) && m 3) (m 4) to4
+    to3 : ((ended && m 2) && m 3) ≡ true
+    to3 = and-first ((ended && m 2) && m 3) (m 4) to4
 
-    pub profile-seven : partsIn space line ≡ 7
-    profile-seven = eqb-true (partsIn space line) 7 (and-first sevens (m 2) (and-first (sevens && m 2) (m 3) to3))
+    pub profile-ended : ended ≡ true
+    profile-ended = and-first ended (m 2) (and-first (ended && m 2) (m 3) to3)
+
+    pub profile-seven : 7 ≤ partsIn space line
+    profile-seven = by (eqb (partsIn space line) 7) refl
+      where
+        by : (t : Bool) → eqb (partsIn space line) 7 ≡ t → 7 ≤ partsIn space line
+        by true f = omega (arith, eqb-true (partsIn space line) 7 f)
+        by false f = omega (arith, a-day (ap (λ t. t || hasDay line) (sym f) ∙ profile-ended) .0)
 
     pub measure-2 : isMeasure point (field line 2) ≡ true
-    measure-2 = and-second sevens (m 2) (and-first (sevens && m 2) (m 3) to3)
+    measure-2 = and-second ended (m 2) (and-first (ended && m 2) (m 3) to3)
 
     pub measure-3 : isMeasure point (field line 3) ≡ true
-    measure-3 = and-second (sevens && m 2) (m 3) to3
+    measure-3 = and-second (ended && m 2) (m 3) to3
 
     pub measure-4 : isMeasure point (field line 4) ≡ true
-    measure-4 = and-second ((sevens && m 2) && m 3) (m 4) to4
+    measure-4 = and-second ((ended && m 2) && m 3) (m 4) to4
 
     pub measure-5 : isMeasure point (field line 5) ≡ true
-    measure-5 = and-second (((sevens && m 2) && m 3) && m 4) (m 5) to5
+    measure-5 = and-second (((ended && m 2) && m 3) && m 4) (m 5) to5
 
     pub code-6 : isCode (field line 6) ≡ true
     unfolding hasProfile
-    code-6 = and-second ((((sevens && m 2) && m 3) && m 4) && m 5) (isCode (field line 6)) e
+    code-6 = and-second ((((ended && m 2) && m 3) && m 4) && m 5) (isCode (field line 6)) e
 
   abbrev pub chosen : Bool → Bool → Bool → Bool → Bool → Bool → Command
   chosen p a w n two r =
       elim p [
         | true ↦
             elim a [
-              | true ↦ command.Add (numeral 10 (field line 1))
+              | true ↦ command.Add (numeral 10 (field line 1)) (dayOr 1 line)
               | false ↦
                   elim w [
-                    | true ↦ command.Within (numeral 10 (field line 1))
-                    | false ↦ elim n [ true ↦ command.Nearest (numeral 10 (field line 1)) | false ↦ command.Other ]
+                    | true ↦ command.Within (numeral 10 (field line 1)) (dayOr 0 line)
+                    | false ↦ elim n [ true ↦ command.Nearest (numeral 10 (field line 1)) (dayOr 0 line) | false ↦ command.Other ]
                   ]
             ]
         | false ↦ elim (two && r) [ true ↦ command.Remove (numeral 10 (field line 1)) | false ↦ command.Other ]

@@ -1,12 +1,13 @@
--- A line of more than 90 bytes is neither a header nor a command: its fields' forms bound their lengths, and the fields with the spaces between
+-- A line of more than 96 bytes is neither a header nor a command: its fields' forms bound their lengths, and the fields with the spaces between
 -- them are the line.
 use Prim.Native.Nat.{ℕ, suc, _+_, _^_, _≤_, _<_}
 use mathlib.Core.Path.{_≡_, refl, ap, sym, _∙_}
-use mathlib.Core.Bool.{Bool, true, false, _&&_}
+use mathlib.Core.Bool.{Bool, true, false, _&&_, _||_}
 use mathlib.Core.List.{List, [], _∷_, map}
 use native.Mathlib.Omega.{arith}
 use lib.Dec.{ltb, eqb}
-use lib.ListN.{length, getD, length-drop}
+use lib.ListN.{length, drop, length-drop, drop-of-length-le}
+use lib.Seq.{drop-cons}
 use borrow.Author.Tests.{eqb-true, eqb-false}
 use Rattle.lists.specs.Lists.{total}
 use Rattle.lists.proofs.Tests.{and-first, and-second}
@@ -14,12 +15,12 @@ use Rattle.yard_rules.specs.declared.Header.the-variants as header
 use Rattle.yard_rules.specs.declared.Command.the-variants as command
 use Rattle.text_rules.specs.Text.{space, point, minus, onto, parted, partAt, partsIn, isNumeral, numeral}
 use Rattle.text_rules.specs.Fields.{isTag, isMeasure, unsigned, isNegative}
-use Rattle.yard_rules.specs.Line.{field, onlyByte, isNumber, isCode, hasProfile, headerIn, opens, commandIn, letterA, letterN, letterR, letterW}
+use Rattle.yard_rules.specs.Line.{field, onlyByte, isBelow, isNumber, isCode, hasDay, hasProfile, headerIn, opens, commandIn, letterA, letterN, letterR, letterW}
 use Rattle.text_rules.proofs.Parts.{SomeParts, parted-some, parted-separator, parted-byte}
 use Rattle.text_rules.proofs.Digits.{numeral-longest}
 use Rattle.text_rules.proofs.Signs.{unsigned-minus, unsigned-plain}
 use Rattle.yard_line.proofs.Fields.{fails, only-other, digits-code}
-use Rattle.yard_line.proofs.Lines.{opens-form, header-by, profile-seven, measure-2, measure-3, measure-4, measure-5, code-6, command-by}
+use Rattle.yard_line.proofs.Lines.{opens-form, header-by, a-day, profile-ended, profile-seven, measure-2, measure-3, measure-4, measure-5, code-6, command-by}
 
 -- the bytes of some parts, each with a separator
 spread : List (List ℕ) → ℕ
@@ -45,34 +46,25 @@ spread-parted separator (b ∷ bs) = by (eqb b separator) refl (spread-parted se
         ∙ more-parts (b ∷ p .first) (p .rest)
         ∙ omega (arith, sym (ap spread (p .same)) ∙ h, more-parts (p .first) (p .rest))
 
-two-parts : (ps : List (List ℕ)) → length ps ≡ 2 → spread ps ≡ 2 + length (getD ps 0 []) + length (getD ps 1 [])
-two-parts [] h = absurd (omega arith)
-two-parts (a ∷ []) h = absurd (omega arith)
-two-parts (a ∷ b ∷ []) h = omega (arith, more-parts a (b ∷ []), more-parts b [], no-parts)
-two-parts (a ∷ b ∷ c ∷ ps) h = absurd (omega arith)
+-- the bytes from part n on: those of part n, and those of the parts behind it
+module _ (separator : ℕ) (text : List ℕ) where
+  from : ℕ → ℕ
+  from n = spread (drop n (parted separator text))
 
-seven-parts : (ps : List (List ℕ)) → length ps ≡ 7
-    → spread ps
-    ≡ 4 + length (getD ps 0 []) + length (getD ps 1 []) + length (getD ps 2 []) + length (getD ps 3 []) + length (getD ps 4 []) + (3 + length (getD ps 5 []) + length (getD ps 6 []))
-seven-parts [] h = absurd (omega arith)
-seven-parts (a ∷ []) h = absurd (omega arith)
-seven-parts (a ∷ b ∷ []) h = absurd (omega arith)
-seven-parts (a ∷ b ∷ c ∷ []) h = absurd (omega arith)
-seven-parts (a ∷ b ∷ c ∷ d ∷ []) h = absurd (omega arith)
-seven-parts (a ∷ b ∷ c ∷ d ∷ e ∷ ps) h =
-    omega
-    (arith, more-parts a (b ∷ c ∷ d ∷ e ∷ ps), more-parts b (c ∷ d ∷ e ∷ ps), more-parts c (d ∷ e ∷ ps), more-parts d (e ∷ ps), more-parts e ps, two-parts ps (omega arith))
+  from-first : from 0 ≡ suc (length text)
+  unfolding from
+  from-first = spread-parted separator text
 
-module _ (line : List ℕ) where
-  line-of-two : partsIn space line ≡ 2 → suc (length line) ≡ 2 + length (field line 0) + length (field line 1)
-  unfolding partsIn partAt
-  line-of-two h = sym (spread-parted space line) ∙ two-parts (parted space line) h
+  from-part : (n : ℕ) → n < partsIn separator text → from n ≡ suc (length (partAt separator text n)) + from (suc n)
+  unfolding from partsIn partAt
+  from-part n h = ap spread (drop-cons (parted separator text) n [] h) ∙ more-parts (partAt separator text n) (drop (suc n) (parted separator text))
 
-  line-of-seven : partsIn space line ≡ 7
-      → suc (length line)
-      ≡ 4 + length (field line 0) + length (field line 1) + length (field line 2) + length (field line 3) + length (field line 4) + (3 + length (field line 5) + length (field line 6))
-  unfolding partsIn partAt
-  line-of-seven h = sym (spread-parted space line) ∙ seven-parts (parted space line) h
+  from-end : (n : ℕ) → partsIn separator text ≤ n → from n ≡ 0
+  unfolding from partsIn
+  from-end n h = ap spread (drop-of-length-le (parted separator text) {i = n} h) ∙ no-parts
+
+  of-two : partsIn separator text ≡ 2 → suc (length text) ≡ 2 + length (partAt separator text 0) + length (partAt separator text 1)
+  of-two h = omega (arith, from-first, from-part 0 (omega arith), from-part 1 (omega arith), from-end 2 (omega arith))
 
 -- the longest of each field
 only-short : (text : List ℕ) (b : ℕ) → 0 < b → onlyByte text ≡ b → length text ≤ 1
@@ -97,7 +89,7 @@ sign-short text = by (isNegative text) refl
     by false e = omega (arith, ap length (unsigned-plain text e))
 
 measure-short : (text : List ℕ) → isMeasure point text ≡ true → length text ≤ 9
-unfolding isMeasure partsIn partAt
+unfolding isMeasure
 measure-short text e =
     let size = unsigned text in
     let two = eqb (partsIn point size) 2 in
@@ -107,45 +99,66 @@ measure-short text e =
     omega (
       arith,
       sign-short text,
-      spread-parted point size,
-      two-parts (parted point size) (eqb-true (partsIn point size) 2 (and-first two whole first)),
+      of-two point size (eqb-true (partsIn point size) 2 (and-first two whole first)),
       numeral-longest 10 1 5 (partAt point size 0) (and-second two whole first),
       numeral-longest 10 2 2 (partAt point size 1) (and-second (two && whole) rest e),
     )
 
+below-short : (most bound : ℕ) (text : List ℕ) → isBelow most bound text ≡ true → length text ≤ most
+unfolding isBelow
+below-short most bound text e = numeral-longest 10 1 most text (and-first (isNumeral 10 1 most text) (ltb (numeral 10 text) bound) e)
+
 number-short : (text : List ℕ) → isNumber text ≡ true → length text ≤ 15
-unfolding isNumber
-number-short text e = omega (arith, numeral-longest 10 1 10 text (and-first (isNumeral 10 1 10 text) (ltb (numeral 10 text) (2 ^ 32)) e))
+number-short text e = omega (arith, below-short 10 (2 ^ 32) text e)
 
 tag-short : (text : List ℕ) → isTag text ≡ true → length text ≤ 15
 tag-short text e = numeral-longest 10 15 15 text e
 
-module _ (line : List ℕ) (long : 90 < length line) where
+module _ (line : List ℕ) (long : 96 < length line) where
   letter-short : (letter : ℕ) (form : List ℕ → Bool) → 0 < letter → opens letter form line ≡ true → length (field line 0) ≤ 1
   unfolding opens
   letter-short letter form h e =
       only-short (field line 0) letter h
       (eqb-true (onlyByte (field line 0)) letter (and-first (eqb (onlyByte (field line 0)) letter) (form (field line 1)) e))
 
-  seven-long : hasProfile line ≡ true → length (field line 0) ≤ 1 → length (field line 1) ≤ 15 → ⊥
-  seven-long p h k =
+  -- what stands behind a code: nothing, or a space and a day
+  day-short : hasProfile line ≡ true → from space line 7 ≤ 6
+  day-short p = by (eqb (partsIn space line) 7) refl
+    where
+      by : (t : Bool) → eqb (partsIn space line) 7 ≡ t → from space line 7 ≤ 6
+      by true e = omega (arith, from-end space line 7 (omega (arith, eqb-true (partsIn space line) 7 e)))
+      by false e =
+          let day = a-day line (ap (λ t. t || hasDay line) (sym e) ∙ profile-ended line p) in
+          omega (arith, from-part space line 7 (omega (arith, day .0)), from-end space line 8 (omega (arith, day .0)), below-short 5 (2 ^ 16) (field line 7) (day .1))
+
+  profile-long : hasProfile line ≡ true → length (field line 0) ≤ 1 → length (field line 1) ≤ 15 → ⊥
+  profile-long p h k =
+      let seven = profile-seven line p in
       omega (
         arith,
-        line-of-seven line (profile-seven line p),
+        from-first space line,
+        from-part space line 0 (omega arith),
+        from-part space line 1 (omega arith),
+        from-part space line 2 (omega arith),
+        from-part space line 3 (omega arith),
+        from-part space line 4 (omega arith),
+        from-part space line 5 (omega arith),
+        from-part space line 6 (omega arith),
         measure-short (field line 2) (measure-2 line p),
         measure-short (field line 3) (measure-3 line p),
         measure-short (field line 4) (measure-4 line p),
         measure-short (field line 5) (measure-5 line p),
         code-short (field line 6) (code-6 line p),
+        day-short p,
       )
 
   not-opened : (letter : ℕ) (form : List ℕ → Bool) → 0 < letter → ((text : List ℕ) → form text ≡ true → length text ≤ 15)
       → hasProfile line ≡ true → opens letter form line ≡ false
   not-opened letter form h short p =
       fails (opens letter form line)
-      (λ e. seven-long p (letter-short letter form h e) (short (field line 1) (opens-form line letter form e)))
+      (λ e. profile-long p (letter-short letter form h e) (short (field line 1) (opens-form line letter form e)))
 
-  -- RULES 18.7: a line may be of any length; one of more than 90 bytes is no command, and no header
+  -- RULES 18.7: a line may be of any length; one of more than 96 bytes is no command, and no header
   pub long-command : commandIn line ≡ command.Other
   long-command = by (hasProfile line) refl
     where
@@ -158,7 +171,7 @@ module _ (line : List ℕ) (long : 90 < length line) where
           (λ o.
           omega (
             arith,
-            line-of-two line (eqb-true (partsIn space line) 2 e),
+            of-two space line (eqb-true (partsIn space line) 2 e),
             letter-short letterR isTag (omega arith) o,
             tag-short (field line 1) (opens-form line letterR isTag o),
           ))))
@@ -187,7 +200,7 @@ module _ (line : List ℕ) (long : 90 < length line) where
           (λ g.
           omega (
             arith,
-            line-of-two line (eqb-true (partsIn space line) 2 e),
+            of-two space line (eqb-true (partsIn space line) 2 e),
             number-short (field line 0) f,
             number-short (field line 1) g,
           ))))

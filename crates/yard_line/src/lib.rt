@@ -1,24 +1,24 @@
-// What a line says: a header, a command, its profile. Every line of bytes is one of them or of another form. The fields are read in turn.
+// What a line says: a header, a command with its day, its profile. Every line of bytes is one of them or of another form. The fields are read in turn.
 ghost use mathlib.Core.Path.{_≡_};
 ghost use mathlib.Core.Bool.{true, false};
-ghost use Prim.Native.Nat.{_<_, _^_};
+ghost use Prim.Native.Nat.{_≤_, _<_, _^_};
 ghost use lib.ListN.{length};
 ghost use Rattle.text_rules.specs.Text.{space};
 ghost use Rattle.text_read.specs.Parts.{partsBehind};
 ghost use Rattle.yard_rules.specs.Line.{hasProfile, profileIn, headerIn, commandIn};
-ghost use Rattle.yard_line.specs.Found.{wordIn, CodeAt, ProfileAt, areWhole, commandOf};
+ghost use Rattle.yard_line.specs.Found.{wordIn, CodeAt, ProfileAt, usualDay, dayIn, dayFor, commandOf};
 use metric_rules::Profile;
 use text_read::NumberRead;
 use yard_rules::Command;
 use yard_rules::Header;
 
-// A number within 32 bits, or a field of another form.
+// A number below a bound, or a field of another form.
 pub enum WordRead {
     Word(u32),
     NoWord,
 }
 
-// Where no code or profile is found, the words or the profile are left free: all that holds of them is their type.
+// Where no code or profile is found, the words, the profile and its end are left free: all that holds of them is their type.
 pub struct CodeRead {
     pub found: bool,
     pub words: [u64; 2],
@@ -27,15 +27,23 @@ pub struct CodeRead {
 pub struct ProfileRead {
     pub found: bool,
     pub profile: Profile,
+    pub end: usize,
 }
 
-fn word(text: &[u8]) -> WordRead
-    ensures { λ r. ⌜ r ≡ wordIn (now (text .entry)) ⌝ }
+// A number has 32 bits, a day 16.
+const NUMBER_BOUND: u64 = 0x1_0000_0000;
+
+const DAY_BOUND: u64 = 0x1_0000;
+
+// The number of a text of one to `most` digits, below a bound.
+fn word(text: &[u8], most: usize, bound: u64) -> WordRead
+    requires { ⌜ (most ≤ 16) × (bound ≤ 2 ^ 32) ⌝ }
+    ensures { λ r. ⌜ r ≡ wordIn most bound (now (text .entry)) ⌝ }
 {
-    let NumberRead::Number(n) = text_read::number(text, 10, 1, 10) else {
+    let NumberRead::Number(n) = text_read::number(text, 10, 1, most) else {
         return WordRead::NoWord;
     };
-    if n < 0x1_0000_0000 {
+    if n < bound {
         return WordRead::Word(n as u32);
     }
     WordRead::NoWord
@@ -50,10 +58,10 @@ pub fn header(line: &[u8]) -> Header
     if line.len() <= end {
         return Header::Other;
     }
-    let WordRead::Word(order) = word(&line[..end]) else {
+    let WordRead::Word(order) = word(&line[..end], 10, NUMBER_BOUND) else {
         return Header::Other;
     };
-    let WordRead::Word(metric) = word(&line[end + 1..]) else {
+    let WordRead::Word(metric) = word(&line[end + 1..], 10, NUMBER_BOUND) else {
         return Header::Other;
     };
     Header::Of(order, metric)
@@ -102,12 +110,13 @@ fn no_profile() -> ProfileRead
             measures: [0; 4],
             code: [0; 2],
         },
+        end: 0,
     }
 }
 
-// The profile behind the field that ends at a place: four measures and a code, and nothing behind them.
+// The profile behind the field that ends at a place, four measures and a code, and where the code ends.
 fn profile_behind(line: &[u8], end: usize) -> ProfileRead
-    ensures { λ r. ⌜ ProfileAt (partsBehind space (now (line .entry)) end) r ⌝ }
+    ensures { λ r. ⌜ ProfileAt (now (line .entry)) (partsBehind space (now (line .entry)) end) r ⌝ }
 {
     let read = text_read::measures(line, end, b' ', b'.');
     if !read.found {
@@ -117,9 +126,6 @@ fn profile_behind(line: &[u8], end: usize) -> ProfileRead
         return no_profile();
     }
     let code_end = text_read::part_end(line, b' ', read.end + 1);
-    if code_end < line.len() {
-        return no_profile();
-    }
     let coded = code(&line[read.end + 1..code_end]);
     let measures = read.measures;
     let words = coded.words;
@@ -130,6 +136,7 @@ fn profile_behind(line: &[u8], end: usize) -> ProfileRead
     ProfileRead {
         found: coded.found,
         profile,
+        end: code_end,
     }
 }
 
@@ -144,38 +151,65 @@ pub fn profile(line: &[u8]) -> Profile
     profile
 }
 
-// Whether behind the second field stands what the letter asks for.
-fn is_whole(line: &[u8], letter: u8, end: usize) -> bool
-    ensures { λ r. ⌜ r ≡ areWhole letter (partsBehind space (now (line .entry)) end) ⌝ }
+// The day behind a code that ends at a place: the usual one where nothing stands there, and none where it is not one day and nothing more.
+fn day_behind(line: &[u8], code_end: usize, usual: u32) -> WordRead
+    ensures { λ r. ⌜ r ≡ dayIn usual (partsBehind space (now (line .entry)) «code_end») ⌝ }
 {
-    if letter == b'R' {
-        return line.len() <= end;
+    if line.len() <= code_end {
+        return WordRead::Word(usual);
     }
-    let read = profile_behind(line, end);
-    read.found
+    let day_end = text_read::part_end(line, b' ', code_end + 1);
+    if day_end < line.len() {
+        return WordRead::NoWord;
+    }
+    word(&line[code_end + 1..day_end], 5, DAY_BOUND)
 }
 
-// The command of a letter, by the field behind it.
-fn command_of(letter: u8, text: &[u8]) -> Command
-    ensures { λ r. ⌜ r ≡ commandOf letter (now (text .entry)) ⌝ }
+// The day of a line that has none: an item's, and the first day of a search.
+fn usual_day(letter: u8) -> u32
+    ensures { λ r. ⌜ r ≡ usualDay letter ⌝ }
+{
+    if letter == b'A' { 1 } else { 0 }
+}
+
+// The day of a line behind whose second field stands what the letter asks for; a removal's is 0.
+fn day_for(line: &[u8], letter: u8, end: usize) -> WordRead
+    ensures { λ r. ⌜ r ≡ dayFor letter (partsBehind space (now (line .entry)) end) ⌝ }
+{
+    if letter == b'R' {
+        if line.len() <= end {
+            return WordRead::Word(0);
+        }
+        return WordRead::NoWord;
+    }
+    let read = profile_behind(line, end);
+    if !read.found {
+        return WordRead::NoWord;
+    }
+    day_behind(line, read.end, usual_day(letter))
+}
+
+// The command of a letter, by the field behind it and the line's day.
+fn command_of(letter: u8, text: &[u8], day: u32) -> Command
+    ensures { λ r. ⌜ r ≡ commandOf letter (now (text .entry)) day ⌝ }
 {
     if letter == b'W' {
-        let WordRead::Word(radius) = word(text) else {
+        let WordRead::Word(radius) = word(text, 10, NUMBER_BOUND) else {
             return Command::Other;
         };
-        return Command::Within(radius);
+        return Command::Within(radius, day);
     }
     if letter == b'N' {
-        let WordRead::Word(k) = word(text) else {
+        let WordRead::Word(k) = word(text, 10, NUMBER_BOUND) else {
             return Command::Other;
         };
-        return Command::Nearest(k);
+        return Command::Nearest(k, day);
     }
     let NumberRead::Number(tag) = text_read::number(text, 10, 15, 15) else {
         return Command::Other;
     };
     if letter == b'A' {
-        return Command::Add(tag);
+        return Command::Add(tag, day);
     }
     if letter == b'R' {
         return Command::Remove(tag);
@@ -197,8 +231,8 @@ pub fn command(line: &[u8]) -> Command
     }
     let second_end = text_read::part_end(line, b' ', first_end + 1);
     let letter = line[0];
-    if !is_whole(line, letter, second_end) {
+    let WordRead::Word(day) = day_for(line, letter, second_end) else {
         return Command::Other;
-    }
-    command_of(letter, &line[first_end + 1..second_end])
+    };
+    command_of(letter, &line[first_end + 1..second_end], day)
 }

@@ -2,7 +2,7 @@
 use Prim.Native.Nat.{ℕ}
 use mathlib.Core.List.{List, flatten}
 use Rattle.lists.specs.Lists.{countFrom, total, last, select, every}
-use Rattle.metric_rules.specs.Row.{rowWidth, tagAt, measuresAt, codeAt, thresholdAt, markAt, zeroRow, word, wide, words, tagOf, profileOf, thresholdOf, markOf, isLive, measure, codeWord, rowOf, withThreshold, withMark}
+use Rattle.metric_rules.specs.Row.{rowWidth, tagAt, measuresAt, codeAt, thresholdAt, markAt, dayAt, zeroRow, word, wide, words, tagOf, profileOf, thresholdOf, markOf, dayOf, isLive, measure, codeWord, rowOf, mayReport, withThreshold, withMark}
 use Rattle.metric_rules.specs.Validity.{nationals, countryOf, nationalOf, lastCountry, lastNational, validTag, measureLimit, validMeasure, validMeasures}
 use Rattle.metric_rules.specs.Distance.{mostDistance, saturated, gap, weight, weighted, measureDistance, differing, codeDistance, largest, worstDistance, distanceBy, distance, metricAt, weightsAt, weightsOf, spaceOf, weightsOne, lastMetric, validMetric, mostWeight, validWeights}
 use Rattle.tree_rules.specs.Sorting.{keyLe, insertBy, sortBy}
@@ -20,14 +20,14 @@ use Rattle.table_rules.specs.Search.{bucketsDown, rangeMet, rangeAnswer, neares
 use Rattle.table_rules.specs.LookUp.{placeFrom, placeIn, find, isLiveTag}
 use Rattle.text_rules.specs.Text.{onto, parted, partAt, partsIn, digitOf, isDigit, isNumeral, numeralAfter, numeral, digits, widthWithin, width, decimal}
 use Rattle.text_rules.specs.Fields.{isNegative, unsigned, isMeasure, hundredths, measureIn}
-use Rattle.yard_rules.specs.Line.{isNumber, onlyByte, isCode, codeIn, hasProfile, profileIn, headerIn, opens, commandIn}
+use Rattle.yard_rules.specs.Line.{isBelow, onlyByte, isCode, codeIn, hasDay, hasProfile, profileIn, headerIn, opens, dayOr, commandIn}
 use Rattle.yard_rules.specs.Reply.{spaced, replyLine, replyNumbers, addText, removeText, entryText, entriesText, searchText}
 use Rattle.yard_rules.specs.Conversation.{otherText, mostYardOrder, headerRefusal, headerOutcome, areasAfter, textAfter, commandOutcome, lineOutcome, after, printed, lastKept, firstKept, linesIn, conversation, Areas}
 
 unfoldable pub computed : Areas → List ℕ → List ℕ
 unfolding
-    flatten countFrom total last select every rowWidth tagAt measuresAt codeAt thresholdAt markAt zeroRow word wide words tagOf profileOf thresholdOf
-    markOf measure codeWord rowOf withThreshold withMark nationals countryOf nationalOf lastCountry lastNational validTag measureLimit
+    flatten countFrom total last select every rowWidth tagAt measuresAt codeAt thresholdAt markAt dayAt zeroRow word wide words tagOf profileOf thresholdOf
+    markOf dayOf measure codeWord rowOf mayReport withThreshold withMark nationals countryOf nationalOf lastCountry lastNational validTag measureLimit
     validMeasure validMeasures mostDistance saturated gap weight weighted measureDistance differing codeDistance largest worstDistance distanceBy distance metricAt weightsAt weightsOf spaceOf
     weightsOne lastMetric validMetric mostWeight validWeights keyLe insertBy sortBy leftSize costWithin cost rankedFrom tagKey placed fromPivot nearKey lastDistance split node
     layoutWithin layout entry entryDistance entryKey ordered isLive entersLeft entersRight nothing both toQuery entryOf isHit visited
@@ -38,7 +38,7 @@ unfolding
     workAfterAdd removeRefusal marked united rebuiltLower shrunk removed removeReply tableAfterRemove workAfterRemove placeFrom placeIn find
     isLiveTag bucketsDown rangeMet rangeAnswer nearestTally nearestAnswer fitRefusal rangeRefusal nearestRefusal searchReply zeroEntry
     resultAfter rangeReply resultAfterRange nearestReply resultAfterNearest onto parted partAt partsIn digitOf isDigit isNumeral numeralAfter
-    numeral digits widthWithin width decimal isNumber onlyByte isCode codeIn isNegative unsigned isMeasure hundredths measureIn
-    hasProfile profileIn headerIn opens commandIn spaced replyLine replyNumbers addText removeText entryText entriesText searchText otherText
+    numeral digits widthWithin width decimal isBelow onlyByte isCode codeIn isNegative unsigned isMeasure hundredths measureIn
+    hasDay hasProfile profileIn headerIn opens dayOr commandIn spaced replyLine replyNumbers addText removeText entryText entriesText searchText otherText
     mostYardOrder headerRefusal headerOutcome areasAfter textAfter commandOutcome lineOutcome after printed lastKept firstKept linesIn conversation
 computed a input = conversation a input

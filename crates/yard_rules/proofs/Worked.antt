@@ -1,5 +1,5 @@
 -- Worked by hand: a conversation in which `?` lines count, a minus covers all digits, the entries found and the distances differ and the last
--- line has no line feed; metric 2; the last national; and single fields of and out of form.
+-- line has no line feed; metric 2; the last national; days; and single fields of and out of form.
 use Prim.Native.Nat.{ℕ}
 use mathlib.Core.Path.{_≡_, refl}
 use mathlib.Core.Bool.{Bool, true, false}
@@ -7,7 +7,7 @@ use mathlib.Core.List.{List, [], _∷_}
 use Rattle.lists.specs.Lists.{every}
 use Rattle.text_rules.specs.Text.{point, onto, parted, partAt, partsIn, digitOf, isDigit, isNumeral, numeralAfter, numeral}
 use Rattle.text_rules.specs.Fields.{isNegative, unsigned, isMeasure}
-use Rattle.yard_rules.specs.Line.{isNumber, onlyByte, isCode, codeIn}
+use Rattle.yard_rules.specs.Line.{isBelow, isNumber, isDay, onlyByte, isCode, codeIn}
 use Rattle.yard_rules.proofs.Computing.{computed}
 use Rattle.yard_rules.proofs.Example.{scratch}
 
@@ -145,10 +145,82 @@ edges-worked :
 unfolding computed scratch edges
 edges-worked = refl
 
--- -.5 and 123456.00 are no measures, 00000.00 is; a code of upper-case digits is none; 4294967295 is a number and 4294967296 is not
+-- days: without one an item is of day 1, and a search takes every day; 0 is of the form and refused by 33; 65536, six digits, a day on an R line and two days
+-- make lines of another form
+dated : List ℕ
+dated =
+    -- 1 0
+    49 ∷ 32 ∷ 48 ∷ 10 ∷
+    -- A 036000000000001 0.00 0.00 0.00 0.00 - 0
+    65 ∷ 32 ∷ 48 ∷ 51 ∷ 54 ∷ 48 ∷ 48 ∷ 48 ∷ 48 ∷ 48 ∷ 48 ∷ 48 ∷ 48 ∷ 48 ∷ 48 ∷ 48 ∷ 49 ∷ 32 ∷ 48 ∷ 46 ∷ 48 ∷ 48 ∷ 32 ∷ 48 ∷ 46 ∷ 48 ∷ 48 ∷ 32 ∷ 48 ∷ 46 ∷ 48 ∷ 48 ∷ 32 ∷ 48 ∷ 46 ∷ 48 ∷ 48 ∷ 32 ∷ 45 ∷ 32 ∷ 48 ∷ 10 ∷
+    -- A 036000000000001 0.00 0.00 0.00 0.00 -
+    65 ∷ 32 ∷ 48 ∷ 51 ∷ 54 ∷ 48 ∷ 48 ∷ 48 ∷ 48 ∷ 48 ∷ 48 ∷ 48 ∷ 48 ∷ 48 ∷ 48 ∷ 48 ∷ 49 ∷ 32 ∷ 48 ∷ 46 ∷ 48 ∷ 48 ∷ 32 ∷ 48 ∷ 46 ∷ 48 ∷ 48 ∷ 32 ∷ 48 ∷ 46 ∷ 48 ∷ 48 ∷ 32 ∷ 48 ∷ 46 ∷ 48 ∷ 48 ∷ 32 ∷ 45 ∷ 10 ∷
+    -- A 036000000000002 0.00 0.00 0.00 0.00 - 65535
+    65 ∷ 32 ∷ 48 ∷ 51 ∷ 54 ∷ 48 ∷ 48 ∷ 48 ∷ 48 ∷ 48 ∷ 48 ∷ 48 ∷ 48 ∷ 48 ∷ 48 ∷ 48 ∷ 50 ∷ 32 ∷ 48 ∷ 46 ∷ 48 ∷ 48 ∷ 32 ∷ 48 ∷ 46 ∷ 48 ∷ 48 ∷ 32 ∷ 48 ∷ 46 ∷ 48 ∷ 48 ∷ 32 ∷ 48 ∷ 46 ∷ 48 ∷ 48 ∷ 32 ∷ 45 ∷ 32 ∷ 54 ∷ 53 ∷ 53 ∷ 51 ∷ 53 ∷ 10 ∷
+    -- A 036000000000003 0.00 0.00 0.00 0.00 - 65536
+    65 ∷ 32 ∷ 48 ∷ 51 ∷ 54 ∷ 48 ∷ 48 ∷ 48 ∷ 48 ∷ 48 ∷ 48 ∷ 48 ∷ 48 ∷ 48 ∷ 48 ∷ 48 ∷ 51 ∷ 32 ∷ 48 ∷ 46 ∷ 48 ∷ 48 ∷ 32 ∷ 48 ∷ 46 ∷ 48 ∷ 48 ∷ 32 ∷ 48 ∷ 46 ∷ 48 ∷ 48 ∷ 32 ∷ 48 ∷ 46 ∷ 48 ∷ 48 ∷ 32 ∷ 45 ∷ 32 ∷ 54 ∷ 53 ∷ 53 ∷ 51 ∷ 54 ∷ 10 ∷
+    -- A 036000000000003 0.00 0.00 0.00 0.00 - 000001
+    65 ∷ 32 ∷ 48 ∷ 51 ∷ 54 ∷ 48 ∷ 48 ∷ 48 ∷ 48 ∷ 48 ∷ 48 ∷ 48 ∷ 48 ∷ 48 ∷ 48 ∷ 48 ∷ 51 ∷ 32 ∷ 48 ∷ 46 ∷ 48 ∷ 48 ∷ 32 ∷ 48 ∷ 46 ∷ 48 ∷ 48 ∷ 32 ∷ 48 ∷ 46 ∷ 48 ∷ 48 ∷ 32 ∷ 48 ∷ 46 ∷ 48 ∷ 48 ∷ 32 ∷ 45 ∷ 32 ∷ 48 ∷ 48 ∷ 48 ∷ 48 ∷ 48 ∷ 49 ∷ 10 ∷
+    -- R 036000000000001 1
+    82 ∷ 32 ∷ 48 ∷ 51 ∷ 54 ∷ 48 ∷ 48 ∷ 48 ∷ 48 ∷ 48 ∷ 48 ∷ 48 ∷ 48 ∷ 48 ∷ 48 ∷ 48 ∷ 49 ∷ 32 ∷ 49 ∷ 10 ∷
+    -- W 0 0.00 0.00 0.00 0.00 -
+    87 ∷ 32 ∷ 48 ∷ 32 ∷ 48 ∷ 46 ∷ 48 ∷ 48 ∷ 32 ∷ 48 ∷ 46 ∷ 48 ∷ 48 ∷ 32 ∷ 48 ∷ 46 ∷ 48 ∷ 48 ∷ 32 ∷ 48 ∷ 46 ∷ 48 ∷ 48 ∷ 32 ∷ 45 ∷ 10 ∷
+    -- W 0 0.00 0.00 0.00 0.00 - 2
+    87 ∷ 32 ∷ 48 ∷ 32 ∷ 48 ∷ 46 ∷ 48 ∷ 48 ∷ 32 ∷ 48 ∷ 46 ∷ 48 ∷ 48 ∷ 32 ∷ 48 ∷ 46 ∷ 48 ∷ 48 ∷ 32 ∷ 48 ∷ 46 ∷ 48 ∷ 48 ∷ 32 ∷ 45 ∷ 32 ∷ 50 ∷ 10 ∷
+    -- N 2 0.00 0.00 0.00 0.00 - 0
+    78 ∷ 32 ∷ 50 ∷ 32 ∷ 48 ∷ 46 ∷ 48 ∷ 48 ∷ 32 ∷ 48 ∷ 46 ∷ 48 ∷ 48 ∷ 32 ∷ 48 ∷ 46 ∷ 48 ∷ 48 ∷ 32 ∷ 48 ∷ 46 ∷ 48 ∷ 48 ∷ 32 ∷ 45 ∷ 32 ∷ 48 ∷ 10 ∷
+    -- N 2 0.00 0.00 0.00 0.00 - 65535
+    78 ∷ 32 ∷ 50 ∷ 32 ∷ 48 ∷ 46 ∷ 48 ∷ 48 ∷ 32 ∷ 48 ∷ 46 ∷ 48 ∷ 48 ∷ 32 ∷ 48 ∷ 46 ∷ 48 ∷ 48 ∷ 32 ∷ 48 ∷ 46 ∷ 48 ∷ 48 ∷ 32 ∷ 45 ∷ 32 ∷ 54 ∷ 53 ∷ 53 ∷ 51 ∷ 53 ∷ 10 ∷
+    -- N 2 0.00 0.00 0.00 0.00 - 1 1
+    78 ∷ 32 ∷ 50 ∷ 32 ∷ 48 ∷ 46 ∷ 48 ∷ 48 ∷ 32 ∷ 48 ∷ 46 ∷ 48 ∷ 48 ∷ 32 ∷ 48 ∷ 46 ∷ 48 ∷ 48 ∷ 32 ∷ 48 ∷ 46 ∷ 48 ∷ 48 ∷ 32 ∷ 45 ∷ 32 ∷ 49 ∷ 32 ∷ 49 ∷ 10 ∷
+    []
+
+dated-worked :
+    computed scratch dated
+    ≡
+    -- A 33
+    65 ∷ 32 ∷ 51 ∷ 51 ∷ 10 ∷
+    -- A 0 0 0
+    65 ∷ 32 ∷ 48 ∷ 32 ∷ 48 ∷ 32 ∷ 48 ∷ 10 ∷
+    -- A 0 1 1
+    65 ∷ 32 ∷ 48 ∷ 32 ∷ 49 ∷ 32 ∷ 49 ∷ 10 ∷
+    -- ? 5
+    63 ∷ 32 ∷ 53 ∷ 10 ∷
+    -- ? 6
+    63 ∷ 32 ∷ 54 ∷ 10 ∷
+    -- ? 7
+    63 ∷ 32 ∷ 55 ∷ 10 ∷
+    -- W 0 2 2
+    87 ∷ 32 ∷ 48 ∷ 32 ∷ 50 ∷ 32 ∷ 50 ∷ 10 ∷
+    -- 036000000000001 0
+    48 ∷ 51 ∷ 54 ∷ 48 ∷ 48 ∷ 48 ∷ 48 ∷ 48 ∷ 48 ∷ 48 ∷ 48 ∷ 48 ∷ 48 ∷ 48 ∷ 49 ∷ 32 ∷ 48 ∷ 10 ∷
+    -- 036000000000002 0
+    48 ∷ 51 ∷ 54 ∷ 48 ∷ 48 ∷ 48 ∷ 48 ∷ 48 ∷ 48 ∷ 48 ∷ 48 ∷ 48 ∷ 48 ∷ 48 ∷ 50 ∷ 32 ∷ 48 ∷ 10 ∷
+    -- W 0 1 2
+    87 ∷ 32 ∷ 48 ∷ 32 ∷ 49 ∷ 32 ∷ 50 ∷ 10 ∷
+    -- 036000000000002 0
+    48 ∷ 51 ∷ 54 ∷ 48 ∷ 48 ∷ 48 ∷ 48 ∷ 48 ∷ 48 ∷ 48 ∷ 48 ∷ 48 ∷ 48 ∷ 48 ∷ 50 ∷ 32 ∷ 48 ∷ 10 ∷
+    -- N 0 2 2
+    78 ∷ 32 ∷ 48 ∷ 32 ∷ 50 ∷ 32 ∷ 50 ∷ 10 ∷
+    -- 036000000000001 0
+    48 ∷ 51 ∷ 54 ∷ 48 ∷ 48 ∷ 48 ∷ 48 ∷ 48 ∷ 48 ∷ 48 ∷ 48 ∷ 48 ∷ 48 ∷ 48 ∷ 49 ∷ 32 ∷ 48 ∷ 10 ∷
+    -- 036000000000002 0
+    48 ∷ 51 ∷ 54 ∷ 48 ∷ 48 ∷ 48 ∷ 48 ∷ 48 ∷ 48 ∷ 48 ∷ 48 ∷ 48 ∷ 48 ∷ 48 ∷ 50 ∷ 32 ∷ 48 ∷ 10 ∷
+    -- N 0 1 2
+    78 ∷ 32 ∷ 48 ∷ 32 ∷ 49 ∷ 32 ∷ 50 ∷ 10 ∷
+    -- 036000000000002 0
+    48 ∷ 51 ∷ 54 ∷ 48 ∷ 48 ∷ 48 ∷ 48 ∷ 48 ∷ 48 ∷ 48 ∷ 48 ∷ 48 ∷ 48 ∷ 48 ∷ 50 ∷ 32 ∷ 48 ∷ 10 ∷
+    -- ? 12
+    63 ∷ 32 ∷ 49 ∷ 50 ∷ 10 ∷
+    []
+unfolding computed scratch dated
+dated-worked = refl
+
+-- -.5 and 123456.00 are no measures, 00000.00 is; a code of upper-case digits is none; 4294967295 is a number and 4294967296 is not; 65535 and 00000 are days, 65536 and
+-- 000001 are not
 forms : List Bool
 unfolding
-    every onto parted partAt partsIn digitOf isDigit isNumeral numeralAfter numeral isNumber onlyByte isCode isNegative unsigned isMeasure
+    every onto parted partAt partsIn digitOf isDigit isNumeral numeralAfter numeral isBelow onlyByte isCode isNegative unsigned isMeasure
 forms =
     isMeasure point (45 ∷ 46 ∷ 53 ∷ [])
     ∷ isMeasure point (49 ∷ 50 ∷ 51 ∷ 52 ∷ 53 ∷ 54 ∷ 46 ∷ 48 ∷ 48 ∷ [])
@@ -156,9 +228,13 @@ forms =
     ∷ isCode (48 ∷ 48 ∷ 48 ∷ 48 ∷ 48 ∷ 48 ∷ 48 ∷ 48 ∷ 48 ∷ 48 ∷ 48 ∷ 48 ∷ 48 ∷ 48 ∷ 48 ∷ 48 ∷ 48 ∷ 48 ∷ 48 ∷ 48 ∷ 48 ∷ 48 ∷ 48 ∷ 48 ∷ 48 ∷ 48 ∷ 48 ∷ 48 ∷ 48 ∷ 48 ∷ 48 ∷ 70 ∷ [])
     ∷ isNumber (52 ∷ 50 ∷ 57 ∷ 52 ∷ 57 ∷ 54 ∷ 55 ∷ 50 ∷ 57 ∷ 53 ∷ [])
     ∷ isNumber (52 ∷ 50 ∷ 57 ∷ 52 ∷ 57 ∷ 54 ∷ 55 ∷ 50 ∷ 57 ∷ 54 ∷ [])
+    ∷ isDay (54 ∷ 53 ∷ 53 ∷ 51 ∷ 53 ∷ [])
+    ∷ isDay (48 ∷ 48 ∷ 48 ∷ 48 ∷ 48 ∷ [])
+    ∷ isDay (54 ∷ 53 ∷ 53 ∷ 51 ∷ 54 ∷ [])
+    ∷ isDay (48 ∷ 48 ∷ 48 ∷ 48 ∷ 48 ∷ 49 ∷ [])
     ∷ []
 
-forms-worked : forms ≡ false ∷ false ∷ true ∷ false ∷ true ∷ false ∷ []
+forms-worked : forms ≡ false ∷ false ∷ true ∷ false ∷ true ∷ false ∷ true ∷ true ∷ false ∷ false ∷ []
 unfolding forms
 forms-worked = refl
 

@@ -83,10 +83,10 @@ headerOutcome a number header.Other = record { areas = a; stage = stage.Ended; t
 
 -- RULES 18.3: what the calls leave of the areas
 unfoldable pub areasAfter : Areas → Command → Profile → Areas
-areasAfter a (command.Add tag) p =
+areasAfter a (command.Add tag day) p =
     record {
-      table = tableAfterAdd (a .table) (a .work) tag p;
-      work = workAfterAdd (a .table) (a .work) tag p;
+      table = tableAfterAdd (a .table) (a .work) tag p day;
+      work = workAfterAdd (a .table) (a .work) tag p day;
       result = a .result;
     }
 areasAfter a (command.Remove tag) p =
@@ -95,19 +95,19 @@ areasAfter a (command.Remove tag) p =
       work = workAfterRemove (a .table) (a .work) tag;
       result = a .result;
     }
-areasAfter a (command.Within radius) p =
-    record { table = a .table; work = a .work; result = resultAfterRange (a .table) (a .result) p radius }
-areasAfter a (command.Nearest k) p = record { table = a .table; work = a .work; result = resultAfterNearest (a .table) (a .result) p k }
+areasAfter a (command.Within radius firstDay) p =
+    record { table = a .table; work = a .work; result = resultAfterRange (a .table) (a .result) p radius firstDay }
+areasAfter a (command.Nearest k firstDay) p = record { table = a .table; work = a .work; result = resultAfterNearest (a .table) (a .result) p k firstDay }
 areasAfter a command.Other p = a
 
 -- RULES 18.3, and what is printed: a search's entries are those of the result area after it
 unfoldable pub textAfter : Areas → ℕ → Command → Profile → List ℕ
-textAfter a number (command.Add tag) p = addText (addReply (a .table) (a .work) tag p)
+textAfter a number (command.Add tag day) p = addText (addReply (a .table) (a .work) tag p day)
 textAfter a number (command.Remove tag) p = removeText (removeReply (a .table) (a .work) tag)
-textAfter a number (command.Within radius) p =
-    searchText letterW (rangeReply (a .table) (a .result) p radius) (resultAfterRange (a .table) (a .result) p radius)
-textAfter a number (command.Nearest k) p =
-    searchText letterN (nearestReply (a .table) (a .result) p k) (resultAfterNearest (a .table) (a .result) p k)
+textAfter a number (command.Within radius firstDay) p =
+    searchText letterW (rangeReply (a .table) (a .result) p radius firstDay) (resultAfterRange (a .table) (a .result) p radius firstDay)
+textAfter a number (command.Nearest k firstDay) p =
+    searchText letterN (nearestReply (a .table) (a .result) p k firstDay) (resultAfterNearest (a .table) (a .result) p k firstDay)
 textAfter a number command.Other p = otherText number
 
 unfoldable pub commandOutcome : Areas → ℕ → Command → Profile → LineOutcome

@@ -12,9 +12,16 @@ use Rattle.yard_rules.specs.declared.Command.the-variants as command
 use Rattle.text_rules.specs.Text.{space, minus, point, partAt, partsIn, isNumeral, numeral}
 use Rattle.text_rules.specs.Fields.{isTag, isMeasure, measureIn}
 
--- RULES 18.5: T, metric, radius and k are 1 to 10 digits within 32 bits
-unfoldable pub isNumber : List ℕ → Bool
-isNumber text = isNumeral 10 1 10 text && ltb (numeral 10 text) (2 ^ 32)
+-- RULES 18.5, a number: 1 to `most` digits, and a value below a bound
+unfoldable pub isBelow : ℕ → ℕ → List ℕ → Bool
+isBelow most bound text = isNumeral 10 1 most text && ltb (numeral 10 text) bound
+
+-- RULES 18.5: T, metric, radius and k are 1 to 10 digits within 32 bits, a day 1 to 5 digits within 16 bits
+abbrev pub isNumber : List ℕ → Bool
+isNumber text = isBelow 10 (2 ^ 32) text
+
+abbrev pub isDay : List ℕ → Bool
+isDay text = isBelow 5 (2 ^ 16) text
 
 -- the only byte of a text, and 0 where it has none or more
 unfoldable pub onlyByte : List ℕ → ℕ
@@ -28,13 +35,18 @@ unfoldable pub codeIn : List ℕ → List ℕ
 codeIn text =
     elim (eqb (onlyByte text) minus) [ true ↦ 0 ∷ 0 ∷ [] | false ↦ numeral 16 (take 16 text) ∷ numeral 16 (drop 16 text) ∷ [] ]
 
--- RULES 18.3: a profile is `m m m m code`, the last five of a line's seven fields
+-- RULES 18.6: fields are parted by one space
 abbrev pub field : List ℕ → ℕ → List ℕ
 field line n = partAt space line n
 
+-- RULES 18.3: an eighth and last field is a day
+unfoldable pub hasDay : List ℕ → Bool
+hasDay line = eqb (partsIn space line) 8 && isDay (field line 7)
+
+-- RULES 18.3: a profile is `m m m m code`, the last five of a line's seven fields, or those before its day
 unfoldable pub hasProfile : List ℕ → Bool
 hasProfile line =
-    eqb (partsIn space line) 7
+    (eqb (partsIn space line) 7 || hasDay line)
     && isMeasure point (field line 2)
     && isMeasure point (field line 3)
     && isMeasure point (field line 4)
@@ -84,18 +96,23 @@ questionMark = 63
 unfoldable pub opens : ℕ → (List ℕ → Bool) → List ℕ → Bool
 opens letter form line = eqb (onlyByte (field line 0)) letter && form (field line 1)
 
--- RULES 18.3: `A tag profile`, `R tag`, `W radius profile`, `N k profile`
+-- RULES 18.3: the day of a line, or another number where it has none
+unfoldable pub dayOr : ℕ → List ℕ → ℕ
+dayOr n line = elim (hasDay line) [ true ↦ numeral 10 (field line 7) | false ↦ n ]
+
+-- RULES 18.3: `A tag profile`, `R tag`, `W radius profile`, `N k profile`. Behind each profile there may be a day; without it an item's is 1, and a search's
+-- first day 0
 unfoldable pub commandIn : List ℕ → Command
 commandIn line =
     let number = numeral 10 (field line 1) in
     elim (hasProfile line) [
       | true ↦
           elim (opens letterA isTag line) [
-            | true ↦ command.Add number
+            | true ↦ command.Add number (dayOr 1 line)
             | false ↦
                 elim (opens letterW isNumber line) [
-                  | true ↦ command.Within number
-                  | false ↦ elim (opens letterN isNumber line) [ true ↦ command.Nearest number | false ↦ command.Other ]
+                  | true ↦ command.Within number (dayOr 0 line)
+                  | false ↦ elim (opens letterN isNumber line) [ true ↦ command.Nearest number (dayOr 0 line) | false ↦ command.Other ]
                 ]
           ]
       | false ↦

@@ -6,12 +6,12 @@ pub enum Header {
     Other,
 }
 
-// A later line, with its tag, radius or k; the profile of an add or a search stands beside it. A line of another form is Other.
+// A later line, with its tag, radius or k, and behind it the day of an add or the first day of a search; the profile of these stands beside it. A line of another form is Other.
 pub enum Command {
-    Add(u64),
+    Add(u64, u32),
     Remove(u64),
-    Within(u32),
-    Nearest(u32),
+    Within(u32, u32),
+    Nearest(u32, u32),
     Other,
 }
 

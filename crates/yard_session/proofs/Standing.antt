@@ -38,7 +38,7 @@ unfolding begun
 begins a area = record { areas-are = refl; stage-is = refl; number-is = refl; line-is = nothing-held area }
 
 -- the line that is held
-pub long-answered : {area line : List ℕ} {h : Held} → 90 ≤ length area → h .over ≡ true → Holds area h line → AnsweredAs [] line
+pub long-answered : {area line : List ℕ} {h : Held} → 96 ≤ length area → h .over ≡ true → Holds area h line → AnsweredAs [] line
 long-answered {line = line} l e k a number s = sym (long-outcome a number s line (omega (arith, k .longer e)))
 
 pub whole-answered : {area line : List ℕ} {h : Held} → h .over ≡ false → Holds area h line → AnsweredAs (take (h .length) area) line

@@ -40,9 +40,9 @@ pub fn begin() -> Place
     }
 }
 
-// The line held in this much of the area. No command is longer than 90 bytes, so one that is longer than the area is answered as an empty one is, with `?`.
+// The line held in this much of the area. No command is longer than 96 bytes, so one that is longer than the area is answered as an empty one is, with `?`.
 fn held_line(area: &[u8], n: usize, over: bool) -> &[u8]
-    requires { ⌜ 90 ≤ length (now area) ⌝ }
+    requires { ⌜ 96 ≤ length (now area) ⌝ }
     ensures { λ r. ⌜ length (now r) ≤ length (now (area .entry)) ⌝ }
     ensures { λ r. ⌜ ((line : List ℕ) → Holds (now (area .entry)) (record { length = n; over = over }) line → AnsweredAs (now r) line) ⌝ }
 {
@@ -65,7 +65,7 @@ fn end_line(
     at: Place,
     next: usize,
 ) -> Place
-    requires { ⌜ (65 + 37 * length (now result) ≤ length (now out)) × (90 ≤ length (now area)) × (length (now area) < 2 ^ 32) × (at .number < 2 ^ 64 - 1) ⌝ }
+    requires { ⌜ (65 + 37 * length (now result) ≤ length (now out)) × (96 ≤ length (now area)) × (length (now area) < 2 ^ 32) × (at .number < 2 ^ 64 - 1) ⌝ }
     ensures { λ r. ⌜ (r .from ≡ next) × (r .number ≡ at .number + 1) × (r .printed ≤ length (now (out .entry))) ⌝ }
     ensures { λ r. ⌜ ((m : Midway) → Matches m (lent (now (table .entry)) (now (work .entry)) (now (result .entry))) (now (area .entry)) at → Takes m (lineFeed ∷ []) (lent (now (table .exit)) (now (work .exit)) (now (result .exit))) (now (area .entry)) (now (out .entry)) (now (out .exit)) r) ⌝ }
 {
@@ -94,7 +94,7 @@ pub fn take_line(
     from: usize,
     at: Place,
 ) -> Place
-    requires { ⌜ (65 + 37 * length (now result) ≤ length (now out)) × (90 ≤ length (now area)) × (length (now area) < 2 ^ 32) × (at .number < 2 ^ 64 - 1) × (from < length (now piece)) ⌝ }
+    requires { ⌜ (65 + 37 * length (now result) ≤ length (now out)) × (96 ≤ length (now area)) × (length (now area) < 2 ^ 32) × (at .number < 2 ^ 64 - 1) × (from < length (now piece)) ⌝ }
     ensures { λ r. ⌜ (from < r .from) × (r .from ≤ length (now (piece .entry))) × (r .number ≤ at .number + 1) × (r .printed ≤ length (now (out .entry))) ⌝ }
     ensures { λ r. ⌜ ((m : Midway) → Matches m (lent (now (table .entry)) (now (work .entry)) (now (result .entry))) (now (area .entry)) at → Takes m (stretch (now (piece .entry)) from (r .from)) (lent (now (table .exit)) (now (work .exit)) (now (result .exit))) (now (area .exit)) (now (out .entry)) (now (out .exit)) r) ⌝ }
 {
@@ -140,7 +140,7 @@ pub fn take_end(
     area: &[u8],
     at: Place,
 ) -> Place
-    requires { ⌜ (65 + 37 * length (now result) ≤ length (now out)) × (90 ≤ length (now area)) × (length (now area) < 2 ^ 32) × (at .number < 2 ^ 64 - 1) ⌝ }
+    requires { ⌜ (65 + 37 * length (now result) ≤ length (now out)) × (96 ≤ length (now area)) × (length (now area) < 2 ^ 32) × (at .number < 2 ^ 64 - 1) ⌝ }
     ensures { λ r. ⌜ (r .number ≤ at .number + 1) × (r .printed ≤ length (now (out .entry))) ⌝ }
     ensures { λ r. ⌜ ((m : Midway) → Matches m (lent (now (table .entry)) (now (work .entry)) (now (result .entry))) (now (area .entry)) at → Ends m (lent (now (table .exit)) (now (work .exit)) (now (result .exit))) (now (out .entry)) (now (out .exit)) r) ⌝ }
 {

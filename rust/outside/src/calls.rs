@@ -1,7 +1,7 @@
 //! One call, by the reference and by the archive.
 
 use reference::calls as plain;
-use reference::item::{Entry, Profile, Row, Space};
+use reference::item::{Entry, Item, Profile, Row, Space};
 use reference::list::ListRead;
 use vpindex::ffi;
 
@@ -26,13 +26,13 @@ pub struct Areas {
 pub enum Call {
     Fresh { order: u32, space: Space },
     Load,
-    Add { tag: u64, profile: Profile },
+    Add { tag: u64, profile: Profile, day: u16 },
     Remove { tag: u64 },
     LookUp { tag: u64 },
-    Range { query: Profile, radius: u32 },
-    Nearest { query: Profile, k: u32 },
+    Range { query: Profile, radius: u32, first_day: u16 },
+    Nearest { query: Profile, k: u32, first_day: u16 },
     Write,
-    ReadList,
+    ReadList { day: u16 },
 }
 
 /// What a call returned; fields that it has not are zero.
@@ -47,6 +47,7 @@ pub struct Reply {
     pub added: u32,
     pub distances: u32,
     pub profile: Profile,
+    pub day: u32,
 }
 
 fn accepted<T>(result: Result<T, u32>, reply: impl Fn(T) -> Reply) -> Reply {
@@ -67,22 +68,24 @@ pub fn by_reference(call: &Call, areas: &mut Areas) -> Reply {
     match *call {
         Call::Fresh { order, space } => accepted(plain::fresh(table, order, space), nothing),
         Call::Load => accepted(plain::load(table, bytes), nothing),
-        Call::Add { tag, profile } => accepted(plain::add(table, work, tag, profile), |(bucket, distances)| Reply {
-            bucket,
-            distances,
-            ..Reply::default()
-        }),
+        Call::Add { tag, profile, day } => {
+            let added = |(bucket, distances)| Reply { bucket, distances, ..Reply::default() };
+            accepted(plain::add(table, work, tag, profile, day), added)
+        }
         Call::Remove { tag } => {
             accepted(plain::remove(table, work, tag), |distances| Reply { distances, ..Reply::default() })
         }
         Call::LookUp { tag } => {
-            accepted(plain::look_up(table, tag), |(bucket, profile)| Reply { bucket, profile, ..Reply::default() })
+            let found = |(bucket, Item { profile, day, .. })| Reply { bucket, profile, day, ..Reply::default() };
+            accepted(plain::look_up(table, tag), found)
         }
-        Call::Range { query, radius } => accepted(plain::range(table, result, query, radius), searched),
-        Call::Nearest { query, k } => accepted(plain::nearest(table, result, query, k), searched),
+        Call::Range { query, radius, first_day } => {
+            accepted(plain::range(table, result, query, radius, first_day), searched)
+        }
+        Call::Nearest { query, k, first_day } => accepted(plain::nearest(table, result, query, k, first_day), searched),
         Call::Write => accepted(plain::write(table, bytes), |length| Reply { length, ..Reply::default() }),
-        Call::ReadList => {
-            let ListRead { refusal, line, added, distances } = plain::read_list(table, work, bytes);
+        Call::ReadList { day } => {
+            let ListRead { refusal, line, added, distances } = plain::read_list(table, work, bytes, day);
             Reply { refusal, line, added, distances, ..Reply::default() }
         }
     }
@@ -94,7 +97,7 @@ fn raw(profile: Profile) -> ffi::Profile {
 
 fn looked_up(reply: ffi::LookedUp) -> Reply {
     let profile = Profile { measures: reply.profile.measures, code: reply.profile.code };
-    Reply { refusal: reply.refusal, bucket: reply.bucket, profile, ..Reply::default() }
+    Reply { refusal: reply.refusal, bucket: reply.bucket, profile, day: reply.day, ..Reply::default() }
 }
 
 fn hits(reply: ffi::Searched) -> Reply {
@@ -109,8 +112,8 @@ pub fn by_archive(call: &Call, table: &mut [Row], work: &mut [Row], result: &mut
             Reply { refusal: ffi::fresh(table, order, space.metric, weights), ..Reply::default() }
         }
         Call::Load => Reply { refusal: ffi::load(table, bytes), ..Reply::default() },
-        Call::Add { tag, profile } => {
-            let ffi::Added { refusal, bucket, distances } = ffi::add(table, work, tag, raw(profile));
+        Call::Add { tag, profile, day } => {
+            let ffi::Added { refusal, bucket, distances } = ffi::add(table, work, tag, raw(profile), day);
             Reply { refusal, bucket, distances, ..Reply::default() }
         }
         Call::Remove { tag } => {
@@ -118,14 +121,14 @@ pub fn by_archive(call: &Call, table: &mut [Row], work: &mut [Row], result: &mut
             Reply { refusal, distances, ..Reply::default() }
         }
         Call::LookUp { tag } => looked_up(ffi::look_up(table, tag)),
-        Call::Range { query, radius } => hits(ffi::range(table, result, raw(query), radius)),
-        Call::Nearest { query, k } => hits(ffi::nearest(table, result, raw(query), k)),
+        Call::Range { query, radius, first_day } => hits(ffi::range(table, result, raw(query), radius, first_day)),
+        Call::Nearest { query, k, first_day } => hits(ffi::nearest(table, result, raw(query), k, first_day)),
         Call::Write => {
             let ffi::Written { refusal, length } = ffi::write(table, bytes);
             Reply { refusal, length, ..Reply::default() }
         }
-        Call::ReadList => {
-            let ffi::ListRead { refusal, line, added, distances } = ffi::read_list(table, work, bytes);
+        Call::ReadList { day } => {
+            let ffi::ListRead { refusal, line, added, distances } = ffi::read_list(table, work, bytes, day);
             Reply { refusal, line, added, distances, ..Reply::default() }
         }
     }

@@ -1,4 +1,4 @@
-//! Tables that these calls did not leave: sizes that pass or nearly, slots, thresholds and marks of any content.
+//! Tables that these calls did not leave: sizes that pass or nearly, slots, thresholds, marks and days of any content.
 
 use reference::item::{ROW_WORDS, Row, Slot, Space};
 use reference::table::{Table, first_row, put_table, table_rows};
@@ -33,6 +33,9 @@ pub fn table(random: &mut Random, order: u32, space: Space) -> Vec<Row> {
     if random.one_in(3) {
         some_marks(random, &mut rows, order);
     }
+    if random.one_in(3) {
+        some_days(random, &mut rows, order);
+    }
     if random.one_in(4) {
         a_size(random, &mut rows, order);
     }
@@ -60,7 +63,7 @@ fn unnamed_words(random: &mut Random, rows: &mut [Row], order: u32) {
 
 fn any_slot(random: &mut Random, mark: u32, pool: usize) -> Slot {
     let tag = if random.one_in(8) { random.edge_tag() } else { random.tag(pool) };
-    Slot { tag, profile: random.any_profile(), threshold: random.reach(), mark }
+    Slot { tag, profile: random.any_profile(), threshold: random.reach(), mark, day: random.any_day() }
 }
 
 // a few slots, inside the built parts or not, changed in all but their marks
@@ -87,11 +90,20 @@ fn all_slots(random: &mut Random, rows: &mut [Row], table: &Table) {
 }
 
 fn some_marks(random: &mut Random, rows: &mut [Row], order: u32) {
+    some_words(random, rows, order, 11, |random| random.pick(&[0, 1, 1, 2, u32::MAX]));
+}
+
+fn some_days(random: &mut Random, rows: &mut [Row], order: u32) {
+    some_words(random, rows, order, 12, Random::any_day);
+}
+
+// another word at this place of a slot or two, or of many
+fn some_words(random: &mut Random, rows: &mut [Row], order: u32, place: usize, any: impl Fn(&mut Random) -> u32) {
     let first = first_row(order, 0);
     let slots = rows.len() - first;
     for _ in 0..1 + random.pick(&[0, 1, slots / 2, slots]) {
         let at = first + random.below(slots);
-        rows[at][11] = random.pick(&[0, 1, 1, 2, u32::MAX]);
+        rows[at][place] = any(random);
     }
 }
 

@@ -3,7 +3,7 @@
 
 use reference::book::Book;
 use reference::image::is_sound;
-use reference::item::{Profile, Row};
+use reference::item::{Item, Row, Slot};
 use reference::list::ListRead;
 use reference::table::{Bucket, Table};
 use reference::tree::Hit;
@@ -11,7 +11,7 @@ use reference::tree::Hit;
 use crate::calls::{Areas, Call, Reply, compare};
 use crate::foreign::any_row;
 use crate::lists::{Tally, change, keep, lent, next};
-use crate::random::Random;
+use crate::random::{MAX_DAY, Random};
 
 /// Adds, removals and the distances that they reported, since the last fresh or load. A load's live items count as
 /// added, its dead ones as removed.
@@ -34,11 +34,11 @@ impl Sums {
 
     fn note(&mut self, call: &Call, reply: &Reply, table: &[Row]) {
         // a list's lines stay added where a later one is refused
-        if reply.refusal != 0 && *call != Call::ReadList {
+        if reply.refusal != 0 && !matches!(call, Call::ReadList { .. }) {
             return;
         }
         self.distances += match call {
-            Call::Add { .. } | Call::Remove { .. } | Call::ReadList => reply.distances as u64,
+            Call::Add { .. } | Call::Remove { .. } | Call::ReadList { .. } => reply.distances as u64,
             _ => 0,
         };
         match call {
@@ -46,7 +46,7 @@ impl Sums {
             Call::Load => *self = Sums::of(&Table::open(table, |_| true).expect("a loaded table passes")),
             Call::Add { .. } => self.adds += 1,
             Call::Remove { .. } => self.removals += 1,
-            Call::ReadList => self.adds += reply.added as u64,
+            Call::ReadList { .. } => self.adds += reply.added as u64,
             _ => (),
         }
     }
@@ -108,8 +108,8 @@ impl History {
         reply
     }
 
-    // Table and book are alike in the refusal (writing excepted), look up's profile, the number found and the entries,
-    // and of a herd list in the line and the number added.
+    // Table and book are alike in the refusal (writing excepted), look up's profile and day, the number found and the
+    // entries, and of a herd list in the line and the number added.
     fn check_shown(
         &mut self,
         call: &Call,
@@ -119,26 +119,28 @@ impl History {
         hits: Vec<Hit>,
     ) {
         let book = &mut self.book;
-        let nothing = |()| (Profile::default(), vec![]);
+        let nothing = |()| (Item::default(), vec![]);
+        let found = |hits| (Item::default(), hits);
         let expected = match *call {
             Call::Fresh { order, space } => book.fresh(rows, order, space).map(nothing),
             Call::Load => book.load(rows, bytes).map(nothing),
-            Call::Add { tag, profile } => book.add(rows, work, tag, profile).map(nothing),
-            Call::Remove { tag } => book.remove(rows, work, tag).map(nothing),
-            Call::LookUp { tag } => book.look_up(rows, tag).map(|profile| (profile, vec![])),
-            Call::Range { query, radius } => {
-                book.range(rows, room, &query, radius).map(|hits| (Profile::default(), hits))
+            Call::Add { tag, profile, day } => {
+                book.add(rows, work, Item { tag, profile, day: day as u32 }).map(nothing)
             }
-            Call::Nearest { query, k } => book.nearest(rows, room, &query, k).map(|hits| (Profile::default(), hits)),
+            Call::Remove { tag } => book.remove(rows, work, tag).map(nothing),
+            Call::LookUp { tag } => book.look_up(rows, tag).map(|item| (Item { tag: 0, ..item }, vec![])),
+            Call::Range { query, radius, first_day } => book.range(rows, room, &query, radius, first_day).map(found),
+            Call::Nearest { query, k, first_day } => book.nearest(rows, room, &query, k, first_day).map(found),
             Call::Write => return,
-            Call::ReadList => {
-                let expected = book.read_list(rows, work, bytes);
+            Call::ReadList { day } => {
+                let expected = book.read_list(rows, work, bytes, day);
                 let got = ListRead { refusal: reply.refusal, line: reply.line, added: reply.added, distances: 0 };
                 assert_eq!(got, expected, "table, then book: {call:?}");
                 return;
             }
         };
-        let got = if reply.refusal == 0 { Ok((reply.profile, hits)) } else { Err(reply.refusal) };
+        let shown = Item { tag: 0, profile: reply.profile, day: reply.day };
+        let got = if reply.refusal == 0 { Ok((shown, hits)) } else { Err(reply.refusal) };
         assert_eq!(got, expected, "table, then book: {call:?}");
     }
 
@@ -146,8 +148,10 @@ impl History {
     fn check_state(&mut self) {
         let table = Table::open(&self.left, |_| true).expect("order, metric, weights and sizes pass");
         assert_eq!((table.order, table.space), (self.book.order, self.book.space));
-        let items = table.buckets.iter().flat_map(Bucket::live_items).map(|slot| (slot.tag, slot.profile));
+        let items = table.buckets.iter().flat_map(Bucket::live_items).map(Slot::item);
         assert_eq!(by_tag(items.collect()), by_tag(self.book.items.clone()));
+        let mut slots = table.buckets.iter().flat_map(|bucket| &bucket.slots);
+        assert!(slots.all(|slot| (1..=MAX_DAY as u32).contains(&slot.day)), "the days of dead slots too are valid");
         if table.order < 7 || self.random.one_in(16) {
             assert!(is_sound(&table), "fields, marks and trees keep the rules");
         }
@@ -157,7 +161,7 @@ impl History {
     }
 }
 
-fn by_tag(mut items: Vec<(u64, Profile)>) -> Vec<(u64, Profile)> {
-    items.sort_by_key(|item| item.0);
+fn by_tag(mut items: Vec<Item>) -> Vec<Item> {
+    items.sort_by_key(|item| item.tag);
     items
 }

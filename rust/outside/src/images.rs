@@ -1,6 +1,6 @@
-//! Images to load, of both forms: sound ones, and such as break one rule or several.
+//! Images to load, of every form: sound ones, and such as break one rule or several.
 
-use reference::image::bytes;
+use reference::image;
 use reference::item::{Slot, Space};
 use reference::table::Table;
 use reference::tree::layout;
@@ -8,13 +8,18 @@ use reference::tree::layout;
 use crate::random::{MAX_MEASURE, Random};
 use crate::sound;
 
-/// The image of a sound table, or a damaged one; once in four of form 0, and then mostly of a table of weights 1.
-pub fn image(random: &mut Random, order: u32, mut space: Space) -> Vec<u8> {
-    let is_older = random.one_in(4);
-    if is_older && !random.one_in(6) {
+/// The image of a sound table, or a damaged one; once in three of an older form.
+pub fn image(random: &mut Random, order: u32, space: Space) -> Vec<u8> {
+    let form = random.pick(&[0, 1, 2, 2, 2, 2]);
+    of_form(random, form, order, space)
+}
+
+/// The same of one form; where that has no weights, mostly of a table of weights 1.
+pub fn of_form(random: &mut Random, form: u16, order: u32, mut space: Space) -> Vec<u8> {
+    if form == 0 && !random.one_in(6) {
         space.weights = [1; 4];
     }
-    let written = |table: &Table| if is_older { older(&bytes(table)) } else { bytes(table) };
+    let written = |table: &Table| image::of_form(form, table);
     let sizes = sound::nearly(random, order);
     let mut table = sound::table_of(random, order, space, sizes);
     match random.below(8) {
@@ -29,14 +34,21 @@ pub fn image(random: &mut Random, order: u32, mut space: Space) -> Vec<u8> {
     }
 }
 
-/// An image of form 1 as form 0 has it, without its weights.
-pub fn older(image: &[u8]) -> Vec<u8> {
-    [&image[..2], &[0, 0], &image[8..]].concat()
-}
-
-/// The translation of an image of form 0 to form 1, with weights 1.
-pub fn newer(image: &[u8]) -> Vec<u8> {
-    [&image[..2], &[1, 0], &[1; 4], &image[4..]].concat()
+/// The translation of an image of form 0 or 1 to form 2: weights 1 where it has none, and day 1 behind every record.
+/// None if it is of no older form, or not of the length that its sizes give.
+pub fn translated(image: &[u8]) -> Option<Vec<u8>> {
+    let (&[order, metric, form, 0], rest) = image.split_first_chunk()? else { return None };
+    let (weights, rest) = match form {
+        0 => ([1; 4], rest),
+        1 => rest.split_first_chunk().map(|(weights, rest)| (*weights, rest))?,
+        _ => return None,
+    };
+    let (sizes, slots) = rest.split_at_checked(4 * (order as usize + 1))?;
+    let built: usize = sizes.chunks(4).map(|size| size[0] as usize + 256 * size[1] as usize).sum();
+    let (tags, records) = slots.split_at_checked(8 * built)?;
+    let with_days: Vec<u8> = records.chunks(40).flat_map(|record| [record, &[1, 0]].concat()).collect();
+    let whole = [&[order, metric, 2, 0], &weights[..], sizes, tags, &with_days].concat();
+    (records.len() == 40 * built).then_some(whole)
 }
 
 /// Another length.
@@ -51,12 +63,17 @@ pub fn cut(random: &mut Random, mut bytes: Vec<u8>) -> Vec<u8> {
     bytes
 }
 
-// another value in the bytes before the tags
+// another value in the bytes before the tags: in the start, in the weights or what form 0 has there, in the sizes
 fn header(random: &mut Random, mut bytes: Vec<u8>) -> Vec<u8> {
     let sizes = 4 * (bytes[0] as usize + 1);
     let front = if bytes[2] == 0 { 4 } else { 8 };
-    let at = if random.one_in(2) { random.below(front) } else { front + random.below(sizes) };
-    bytes[at] = random.pick(&[0, 1, 2, 3, 12, 13, 14, 100, 101, 128, 255]);
+    let any = random.pick(&[0, 1, 2, 3, 12, 13, 14, 128, 255]);
+    let (at, byte) = match random.below(3) {
+        0 => (random.below(4), any),
+        1 => (4 + random.below(4), random.pick(&[0, 100, 101, 255])),
+        _ => (front + random.below(sizes), any),
+    };
+    bytes[at] = byte;
     bytes
 }
 
@@ -78,7 +95,7 @@ fn a_fault(random: &mut Random, table: &mut Table) {
     let other = table.buckets[j].slots[other];
     let bucket = &mut table.buckets[k];
     let at = random.below(bucket.slots.len());
-    match random.below(5) {
+    match random.below(6) {
         0 => {
             let with = random.below(bucket.slots.len());
             bucket.slots.swap(at, with);
@@ -91,6 +108,13 @@ fn a_fault(random: &mut Random, table: &mut Table) {
         }
         2 => relaid(table, k, at, |slot| slot.tag = other.tag),
         3 => field(random, &mut bucket.slots[at]),
+        // a day, and now and then what is tested after it
+        4 => {
+            bucket.slots[at].day = 0;
+            if random.one_in(3) {
+                field(random, &mut bucket.slots[at]);
+            }
+        }
         _ => {
             let measure = random.below(4);
             let value = random.pick(&[MAX_MEASURE, MAX_MEASURE + 1, -MAX_MEASURE, -MAX_MEASURE - 1]);

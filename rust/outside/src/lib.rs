@@ -1,6 +1,7 @@
 //! Calls of the archive compared with the reference, one by one and over long random lists.
 
 pub mod calls;
+pub mod fixture;
 pub mod foreign;
 pub mod history;
 pub mod images;

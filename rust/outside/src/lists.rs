@@ -27,14 +27,14 @@ pub struct Tally {
 /// The numbers that each call can be refused by, and 0.
 pub const NUMBERS: [(&str, &[u32]); 9] = [
     ("fresh", &[0, 3, 4, 23, 32]),
-    ("load", &[0, 3, 4, 7, 8, 23, 24, 32]),
-    ("add", &[0, 1, 2, 20, 22, 23, 24]),
+    ("load", &[0, 3, 4, 7, 8, 23, 24, 32, 33]),
+    ("add", &[0, 1, 2, 20, 22, 23, 24, 33]),
     ("remove", &[0, 1, 21, 23, 24]),
     ("look up", &[0, 1, 21, 23, 24]),
     ("range", &[0, 2, 6, 23, 24]),
     ("nearest", &[0, 2, 5, 6, 23, 24]),
     ("write", &[0, 6, 23, 24]),
-    ("read list", &[0, 1, 2, 20, 22, 23, 24, 30, 31]),
+    ("read list", &[0, 1, 2, 20, 22, 23, 24, 30, 31, 33]),
 ];
 
 impl Tally {
@@ -70,7 +70,7 @@ fn name(call: &Call) -> &'static str {
         Call::Range { .. } => "range",
         Call::Nearest { .. } => "nearest",
         Call::Write => "write",
-        Call::ReadList => "read list",
+        Call::ReadList { .. } => "read list",
     }
 }
 
@@ -145,9 +145,15 @@ pub fn next(random: &mut Random, areas: &mut Areas, order: u32, space: Space) ->
         6..14 => add(random, order),
         14..20 => Call::Remove { tag: tag(random, areas, order) },
         20..23 => Call::LookUp { tag: tag(random, areas, order) },
-        23..27 => Call::Range { query: query(random, areas, order), radius: random.reach() },
+        23..27 => {
+            let (query, first_day) = (query(random, areas, order), random.first_day());
+            Call::Range { query, radius: random.reach(), first_day }
+        }
         27..31 => read_list(random, areas, order),
-        _ => Call::Nearest { query: query(random, areas, order), k: count(random, order) },
+        _ => {
+            let (query, first_day) = (query(random, areas, order), random.first_day());
+            Call::Nearest { query, k: count(random, order), first_day }
+        }
     }
 }
 
@@ -164,7 +170,7 @@ pub fn change(random: &mut Random, areas: &mut Areas, order: u32) -> Call {
 fn read_list(random: &mut Random, areas: &mut Areas, order: u32) -> Call {
     let most = if order < 6 && random.one_in(3) { 2 * capacity(order) } else { 8 };
     areas.bytes = item_lists::list(random, order, most);
-    Call::ReadList
+    Call::ReadList { day: if random.one_in(10) { 0 } else { random.day() } }
 }
 
 // Each argument by itself may be one that is refused.
@@ -190,7 +196,7 @@ fn load(random: &mut Random, areas: &mut Areas, order: u32, space: Space) -> Cal
 fn few_bytes(random: &mut Random) -> Vec<u8> {
     let length = random.below(60);
     let mut bytes = random.fill(length, |random| random.below(4) as u8);
-    let front = [random.pick(&[0, 0, 1, 2, 3, 13, 255]), random.below(4) as u8, random.below(3) as u8, 0];
+    let front = [random.pick(&[0, 0, 1, 2, 3, 13, 255]), random.below(4) as u8, random.below(4) as u8, 0];
     bytes.iter_mut().zip(front).for_each(|(byte, other)| *byte = other);
     bytes
 }
@@ -205,7 +211,8 @@ fn write(random: &mut Random, areas: &mut Areas, order: u32) -> Call {
 fn add(random: &mut Random, order: u32) -> Call {
     let tag = if random.one_in(30) { random.edge_tag() } else { random.tag(sound::pool(order)) };
     let profile = if random.one_in(30) { random.bad_profile() } else { random.profile() };
-    Call::Add { tag, profile }
+    let day = if random.one_in(30) { 0 } else { random.day() };
+    Call::Add { tag, profile, day }
 }
 
 // mostly one that some slot has

@@ -9,6 +9,8 @@ pub const MIN_TAG: u64 = 1_000_000_000_000;
 pub const MAX_NATIONAL: u64 = 274_877_906_943;
 /// The largest valid measure.
 pub const MAX_MEASURE: i32 = 1_000_000;
+/// The last day.
+pub const MAX_DAY: u16 = 65_535;
 
 /// A generator (xorshift64*).
 #[derive(Clone, Debug)]
@@ -105,6 +107,25 @@ impl Random {
             0 => self.profile(),
             1 => self.bad_profile(),
             _ => Profile { measures: [0; 4].map(|_| self.word() as i32), code: [self.word(), self.word()] },
+        }
+    }
+
+    /// A valid day: mostly one of few, the first and the last among them.
+    pub fn day(&mut self) -> u16 {
+        if self.one_in(4) { self.within(1, MAX_DAY as i64) as u16 } else { self.pick(&[1, 2, 300, 301, MAX_DAY]) }
+    }
+
+    /// The first day of a search: one that leaves no item out, or one of those that items have.
+    pub fn first_day(&mut self) -> u16 {
+        if self.one_in(3) { 0 } else { self.day() }
+    }
+
+    /// A slot's day in a lent table: any 32 bits, often at the ends of 16.
+    pub fn any_day(&mut self) -> u32 {
+        match self.below(3) {
+            0 => self.day() as u32,
+            1 => self.pick(&[0, 1, 0xFFFF, 0x1_0000, 0x1_0001, 0x1_FFFF, 1 << 31, u32::MAX]),
+            _ => self.word() as u32,
         }
     }
 

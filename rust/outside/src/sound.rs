@@ -60,7 +60,8 @@ fn bucket(random: &mut Random, space: &Space, (built, live): (u32, u32), tags: &
         } else {
             tags.dead.push(tag);
         }
-        items.push(Slot { tag, profile: random.profile(), threshold: 0, mark: !is_live as u32 });
+        let (profile, day) = (random.profile(), random.day() as u32);
+        items.push(Slot { tag, profile, threshold: 0, mark: !is_live as u32, day });
     }
     let dead: HashSet<u64> = items.iter().filter(|item| !item.is_live()).map(|item| item.tag).collect();
     let mut slots = layout(space, &items);

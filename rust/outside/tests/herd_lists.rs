@@ -3,18 +3,15 @@
 use std::ops::RangeInclusive;
 
 use outside::calls::{Areas, Call, Reply, compare};
+use outside::fixture::tag;
 use outside::foreign::{self, any_row, rows_of};
 use outside::item_lists::{self, NO_TAGS, NO_VALUES, line};
-use outside::random::{MAX_NATIONAL, MIN_TAG, Random};
+use outside::random::{MAX_DAY, MAX_NATIONAL, MIN_TAG, Random};
 use outside::sound;
-use reference::item::{Profile, ROW_WORDS, Row, Space};
+use reference::item::{Item, Profile, ROW_WORDS, Row, Space};
 use reference::list::HEADER;
 use reference::table::{Table, capacity, put_table, table_rows};
 use vpindex::ffi;
-
-fn tag(national: u64) -> u64 {
-    36 * MIN_TAG + national
-}
 
 fn lines(nationals: RangeInclusive<u64>) -> Vec<String> {
     nationals.map(|n| line(tag(n), [41_250 + 7 * n as i32, 12_900, -5, 0])).collect()
@@ -28,22 +25,26 @@ fn empty(order: u32) -> Vec<Row> {
     rows
 }
 
+// The day of most lists here.
+const DAY: u16 = 300;
+
 struct Fixture {
     rows: Vec<Row>,
     work: usize,
+    day: u16,
     random: Random,
 }
 
 impl Fixture {
     fn new(order: u32) -> Fixture {
-        Fixture { rows: empty(order), work: capacity(order), random: Random::new(3) }
+        Fixture { rows: empty(order), work: capacity(order), day: DAY, random: Random::new(3) }
     }
 
     // Reads the list on a copy of the table, and gives the table after it too.
     fn read(&mut self, list: &[u8]) -> (Reply, Vec<Row>) {
         let work = self.random.fill(self.work, any_row);
         let mut areas = Areas { table: self.rows.clone(), work, bytes: list.to_vec(), ..Areas::default() };
-        let reply = compare(&Call::ReadList, &mut areas, &mut self.random);
+        let reply = compare(&Call::ReadList { day: self.day }, &mut areas, &mut self.random);
         (reply, areas.table)
     }
 
@@ -96,7 +97,8 @@ fn values_of_the_form() {
             assert_eq!((reply.refusal, reply.added), (0, 1), "{text}");
             let mut profile = Profile::default();
             profile.measures[at] = hundredths;
-            assert_eq!(reference::calls::look_up(&rows, tag(9)), Ok((0, profile)), "{text}");
+            let item = Item { tag: tag(9), profile, day: DAY as u32 };
+            assert_eq!(reference::calls::look_up(&rows, tag(9)), Ok((0, item)), "{text}");
         }
     }
     for past in ["10000,01", "-10000,01", "99999,99", "-99999,99"] {
@@ -228,6 +230,49 @@ fn refusals_at_a_line() {
     assert_eq!(fixture.shown(&item_lists::of(&lines(9..=9))[..60]), (31, 2, 0));
 }
 
+// All lines are of the one day given: the first, the last or any between them.
+#[test]
+fn a_list_has_one_day() {
+    let mut fixture = Fixture::new(3);
+    for day in [1, DAY, MAX_DAY] {
+        fixture.day = day;
+        let (reply, rows) = fixture.read(&item_lists::of(&lines(1..=6)));
+        assert_eq!((reply.refusal, reply.added), (0, 6));
+        for n in 1..=6 {
+            assert_eq!(reference::calls::look_up(&rows, tag(n)).map(|(_, item)| item.day), Ok(day as u32));
+        }
+    }
+}
+
+// Day 0 is 33 at the first line that no refusal before it meets: form, tag and measures go before it, what is live and
+// a full table behind it. A list of no line has no day to refuse.
+#[test]
+fn a_list_of_day_0() {
+    let mut fixture = Fixture::new(2);
+    fixture.rows = fixture.read(&item_lists::of(&lines(1..=3))).1;
+    fixture.day = 0;
+    let one = |line: &String| item_lists::of([line]);
+    assert_eq!(fixture.shown(HEADER), (0, 0, 0));
+    assert_eq!(fixture.shown(&HEADER[1..]), (30, 1, 0));
+    assert_eq!(fixture.shown(&one(&"?\n".into())), (31, 2, 0));
+    assert_eq!(fixture.shown(&one(&line(0, [1_000_001; 4]))), (1, 2, 0));
+    assert_eq!(fixture.shown(&one(&line(tag(1), [1_000_001; 4]))), (2, 2, 0));
+    assert_eq!(fixture.shown(&item_lists::of(&lines(4..=5))), (33, 2, 0));
+    assert_eq!(fixture.shown(&item_lists::of(&lines(1..=1))), (33, 2, 0));
+    fixture.day = DAY;
+    fixture.rows = fixture.read(&item_lists::of(&lines(4..=4))).1;
+    assert_eq!(fixture.shown(&item_lists::of(&lines(5..=5))), (22, 2, 0));
+    fixture.day = 0;
+    assert_eq!(fixture.shown(&item_lists::of(&lines(5..=5))), (33, 2, 0));
+    fixture.work = 3;
+    assert_eq!(fixture.shown(&item_lists::of(&lines(5..=5))), (23, 2, 0));
+    fixture.work = 4;
+    fixture.rows[0][2] = 101;
+    assert_eq!(fixture.shown(&item_lists::of(&lines(5..=5))), (24, 2, 0));
+    fixture.rows.clear();
+    assert_eq!(fixture.shown(HEADER), (0, 0, 0));
+}
+
 // The header is looked at before any area, a line's form before the table, and a list of no line asks for no table.
 #[test]
 fn areas_that_no_add_takes() {
@@ -252,7 +297,7 @@ fn areas_that_no_add_takes() {
         (with(&a_mark), 4, 24),
     ];
     for (rows, work, refusal) in tables {
-        let mut fixture = Fixture { rows, work, random: Random::new(5) };
+        let mut fixture = Fixture { rows, work, day: DAY, random: Random::new(5) };
         assert_eq!(fixture.shown(b""), (30, 1, 0));
         assert_eq!(fixture.shown(&whole[1..]), (30, 1, 0));
         assert_eq!(fixture.shown(&headed), (0, 0, 0));
@@ -270,7 +315,7 @@ fn areas_of_every_small_length() {
             for work in 0..capacity(order) + 3 {
                 let mut rows = empty(order);
                 rows.resize_with(table, || any_row(&mut random));
-                let mut fixture = Fixture { rows, work, random: random.clone() };
+                let mut fixture = Fixture { rows, work, day: DAY, random: random.clone() };
                 let fits = table >= table_rows(order) && work >= capacity(order);
                 let expected = if fits { (0, 0, capacity(order) as u32) } else { (23, 2, 0) };
                 assert_eq!(fixture.shown(&list), expected);
@@ -294,8 +339,8 @@ fn tables_of_every_kind() {
             rows_of(&mut random, &table, 0)
         };
         let list = item_lists::list(&mut random, order, 2 * capacity(order).min(16));
-        let work = capacity(order) + random.below(2);
-        let reply = Fixture { rows, work, random: random.clone() }.read(&list).0;
+        let (work, day) = (capacity(order) + random.below(2), random.day());
+        let reply = Fixture { rows, work, day, random: random.clone() }.read(&list).0;
         stopped += (reply.refusal != 0 && reply.added > 0) as u32;
     }
     assert!(stopped > 500, "{stopped} lists stopped after an add");
@@ -312,11 +357,11 @@ fn a_list_is_its_adds() {
         let mut added = listed.clone();
         let mut work = vec![[0; ROW_WORDS]; capacity(12)];
         let list: Vec<String> = profiles.iter().zip(1..).map(|(profile, n)| line(tag(n), profile.measures)).collect();
-        let reply = ffi::read_list(&mut listed, &mut work, &item_lists::of(&list));
+        let reply = ffi::read_list(&mut listed, &mut work, &item_lists::of(&list), DAY);
         let mut distances = 0;
         for (profile, n) in profiles.iter().take(4096).zip(1..) {
             let profile = ffi::Profile { measures: profile.measures, code: profile.code };
-            let add = ffi::add(&mut added, &mut work, tag(n), profile);
+            let add = ffi::add(&mut added, &mut work, tag(n), profile, DAY);
             assert_eq!(add.refusal, 0);
             distances += add.distances;
         }

@@ -3,8 +3,8 @@
 use outside::calls::{Areas, Call, compare};
 use outside::foreign::{self, any_row, rows_of};
 use outside::random::Random;
-use outside::{images, item_lists, sound};
-use reference::image::bytes;
+use outside::{item_lists, sound};
+use reference::image::of_form;
 use reference::item::{Row, Space};
 use reference::table::{Table, capacity, table_rows};
 
@@ -44,20 +44,20 @@ fn calls(random: &mut Random, rows: &[Row], order: u32, space: Space) -> Vec<Cal
     vec![
         Call::Fresh { order, space },
         Call::Load,
-        Call::Add { tag: random.tag(100), profile: query },
+        Call::Add { tag: random.tag(100), profile: query, day: random.day() },
         Call::Remove { tag },
         Call::LookUp { tag },
-        Call::Range { query, radius: u32::MAX },
-        Call::Nearest { query, k: u32::MAX },
+        Call::Range { query, radius: u32::MAX, first_day: random.first_day() },
+        Call::Nearest { query, k: u32::MAX, first_day: random.first_day() },
         Call::Write,
-        Call::ReadList,
+        Call::ReadList { day: random.day() },
     ]
 }
 
 // One area at a time has every length from none to a few elements more than is needed; the others are long enough.
 fn every_length(random: &mut Random, rows: &[Row], order: u32, space: Space) -> usize {
     let (table, work, result) = (table_rows(order), capacity(order), 2 * capacity(order));
-    let image = 8 + 4 * (order as usize + 1) + 48 * result;
+    let image = 8 + 4 * (order as usize + 1) + 50 * result;
     let of = |at: usize, n: usize| {
         let one = |i: usize, needed: usize| if i == at { n } else { needed };
         Lengths { table: one(0, table), work: one(1, work), result: one(2, result), bytes: one(3, image) }
@@ -67,7 +67,7 @@ fn every_length(random: &mut Random, rows: &[Row], order: u32, space: Space) -> 
         for n in 0..=needed + 3 {
             for call in calls(random, rows, order, space).into_iter().filter(|call| is_lent(call, at)) {
                 let mut areas = lent(random, rows, of(at, n));
-                if call == Call::ReadList {
+                if matches!(call, Call::ReadList { .. }) {
                     areas.bytes = item_lists::list(random, order, 4);
                 }
                 compare(&call, &mut areas, random);
@@ -81,7 +81,7 @@ fn every_length(random: &mut Random, rows: &[Row], order: u32, space: Space) -> 
 // Whether the call is lent this area: table, work, result, bytes.
 fn is_lent(call: &Call, at: usize) -> bool {
     match call {
-        Call::Add { .. } | Call::Remove { .. } | Call::ReadList => at <= 1,
+        Call::Add { .. } | Call::Remove { .. } | Call::ReadList { .. } => at <= 1,
         Call::Range { .. } | Call::Nearest { .. } => at == 0 || at == 2,
         Call::Load | Call::Write => at == 0 || at == 3,
         _ => at == 0,
@@ -105,10 +105,9 @@ fn areas_of_every_small_length() {
 #[test]
 fn images_of_every_length() {
     let mut random = Random::new(5);
-    for (order, metric, form) in (0..=4).flat_map(|order| (0..6).map(move |n| (order, n % 3, n / 3))) {
+    for (order, metric, form) in (0..=4).flat_map(|order| (0..9).map(move |n| (order, n % 3, n / 3))) {
         let space = if form == 0 { Space::plain(metric) } else { random.space(metric) };
-        let written = bytes(&sound::table(&mut random, order, space));
-        let image = if form == 0 { images::older(&written) } else { written };
+        let image = of_form(form as u16, &sound::table(&mut random, order, space));
         let mut load = |bytes: &[u8], rows: usize| {
             let mut areas = Areas { table: random.fill(rows, any_row), bytes: bytes.to_vec(), ..Areas::default() };
             compare(&Call::Load, &mut areas, &mut random).refusal

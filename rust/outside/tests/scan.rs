@@ -2,11 +2,11 @@
 
 use outside::random::Random;
 use reference::item::{Space, distance};
-use vpindex::{Metric, Order, Profile, Refusal, Table, Tag, Weights};
+use vpindex::{Day, Metric, Order, Profile, Refusal, Table, Tag, Weights};
 
 struct Both {
     table: Table,
-    items: Vec<(Tag, Profile)>,
+    items: Vec<(Tag, Profile, Day)>,
     random: Random,
 }
 
@@ -22,8 +22,9 @@ impl Both {
 
     fn add(&mut self, national: u64) {
         let (tag, profile) = (Tag::new(36, national).expect("valid"), self.profile());
-        match self.table.add(tag, &profile) {
-            Ok(_) => self.items.push((tag, profile)),
+        let day = Day::new(self.random.day()).expect("not 0");
+        match self.table.add(tag, &profile, day) {
+            Ok(_) => self.items.push((tag, profile, day)),
             Err(refusal) => {
                 assert_eq!((refusal, self.items.len()), (Refusal::Full, self.table.order().capacity()));
             }
@@ -35,28 +36,30 @@ impl Both {
             return;
         }
         let at = self.random.below(self.items.len());
-        let (tag, profile) = self.items.swap_remove(at);
-        assert_eq!(self.table.look_up(tag).expect("live").profile, profile);
+        let (tag, profile, day) = self.items.swap_remove(at);
+        let found = self.table.look_up(tag).expect("live");
+        assert_eq!((found.profile, found.day), (profile, day));
         self.table.remove(tag).expect("live");
     }
 
-    // every item by distance, then tag
-    fn scan(&self, query: &Profile) -> Vec<(u32, Tag)> {
+    // every item not weighed before the first day, by distance, then tag
+    fn scan(&self, query: &Profile, first_day: Option<Day>) -> Vec<(u32, Tag)> {
         let space = Space { metric: self.table.metric().get(), weights: self.table.weights().each() };
         let away = |profile| distance(&space, &plain(profile), &plain(query));
-        let mut all: Vec<_> = self.items.iter().map(|(tag, profile)| (away(profile), *tag)).collect();
+        let since = self.items.iter().filter(|item| first_day.is_none_or(|first| item.2 >= first));
+        let mut all: Vec<_> = since.map(|(tag, profile, _)| (away(profile), *tag)).collect();
         all.sort_unstable();
         all
     }
 
     fn search(&mut self) {
         let (query, radius) = (self.profile(), self.random.reach());
-        let count = 1 + self.random.below(40);
-        let all = self.scan(&query);
+        let (count, first_day) = (1 + self.random.below(40), Day::new(self.random.first_day()).ok());
+        let all = self.scan(&query, first_day);
         let within: Vec<_> = all.iter().copied().filter(|hit| hit.0 <= radius).collect();
-        let hits = self.table.range(&query, radius);
+        let hits = self.table.range(&query, radius, first_day);
         assert!(hits.into_iter().map(|hit| (hit.distance(), hit.tag())).eq(within));
-        let hits = self.table.nearest(&query, count as u32).expect("room for all");
+        let hits = self.table.nearest(&query, count as u32, first_day).expect("room for all");
         assert!(hits.into_iter().map(|hit| (hit.distance(), hit.tag())).eq(all.into_iter().take(count)));
     }
 

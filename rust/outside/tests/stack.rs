@@ -16,7 +16,10 @@ fn table(random: &mut Random, space: Space, sizes: &[(usize, u32, u32)]) -> Tabl
     let mut buckets = vec![Bucket::default(); ORDER as usize + 1];
     let mut nationals = 1u64..;
     for &(k, built, live) in sizes {
-        let item = |national| Slot { tag: 36_000_000_000_000 + national, profile: random.profile(), ..Slot::default() };
+        let item = |national| {
+            let (profile, day) = (random.profile(), random.day() as u32);
+            Slot { tag: 36_000_000_000_000 + national, profile, day, ..Slot::default() }
+        };
         let items: Vec<Slot> = nationals.by_ref().take(built as usize).map(item).collect();
         let mut slots = layout(&space, &items);
         slots[live as usize..].iter_mut().for_each(|slot| slot.mark = 1);
@@ -67,17 +70,17 @@ fn every_call_in_a_small_stack() {
         let calls = [
             ("fresh", Call::Fresh { order: ORDER, space }, &full),
             ("load", Call::Load, &full),
-            ("add", Call::Add { tag, profile: query }, &one_short),
+            ("add", Call::Add { tag, profile: query, day: 1 }, &one_short),
             ("remove", Call::Remove { tag: first.tag }, &thin),
             ("look up", Call::LookUp { tag: first.tag }, &thin),
-            ("range", Call::Range { query, radius: u32::MAX }, &full),
-            ("nearest", Call::Nearest { query, k: u32::MAX }, &full),
+            ("range", Call::Range { query, radius: u32::MAX, first_day: 0 }, &full),
+            ("nearest", Call::Nearest { query, k: u32::MAX, first_day: 0 }, &full),
             ("write", Call::Write, &full),
-            ("read list", Call::ReadList, &one_short),
+            ("read list", Call::ReadList { day: 1 }, &one_short),
         ];
         for (name, call, table) in calls {
             let mut areas = areas(table);
-            if call == Call::ReadList {
+            if matches!(call, Call::ReadList { .. }) {
                 areas.bytes = item_lists::of(&[item_lists::line(tag, query.measures)]);
             }
             let most = if call == Call::Load { 72 * 1024 } else { 4 * 1024 };

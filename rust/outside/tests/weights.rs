@@ -1,69 +1,32 @@
 //! Weights: each at its own measure, at the ends of their range and beyond it, and differences that saturate.
 
-use outside::calls::{Areas, Call, Reply, compare};
+use outside::calls::Call;
+use outside::fixture::{Fixture, measured, tag};
 use outside::foreign::any_row;
 use outside::item_lists;
-use outside::random::{MAX_MEASURE, MIN_TAG, Random};
+use outside::random::{MAX_MEASURE, Random};
 use outside::sound;
 use reference::item::{Profile, ROW_WORDS, Row, Slot, Space};
-use reference::table::{Table, capacity, put_bucket, put_table, table_rows};
+use reference::table::{Table, put_bucket, put_table, table_rows};
 use reference::tree::layout;
 
 const BAD: [u32; 5] = [101, 256, 257, 1 << 31, u32::MAX];
 
-fn tag(national: u64) -> u64 {
-    36 * MIN_TAG + national
+fn fresh(order: u32, metric: u32, weights: [u32; 4]) -> Fixture {
+    Fixture::fresh(order, Space { metric, weights })
 }
 
-fn measured(measures: [i32; 4]) -> Profile {
-    Profile { measures, code: [0, 0] }
+fn add(fixture: &mut Fixture, national: u64, profile: Profile) {
+    assert_eq!(fixture.add(national, profile).refusal, 0);
 }
 
-struct Fixture {
-    areas: Areas,
-    random: Random,
+// entries as national and distance
+fn nearest(fixture: &mut Fixture, measures: [i32; 4], k: u32) -> Vec<(u64, u64)> {
+    fixture.nearest(measured(measures), k).0
 }
 
-impl Fixture {
-    fn of(rows: Vec<Row>) -> Fixture {
-        let areas = Areas {
-            table: rows,
-            work: vec![[1; ROW_WORDS]; capacity(4)],
-            result: vec![[1; 2]; capacity(4)],
-            bytes: vec![1; 4096],
-        };
-        Fixture { areas, random: Random::new(11) }
-    }
-
-    fn fresh(order: u32, metric: u32, weights: [u32; 4]) -> Fixture {
-        let mut fixture = Fixture::of(vec![[1; ROW_WORDS]; table_rows(order)]);
-        assert_eq!(fixture.call(Call::Fresh { order, space: Space { metric, weights } }).refusal, 0);
-        fixture
-    }
-
-    fn call(&mut self, call: Call) -> Reply {
-        compare(&call, &mut self.areas, &mut self.random)
-    }
-
-    fn add(&mut self, national: u64, measures: [i32; 4]) {
-        let call = Call::Add { tag: tag(national), profile: measured(measures) };
-        assert_eq!(self.call(call).refusal, 0);
-    }
-
-    // entries as national and distance
-    fn found(&mut self, call: Call) -> Vec<(u64, u64)> {
-        let reply = self.call(call);
-        assert_eq!(reply.refusal, 0);
-        self.areas.result[..reply.found as usize].iter().map(|entry| (entry[0] - tag(0), entry[1])).collect()
-    }
-
-    fn nearest(&mut self, measures: [i32; 4], k: u32) -> Vec<(u64, u64)> {
-        self.found(Call::Nearest { query: measured(measures), k })
-    }
-
-    fn range(&mut self, measures: [i32; 4], radius: u32) -> Vec<(u64, u64)> {
-        self.found(Call::Range { query: measured(measures), radius })
-    }
+fn range(fixture: &mut Fixture, measures: [i32; 4], radius: u32) -> Vec<(u64, u64)> {
+    fixture.range(measured(measures), radius).0
 }
 
 // Row 0 has order, metric and weights, and zeros behind them.
@@ -71,9 +34,9 @@ impl Fixture {
 fn fresh_writes_the_weights() {
     for metric in 0..=2 {
         for weights in [[1; 4], [0; 4], [100; 4], [3, 0, 100, 1]] {
-            let fixture = Fixture::fresh(2, metric, weights);
+            let fixture = fresh(2, metric, weights);
             let [a, b, c, d] = weights;
-            assert_eq!(fixture.areas.table[0], [2, metric, a, b, c, d, 0, 0, 0, 0, 0, 0]);
+            assert_eq!(fixture.areas.table[0], [2, metric, a, b, c, d, 0, 0, 0, 0, 0, 0, 0]);
             assert!(fixture.areas.table[1..].iter().all(|row| *row == [0; ROW_WORDS]));
         }
     }
@@ -86,11 +49,11 @@ fn fresh_refuses_a_weight_above_100() {
         for (weight, rows) in BAD.iter().flat_map(|weight| [0, table_rows(2)].map(|rows| (*weight, rows))) {
             let mut weights = [1; 4];
             weights[at] = weight;
-            let mut fixture = Fixture::of(vec![[7; ROW_WORDS]; rows]);
-            assert_eq!(fixture.call(Call::Fresh { order: 2, space: Space { metric, weights } }).refusal, 32);
+            let mut fixture = Fixture::of(2, vec![[7; ROW_WORDS]; rows]);
+            assert_eq!(fixture.refusal(Call::Fresh { order: 2, space: Space { metric, weights } }), 32);
             weights[at] = 100;
             let refusal = if rows == 0 { 23 } else { 0 };
-            assert_eq!(fixture.call(Call::Fresh { order: 2, space: Space { metric, weights } }).refusal, refusal);
+            assert_eq!(fixture.refusal(Call::Fresh { order: 2, space: Space { metric, weights } }), refusal);
         }
     }
 }
@@ -103,15 +66,15 @@ fn each_measure_has_its_own_weight() {
         let mut measures = [0; 4];
         measures[at] = -11;
         for (metric, distance) in [(0, 11 * weight), (1, 0), (2, 11 * weight)] {
-            let mut fixture = Fixture::fresh(0, metric, weights);
-            fixture.add(1, measures);
-            assert_eq!(fixture.nearest([0; 4], 1), [(1, distance as u64)]);
+            let mut fixture = fresh(0, metric, weights);
+            add(&mut fixture, 1, measured(measures));
+            assert_eq!(nearest(&mut fixture, [0; 4], 1), [(1, distance as u64)]);
         }
     }
     for (metric, distance) in [(0, 2 + 6 + 15 + 28), (1, 0), (2, 28)] {
-        let mut fixture = Fixture::fresh(0, metric, weights);
-        fixture.add(1, [1, -2, 3, -4]);
-        assert_eq!(fixture.nearest([0; 4], 1), [(1, distance)]);
+        let mut fixture = fresh(0, metric, weights);
+        add(&mut fixture, 1, measured([1, -2, 3, -4]));
+        assert_eq!(nearest(&mut fixture, [0; 4], 1), [(1, distance)]);
     }
 }
 
@@ -120,15 +83,15 @@ fn each_measure_has_its_own_weight() {
 fn weights_change_the_order() {
     let herd = [[0, 30, 0, 0], [5, 0, 0, 0], [0, 0, 40, 0], [9, 0, 0, 9]];
     let with = |weights| {
-        let mut fixture = Fixture::fresh(2, 0, weights);
-        (1..).zip(herd).for_each(|(national, measures)| fixture.add(national, measures));
+        let mut fixture = fresh(2, 0, weights);
+        (1..).zip(herd).for_each(|(national, measures)| add(&mut fixture, national, measured(measures)));
         fixture
     };
     let mut plain = with([1; 4]);
-    assert_eq!(plain.nearest([0; 4], 4), [(2, 5), (4, 18), (1, 30), (3, 40)]);
+    assert_eq!(nearest(&mut plain, [0; 4], 4), [(2, 5), (4, 18), (1, 30), (3, 40)]);
     let mut weighted = with([10, 1, 1, 0]);
-    assert_eq!(weighted.nearest([0; 4], 4), [(1, 30), (3, 40), (2, 50), (4, 90)]);
-    assert_eq!(weighted.range([0; 4], 40), [(1, 30), (3, 40)]);
+    assert_eq!(nearest(&mut weighted, [0; 4], 4), [(1, 30), (3, 40), (2, 50), (4, 90)]);
+    assert_eq!(range(&mut weighted, [0; 4], 40), [(1, 30), (3, 40)]);
     assert_ne!(plain.areas.table[7..], weighted.areas.table[7..]);
 }
 
@@ -145,23 +108,23 @@ fn unweighted(metric: u32, p: &Profile, q: &Profile) -> u64 {
 #[test]
 fn weights_of_one_are_the_plain_distances() {
     for metric in 0..=2 {
-        let mut fixture = Fixture::fresh(4, metric, [1; 4]);
+        let mut fixture = fresh(4, metric, [1; 4]);
         let profiles = fixture.random.fill(16, |random| random.profile());
         for (profile, national) in profiles.iter().zip(1..) {
-            assert_eq!(fixture.call(Call::Add { tag: tag(national), profile: *profile }).refusal, 0);
+            add(&mut fixture, national, *profile);
         }
         for query in &profiles {
             let away = |(profile, national)| (national, unweighted(metric, profile, query));
             let mut expected: Vec<(u64, u64)> = profiles.iter().zip(1..).map(away).collect();
             expected.sort_by_key(|&(national, distance)| (distance, national));
-            assert_eq!(fixture.found(Call::Nearest { query: *query, k: 16 }), expected);
+            assert_eq!(fixture.nearest(*query, 16).0, expected);
         }
         // measures of any 32 bits, in a foreign table
         for _ in 0..200 {
             let measures = fixture.random.any_profile().measures;
-            let mut foreign = Fixture::of(foreign(Space::plain(metric), measures));
+            let mut foreign = Fixture::of(0, foreign(Space::plain(metric), measures));
             let distance = unweighted(metric, &measured(measures), &Profile::default());
-            assert_eq!(foreign.nearest([0; 4], 1), [(1, distance)]);
+            assert_eq!(nearest(&mut foreign, [0; 4], 1), [(1, distance)]);
         }
     }
 }
@@ -170,25 +133,25 @@ fn weights_of_one_are_the_plain_distances() {
 #[test]
 fn weights_of_zero() {
     for metric in [0, 2] {
-        let mut fixture = Fixture::fresh(2, metric, [0; 4]);
+        let mut fixture = fresh(2, metric, [0; 4]);
         for national in [3, 1, 4, 2] {
-            fixture.add(national, [national as i32 * 1000, -MAX_MEASURE, MAX_MEASURE, 0]);
+            add(&mut fixture, national, measured([national as i32 * 1000, -MAX_MEASURE, MAX_MEASURE, 0]));
         }
-        assert_eq!(fixture.range([0; 4], 0), [(1, 0), (2, 0), (3, 0), (4, 0)]);
-        assert_eq!(fixture.nearest([0; 4], 2), [(1, 0), (2, 0)]);
+        assert_eq!(range(&mut fixture, [0; 4], 0), [(1, 0), (2, 0), (3, 0), (4, 0)]);
+        assert_eq!(nearest(&mut fixture, [0; 4], 2), [(1, 0), (2, 0)]);
     }
-    let mut fixture = Fixture::fresh(0, 1, [0; 4]);
-    assert_eq!(fixture.call(Call::Add { tag: tag(1), profile: Profile { measures: [0; 4], code: [7, 1] } }).refusal, 0);
-    assert_eq!(fixture.nearest([0; 4], 1), [(1, 4)]);
+    let mut fixture = fresh(0, 1, [0; 4]);
+    add(&mut fixture, 1, Profile { measures: [0; 4], code: [7, 1] });
+    assert_eq!(nearest(&mut fixture, [0; 4], 1), [(1, 4)]);
 }
 
 // The largest distance of valid items.
 #[test]
 fn the_largest_of_valid_items() {
     for (metric, distance) in [(0, 800_000_000), (2, 200_000_000)] {
-        let mut fixture = Fixture::fresh(0, metric, [100; 4]);
-        fixture.add(1, [MAX_MEASURE; 4]);
-        assert_eq!(fixture.nearest([-MAX_MEASURE; 4], 1), [(1, distance)]);
+        let mut fixture = fresh(0, metric, [100; 4]);
+        add(&mut fixture, 1, measured([MAX_MEASURE; 4]));
+        assert_eq!(nearest(&mut fixture, [-MAX_MEASURE; 4], 1), [(1, distance)]);
     }
 }
 
@@ -225,11 +188,11 @@ fn differences_that_saturate() {
     ];
     for (weights, measures, sum, largest) in cases {
         for (metric, distance) in [(0, sum), (1, 0), (2, largest)] {
-            let mut fixture = Fixture::of(foreign(Space { metric, weights }, measures));
-            assert_eq!(fixture.nearest([0; 4], 1), [(1, distance)], "{weights:?}, {measures:?}, metric {metric}");
-            assert_eq!(fixture.range([0; 4], u32::MAX), [(1, distance)]);
+            let mut fixture = Fixture::of(0, foreign(Space { metric, weights }, measures));
+            assert_eq!(nearest(&mut fixture, [0; 4], 1), [(1, distance)], "{weights:?}, {measures:?}, metric {metric}");
+            assert_eq!(range(&mut fixture, [0; 4], u32::MAX), [(1, distance)]);
             if let Some(less) = (distance as u32).checked_sub(1) {
-                assert_eq!(fixture.range([0; 4], less), []);
+                assert_eq!(range(&mut fixture, [0; 4], less), []);
             }
         }
     }
@@ -247,14 +210,14 @@ fn builds_of_saturated_distances() {
         }
         let mut rows = vec![[0; ROW_WORDS]; table_rows(4)];
         put_table(&mut rows, &table);
-        let mut fixture = Fixture { random: random.clone(), ..Fixture::of(rows) };
+        let mut fixture = Fixture { random: random.clone(), ..Fixture::of(4, rows) };
         for n in 0..12 {
             let (tag, query) = (random.tag(sound::pool(4)), random.profile());
             fixture.call(match n % 4 {
-                0 => Call::Add { tag, profile: query },
+                0 => Call::Add { tag, profile: query, day: random.day() },
                 1 => Call::Remove { tag },
-                2 => Call::Range { query, radius: random.reach() },
-                _ => Call::Nearest { query, k: 1 + random.below(16) as u32 },
+                2 => Call::Range { query, radius: random.reach(), first_day: random.first_day() },
+                _ => Call::Nearest { query, k: 1 + random.below(16) as u32, first_day: random.first_day() },
             });
         }
     }
@@ -263,13 +226,13 @@ fn builds_of_saturated_distances() {
 fn every_call() -> [Call; 7] {
     let query = Profile::default();
     [
-        Call::Add { tag: tag(9), profile: query },
+        Call::Add { tag: tag(9), profile: query, day: 1 },
         Call::Remove { tag: tag(1) },
         Call::LookUp { tag: tag(1) },
-        Call::Range { query, radius: 0 },
-        Call::Nearest { query, k: 1 },
+        Call::Range { query, radius: 0, first_day: 0 },
+        Call::Nearest { query, k: 1, first_day: 0 },
         Call::Write,
-        Call::ReadList,
+        Call::ReadList { day: 1 },
     ]
 }
 
@@ -282,25 +245,25 @@ fn a_lent_table_with_a_weight_above_100() {
         for (weight, refusal) in BAD.map(|weight| (weight, 24)).into_iter().chain([(0, 0), (100, 0)]) {
             for call in every_call() {
                 let lent = |rows: usize, work: usize| {
-                    let mut fixture = Fixture::of(foreign(space(metric), [3; 4]));
+                    let mut fixture = Fixture::of(0, foreign(space(metric), [3; 4]));
                     fixture.areas.table[0][2 + at] = weight;
                     fixture.areas.table.truncate(rows);
                     fixture.areas.work.truncate(work);
-                    if call == Call::ReadList {
+                    if matches!(call, Call::ReadList { .. }) {
                         fixture.areas.bytes = item_lists::of(&[item_lists::line(0, [0; 4])]);
                     }
-                    fixture.call(call).refusal
+                    fixture.refusal(call)
                 };
                 // the one item fills the table, and a list's line has no tag
                 let own = match call {
                     Call::Add { .. } => 22,
-                    Call::ReadList => 1,
+                    Call::ReadList { .. } => 1,
                     _ => 0,
                 };
                 let whole = table_rows(0);
                 assert_eq!(lent(whole, 4), if refusal == 0 { own } else { 24 }, "{call:?}");
                 assert_eq!(lent(whole - 1, 4), 23, "{call:?}");
-                let asks_work = matches!(call, Call::Add { .. } | Call::Remove { .. } | Call::ReadList);
+                let asks_work = matches!(call, Call::Add { .. } | Call::Remove { .. } | Call::ReadList { .. });
                 assert_eq!(lent(whole, 0) == 23, asks_work, "{call:?}");
             }
         }
@@ -311,10 +274,10 @@ fn a_lent_table_with_a_weight_above_100() {
 #[test]
 fn weights_are_tested_with_the_sizes() {
     let broken = |change: &dyn Fn(&mut Row), rows: usize| {
-        let mut fixture = Fixture::of(foreign(Space::plain(0), [3; 4]));
+        let mut fixture = Fixture::of(0, foreign(Space::plain(0), [3; 4]));
         change(&mut fixture.areas.table[0]);
         fixture.areas.table.truncate(rows);
-        fixture.call(Call::LookUp { tag: 0 }).refusal
+        fixture.refusal(Call::LookUp { tag: 0 })
     };
     let whole = table_rows(0);
     assert_eq!(
@@ -323,25 +286,25 @@ fn weights_are_tested_with_the_sizes() {
     );
     assert_eq!([broken(&|row| row[2] = 101, whole), broken(&|_| (), whole)], [24, 1]);
     assert_eq!(broken(&|row| (row[1], row[2]) = (3, 101), 1), 24);
-    let mut fixture = Fixture::of(vec![]);
-    assert_eq!(fixture.call(Call::LookUp { tag: tag(1) }).refusal, 23);
+    let mut fixture = Fixture::of(0, vec![]);
+    assert_eq!(fixture.refusal(Call::LookUp { tag: tag(1) }), 23);
 }
 
-// Words 6 to 11 of row 0 are ignored, and no call but fresh and load writes row 0.
+// Words 6 to 12 of row 0 are ignored, and no call but fresh and load writes row 0.
 #[test]
 fn row_0_is_left_as_it_was() {
     let mut random = Random::new(13);
     for metric in 0..=2 {
-        let mut fixture = Fixture::fresh(3, metric, [0, 1, 7, 100]);
+        let mut fixture = fresh(3, metric, [0, 1, 7, 100]);
         let other = any_row(&mut random);
         fixture.areas.table[0][6..].copy_from_slice(&other[6..]);
         let header = fixture.areas.table[0];
         for n in 1..=8 {
-            fixture.add(n, [n as i32, 0, -(n as i32), 1]);
-            fixture.nearest([0; 4], 3);
+            add(&mut fixture, n, measured([n as i32, 0, -(n as i32), 1]));
+            nearest(&mut fixture, [0; 4], 3);
         }
         for n in 1..=7 {
-            assert_eq!(fixture.call(Call::Remove { tag: tag(n) }).refusal, 0);
+            fixture.remove(n);
         }
         assert_eq!(fixture.areas.table[0], header);
     }

@@ -2,7 +2,9 @@
 //! It is fed a call's arguments and the lengths of the lent areas, never an answer or what the table holds.
 
 use crate::image;
-use crate::item::{MAX_METRIC, MAX_ORDER, Profile, Space, check_measures, check_tag, check_weights, distance};
+use crate::item::{
+    Item, MAX_METRIC, MAX_ORDER, Profile, Slot, Space, check_day, check_measures, check_tag, check_weights, distance,
+};
 use crate::list::{self, ListRead};
 use crate::refusal::{
     ALREADY_LIVE, BAD_METRIC, BAD_ORDER, FULL, NO_COUNT, NO_ROOM, NOT_LIVE, Refused, SHORT_AREA, ensure,
@@ -18,7 +20,7 @@ pub struct Book {
     /// By which distances are worked out.
     pub space: Space,
     /// As handed over, in any order.
-    pub items: Vec<(u64, Profile)>,
+    pub items: Vec<Item>,
 }
 
 impl Book {
@@ -36,8 +38,7 @@ impl Book {
     pub fn load(&mut self, rows: usize, bytes: &[u8]) -> Result<(), Refused> {
         let read = image::read(bytes, rows)?;
         let live = read.buckets.iter().flat_map(Bucket::live_items);
-        let items = live.map(|slot| (slot.tag, slot.profile)).collect();
-        *self = Book { order: read.order, space: read.space, items };
+        *self = Book { order: read.order, space: read.space, items: live.map(Slot::item).collect() };
         Ok(())
     }
 
@@ -50,23 +51,24 @@ impl Book {
     }
 
     fn find(&self, tag: u64) -> Option<usize> {
-        self.items.iter().position(|item| item.0 == tag)
+        self.items.iter().position(|item| item.tag == tag)
     }
 
     /// Puts the item in.
-    pub fn add(&mut self, rows: usize, work: usize, tag: u64, profile: Profile) -> Result<(), Refused> {
+    pub fn add(&mut self, rows: usize, work: usize, item: Item) -> Result<(), Refused> {
         self.check_areas(rows, work)?;
-        check_tag(tag)?;
-        check_measures(&profile)?;
-        ensure(self.find(tag).is_none(), ALREADY_LIVE)?;
+        check_tag(item.tag)?;
+        check_measures(&item.profile)?;
+        check_day(item.day)?;
+        ensure(self.find(item.tag).is_none(), ALREADY_LIVE)?;
         ensure(self.items.len() < capacity(self.order), FULL)?;
-        self.items.push((tag, profile));
+        self.items.push(item);
         Ok(())
     }
 
-    /// Puts the items of a herd list in, as far as its lines are accepted. It knows of no distances.
-    pub fn read_list(&mut self, rows: usize, work: usize, bytes: &[u8]) -> ListRead {
-        list::read(bytes, |tag, profile| self.add(rows, work, tag, profile).map(|()| 0))
+    /// Puts the items of a herd list in, all of one day, as far as its lines are accepted. It knows of no distances.
+    pub fn read_list(&mut self, rows: usize, work: usize, bytes: &[u8], day: u16) -> ListRead {
+        list::read(bytes, |tag, profile| self.add(rows, work, Item { tag, profile, day: day as u32 }).map(|()| 0))
     }
 
     /// Strikes the item out.
@@ -78,37 +80,51 @@ impl Book {
         Ok(())
     }
 
-    /// Gives the item's profile.
-    pub fn look_up(&self, rows: usize, tag: u64) -> Result<Profile, Refused> {
+    /// Gives the item.
+    pub fn look_up(&self, rows: usize, tag: u64) -> Result<Item, Refused> {
         self.check_table(rows)?;
         check_tag(tag)?;
-        self.find(tag).map(|at| self.items[at].1).ok_or(NOT_LIVE)
+        self.find(tag).map(|at| self.items[at]).ok_or(NOT_LIVE)
     }
 
-    // Every item by distance, then tag.
-    fn by_distance(&self, query: &Profile) -> Vec<Hit> {
-        let mut hits: Vec<Hit> =
-            self.items.iter().map(|(tag, profile)| (distance(&self.space, profile, query), *tag)).collect();
+    // Every item that is not of a day before the first, by distance, then tag.
+    fn by_distance(&self, query: &Profile, first_day: u16) -> Vec<Hit> {
+        let since = self.items.iter().filter(|item| item.day >= first_day as u32);
+        let mut hits: Vec<Hit> = since.map(|item| (distance(&self.space, &item.profile, query), item.tag)).collect();
         hits.sort_unstable();
         hits
     }
 
-    /// All within the radius.
-    pub fn range(&self, rows: usize, room: usize, query: &Profile, radius: u32) -> Result<Vec<Hit>, Refused> {
+    /// All of those within the radius.
+    pub fn range(
+        &self,
+        rows: usize,
+        room: usize,
+        query: &Profile,
+        radius: u32,
+        first_day: u16,
+    ) -> Result<Vec<Hit>, Refused> {
         self.check_table(rows)?;
         check_measures(query)?;
-        let mut hits = self.by_distance(query);
+        let mut hits = self.by_distance(query, first_day);
         hits.retain(|hit| hit.0 <= radius);
         ensure(hits.len() <= room, NO_ROOM)?;
         Ok(hits)
     }
 
-    /// The first k of all.
-    pub fn nearest(&self, rows: usize, room: usize, query: &Profile, k: u32) -> Result<Vec<Hit>, Refused> {
+    /// The first k of those.
+    pub fn nearest(
+        &self,
+        rows: usize,
+        room: usize,
+        query: &Profile,
+        k: u32,
+        first_day: u16,
+    ) -> Result<Vec<Hit>, Refused> {
         self.check_table(rows)?;
         check_measures(query)?;
         ensure(k != 0, NO_COUNT)?;
-        let mut hits = self.by_distance(query);
+        let mut hits = self.by_distance(query, first_day);
         hits.truncate(k as usize);
         ensure(hits.len() <= room, NO_ROOM)?;
         Ok(hits)

@@ -2,7 +2,8 @@
 
 use crate::image;
 use crate::item::{
-    Entry, MAX_METRIC, MAX_ORDER, Profile, ROW_WORDS, Row, Slot, Space, check_measures, check_tag, check_weights,
+    Entry, Item, MAX_METRIC, MAX_ORDER, Profile, ROW_WORDS, Row, Slot, Space, check_day, check_measures, check_tag,
+    check_weights,
 };
 use crate::list::{self, ListRead};
 use crate::refusal::{
@@ -35,15 +36,16 @@ pub fn load(table: &mut [Row], bytes: &[u8]) -> Result<(), Refused> {
 }
 
 /// Adds an item.
-pub fn add(rows: &mut [Row], work: &mut [Row], tag: u64, profile: Profile) -> Result<Added, Refused> {
-    let table = Table::open_to_change(rows, work)?;
+pub fn add(rows: &mut [Row], work: &mut [Row], tag: u64, profile: Profile, day: u16) -> Result<Added, Refused> {
+    let (table, day) = (Table::open_to_change(rows, work)?, day as u32);
     check_tag(tag)?;
     check_measures(&profile)?;
+    check_day(day)?;
     ensure(table.find(tag).is_none(), ALREADY_LIVE)?;
     ensure(table.live() < capacity(table.order), FULL)?;
     let empty = table.buckets.iter().position(|bucket| !bucket.in_use());
     let k = empty.unwrap_or(table.order as usize + 1);
-    let mut items = vec![Slot { tag, profile, ..Slot::default() }];
+    let mut items = vec![Slot { tag, profile, day, ..Slot::default() }];
     items.extend(table.buckets[..k].iter().flat_map(Bucket::live_items));
     let target = if 2 * items.len() > 1 << k { k } else { k - 1 };
     let distances = rebuild(rows, &table, &items, target, 0..k);
@@ -51,9 +53,9 @@ pub fn add(rows: &mut [Row], work: &mut [Row], tag: u64, profile: Profile) -> Re
     Ok((target as u32, distances))
 }
 
-/// Adds the lines of a herd list, as far as they are accepted.
-pub fn read_list(rows: &mut [Row], work: &mut [Row], bytes: &[u8]) -> ListRead {
-    list::read(bytes, |tag, profile| add(rows, work, tag, profile).map(|(_, distances)| distances))
+/// Adds the lines of a herd list, all of one day, as far as they are accepted.
+pub fn read_list(rows: &mut [Row], work: &mut [Row], bytes: &[u8], day: u16) -> ListRead {
+    list::read(bytes, |tag, profile| add(rows, work, tag, profile, day).map(|(_, distances)| distances))
 }
 
 /// Removes an item, and gives the distances of the build.
@@ -108,31 +110,42 @@ fn rebuild(
     cost(items.len())
 }
 
-/// The bucket and the profile of an item.
-pub fn look_up(rows: &[Row], tag: u64) -> Result<(u32, Profile), Refused> {
+/// The bucket of an item, and the item.
+pub fn look_up(rows: &[Row], tag: u64) -> Result<(u32, Item), Refused> {
     let table = Table::open(rows, |_| true)?;
     check_tag(tag)?;
     let (k, slot) = table.find(tag).ok_or(NOT_LIVE)?;
-    Ok((k as u32, table.buckets[k].slots[slot].profile))
+    Ok((k as u32, table.buckets[k].slots[slot].item()))
 }
 
-/// All within the radius.
-pub fn range(rows: &[Row], result: &mut [Entry], query: Profile, radius: u32) -> Result<Searched, Refused> {
+/// All within the radius that are not of a day before the first.
+pub fn range(
+    rows: &[Row],
+    result: &mut [Entry],
+    query: Profile,
+    radius: u32,
+    first_day: u16,
+) -> Result<Searched, Refused> {
     let table = Table::open(rows, |_| true)?;
     check_measures(&query)?;
-    search(&table, result, query, Wanted::Within(radius))
+    search(&table, result, Search::new(table.space, query, Wanted::Within(radius), first_day))
 }
 
-/// The k nearest.
-pub fn nearest(rows: &[Row], result: &mut [Entry], query: Profile, k: u32) -> Result<Searched, Refused> {
+/// The k nearest of those that are not of a day before the first.
+pub fn nearest(
+    rows: &[Row],
+    result: &mut [Entry],
+    query: Profile,
+    k: u32,
+    first_day: u16,
+) -> Result<Searched, Refused> {
     let table = Table::open(rows, |_| true)?;
     check_measures(&query)?;
     ensure(k != 0, NO_COUNT)?;
-    search(&table, result, query, Wanted::Nearest(k))
+    search(&table, result, Search::new(table.space, query, Wanted::Nearest(k), first_day))
 }
 
-fn search(table: &Table, result: &mut [Entry], query: Profile, wanted: Wanted) -> Result<Searched, Refused> {
-    let mut search = Search::new(table.space, query, wanted);
+fn search(table: &Table, result: &mut [Entry], mut search: Search) -> Result<Searched, Refused> {
     for bucket in table.buckets.iter().rev() {
         search.visit(&bucket.slots);
     }

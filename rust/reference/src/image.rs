@@ -2,19 +2,35 @@
 
 use std::collections::HashSet;
 
-use crate::item::{MAX_METRIC, MAX_ORDER, Profile, Slot, Space, check_measures, check_tag, check_weights};
+use crate::item::{MAX_METRIC, MAX_ORDER, Profile, Slot, Space, check_day, check_measures, check_tag, check_weights};
 use crate::refusal::{BAD_IMAGE, BAD_LENGTH, BAD_METRIC, BAD_ORDER, BAD_TABLE, Refused, SHORT_AREA, ensure};
 use crate::table::{Bucket, Table, sizes_pass, table_rows};
 use crate::tree::is_layout;
 
 /// The newest form, the one that is written.
-pub const LAST_FORM: u16 = 1;
+pub const LAST_FORM: u16 = 2;
+
+// Form 0 is from before there were weights, form 1 from before there were days.
+fn has_weights(form: u16) -> bool {
+    form >= 1
+}
+
+fn has_days(form: u16) -> bool {
+    form >= 2
+}
 
 /// The image of a table, in the newest form.
 pub fn bytes(table: &Table) -> Vec<u8> {
+    of_form(LAST_FORM, table)
+}
+
+/// The image of a table as this form has it: an older one without the weights or the days.
+pub fn of_form(form: u16, table: &Table) -> Vec<u8> {
     let mut bytes = vec![table.order as u8, table.space.metric as u8];
-    bytes.extend(LAST_FORM.to_le_bytes());
-    bytes.extend(table.space.weights.map(|weight| weight as u8));
+    bytes.extend(form.to_le_bytes());
+    if has_weights(form) {
+        bytes.extend(table.space.weights.map(|weight| weight as u8));
+    }
     for bucket in &table.buckets {
         bytes.extend((bucket.built as u16).to_le_bytes());
         bytes.extend((bucket.live as u16).to_le_bytes());
@@ -24,12 +40,12 @@ pub fn bytes(table: &Table) -> Vec<u8> {
         bytes.extend(slot.tag.to_le_bytes());
     }
     for slot in slots() {
-        bytes.extend(record(slot));
+        bytes.extend(record(form, slot));
     }
     bytes
 }
 
-fn record(slot: &Slot) -> Vec<u8> {
+fn record(form: u16, slot: &Slot) -> Vec<u8> {
     let mut bytes = vec![];
     for measure in slot.profile.measures {
         bytes.extend(measure.to_le_bytes());
@@ -39,6 +55,9 @@ fn record(slot: &Slot) -> Vec<u8> {
     }
     bytes.extend(slot.threshold.to_le_bytes());
     bytes.extend(slot.mark.to_le_bytes());
+    if has_days(form) {
+        bytes.extend((slot.day as u16).to_le_bytes());
+    }
     bytes
 }
 
@@ -60,9 +79,13 @@ impl Reader<'_> {
         u64::from_le_bytes(self.take())
     }
 
-    // Form 0 has no weights: they are 1.
+    fn short(&mut self) -> u32 {
+        u16::from_le_bytes(self.take()) as u32
+    }
+
+    // They are 1 where there are none.
     fn weights(&mut self, form: u16) -> Result<[u32; 4], Refused> {
-        if form == 0 {
+        if !has_weights(form) {
             return Ok([1; 4]);
         }
         ensure(self.0.len() >= 4, BAD_LENGTH)?;
@@ -72,15 +95,22 @@ impl Reader<'_> {
     }
 
     fn size(&mut self) -> (u32, u32) {
-        let mut one = || u16::from_le_bytes(self.take()) as u32;
-        (one(), one())
+        (self.short(), self.short())
     }
 
-    fn record(&mut self, tag: u64) -> Slot {
+    // The day is 1 where there is none.
+    fn record(&mut self, form: u16, tag: u64) -> Slot {
         let measures = [0; 4].map(|_| self.word() as i32);
         let code = [0; 2].map(|_| self.long());
-        Slot { tag, profile: Profile { measures, code }, threshold: self.word(), mark: self.word() }
+        let (threshold, mark) = (self.word(), self.word());
+        let day = if has_days(form) { self.short() } else { 1 };
+        Slot { tag, profile: Profile { measures, code }, threshold, mark, day }
     }
+}
+
+// The bytes of a tag and its record.
+fn slot_bytes(form: u16) -> usize {
+    if has_days(form) { 50 } else { 48 }
 }
 
 /// The table of an image, to be put into so many rows; every check in its order.
@@ -98,25 +128,26 @@ pub fn read(bytes: &[u8], rows: usize) -> Result<Table, Refused> {
     let sizes: Vec<_> = (0..=order).map(|_| reader.size()).collect();
     ensure(sizes_pass(order, &sizes), BAD_TABLE)?;
     let total: usize = sizes.iter().map(|size| size.0 as usize).sum();
-    ensure(reader.0.len() == 48 * total, BAD_LENGTH)?;
+    ensure(reader.0.len() == slot_bytes(form) * total, BAD_LENGTH)?;
     ensure(rows >= table_rows(order), SHORT_AREA)?;
-    let buckets = buckets(&mut reader, &sizes, total);
+    let buckets = buckets(&mut reader, form, &sizes, total);
     let table = Table { order, space: Space { metric, weights }, buckets };
+    table.buckets.iter().flat_map(|bucket| &bucket.slots).try_for_each(|slot| check_day(slot.day))?;
     ensure(is_sound(&table), BAD_IMAGE)?;
     Ok(table)
 }
 
-fn buckets(reader: &mut Reader, sizes: &[(u32, u32)], total: usize) -> Vec<Bucket> {
+fn buckets(reader: &mut Reader, form: u16, sizes: &[(u32, u32)], total: usize) -> Vec<Bucket> {
     let tags: Vec<u64> = (0..total).map(|_| reader.long()).collect();
     let mut tags = tags.into_iter();
     let mut one = |&(built, live)| {
-        let slots = tags.by_ref().take(built as usize).map(|tag| reader.record(tag)).collect();
+        let slots = tags.by_ref().take(built as usize).map(|tag| reader.record(form, tag)).collect();
         Bucket { built, live, slots }
     };
     sizes.iter().map(&mut one).collect()
 }
 
-/// Whether fields and trees keep the rules; the sizes are taken to.
+/// Whether fields and trees keep the rules; sizes and days are taken to.
 pub fn is_sound(table: &Table) -> bool {
     let live = table.buckets.iter().flat_map(Bucket::live_items);
     table.buckets.iter().all(|bucket| bucket_is_sound(&table.space, bucket)) && distinct(live)

@@ -1,9 +1,9 @@
-//! Tags, profiles and slots, the three distances, and a slot's row.
+//! Tags, profiles, items and slots, the three distances, and a slot's row.
 
-use crate::refusal::{BAD_MEASURE, BAD_TAG, BAD_WEIGHT, Refused, ensure};
+use crate::refusal::{BAD_DAY, BAD_MEASURE, BAD_TAG, BAD_WEIGHT, Refused, ensure};
 
 /// The words of a row: the header's `VPINDEX_ROW_WORDS`, as `vpindex::ffi::ROW_WORDS` is.
-pub const ROW_WORDS: usize = 12;
+pub const ROW_WORDS: usize = 13;
 /// A row of the table or of the work area.
 pub type Row = [u32; ROW_WORDS];
 /// An entry of the result area: tag, distance.
@@ -29,6 +29,17 @@ pub struct Profile {
     pub code: [u64; 2],
 }
 
+/// What is put into a table.
+#[derive(Clone, Copy, Debug, Default, PartialEq, Eq)]
+pub struct Item {
+    /// What it is known by.
+    pub tag: u64,
+    /// What it is like.
+    pub profile: Profile,
+    /// When it was weighed.
+    pub day: u32,
+}
+
 /// What a slot holds.
 #[derive(Clone, Copy, Debug, Default, PartialEq, Eq)]
 pub struct Slot {
@@ -40,12 +51,24 @@ pub struct Slot {
     pub threshold: u32,
     /// 0 live, else dead.
     pub mark: u32,
+    /// On which the item was weighed; in a lent table any 32 bits.
+    pub day: u32,
 }
 
 impl Slot {
-    /// Whether searches report it.
+    /// The item in it, live or dead.
+    pub fn item(&self) -> Item {
+        Item { tag: self.tag, profile: self.profile, day: self.day }
+    }
+
+    /// Whether its item is live.
     pub fn is_live(&self) -> bool {
         self.mark == 0
+    }
+
+    /// Whether a search may report it.
+    pub fn may_report(&self, first_day: u16) -> bool {
+        self.is_live() && self.day >= first_day as u32
     }
 
     /// The slot that a row is.
@@ -58,6 +81,7 @@ impl Slot {
             },
             threshold: row[10],
             mark: row[11],
+            day: row[12],
         }
     }
 
@@ -72,6 +96,7 @@ impl Slot {
         row[8..10].copy_from_slice(&halves(self.profile.code[1]));
         row[10] = self.threshold;
         row[11] = self.mark;
+        row[12] = self.day;
         row
     }
 }
@@ -92,6 +117,11 @@ pub fn check_tag(tag: u64) -> Result<(), Refused> {
 /// The measures' range.
 pub fn check_measures(profile: &Profile) -> Result<(), Refused> {
     ensure(profile.measures.iter().all(|m| m.unsigned_abs() <= MAX_MEASURE), BAD_MEASURE)
+}
+
+/// The day's range; it is asked of days of 16 bits alone.
+pub fn check_day(day: u32) -> Result<(), Refused> {
+    ensure(day != 0, BAD_DAY)
 }
 
 /// The weights' range.
@@ -160,6 +190,26 @@ mod tests {
         assert_eq!(away(2, [100; 4], [i32::MIN; 4]), u32::MAX);
         assert_eq!(away(0, [1; 4], [i32::MIN; 4]), u32::MAX);
         assert_eq!(away(2, [1; 4], [i32::MIN; 4]), 1 << 31);
+    }
+
+    // Every thirteen words are some slot.
+    #[test]
+    fn rows() {
+        let row: Row = std::array::from_fn(|i| (i as u32 + 1) * 0x0123_4567);
+        let slot = Slot::of(&row);
+        assert_eq!((slot.row(), slot.day, slot.item().day), (row, row[12], row[12]));
+        assert_eq!(Slot { day: 7, ..slot }.row()[..12], row[..12]);
+    }
+
+    #[test]
+    fn days_that_may_be_reported() {
+        let cases = [(0, 0, true), (0, 1, false), (7, 7, true), (6, 7, false), (65_535, 65_535, true)];
+        let past_16_bits = [(65_536, 65_535, true), (u32::MAX, 65_535, true), (65_536, 0, true)];
+        for (day, first_day, reported) in cases.into_iter().chain(past_16_bits) {
+            assert_eq!(Slot { day, ..Slot::default() }.may_report(first_day), reported, "{day} since {first_day}");
+            assert!(!Slot { day, mark: 1, ..Slot::default() }.may_report(first_day));
+        }
+        assert_eq!([0, 1, 65_535].map(check_day), [Err(33), Ok(()), Ok(())]);
     }
 
     #[test]

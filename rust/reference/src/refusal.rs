@@ -32,6 +32,8 @@ pub const BAD_LIST_HEADER: u32 = 30;
 pub const BAD_LIST_LINE: u32 = 31;
 /// A weight above the largest.
 pub const BAD_WEIGHT: u32 = 32;
+/// Day 0.
+pub const BAD_DAY: u32 = 33;
 
 /// A refusal is an error by its number.
 pub type Refused = u32;

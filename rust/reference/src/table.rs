@@ -59,7 +59,7 @@ impl Bucket {
         Bucket { built, live, slots }
     }
 
-    /// The items that searches report, in slot order.
+    /// The slots of mark 0, in slot order.
     pub fn live_items(&self) -> impl Iterator<Item = &Slot> {
         self.slots.iter().filter(|slot| slot.is_live())
     }

@@ -49,6 +49,7 @@ pub struct Search {
     space: Space,
     query: Profile,
     wanted: Wanted,
+    first_day: u16,
     /// What was found, in order.
     pub hits: Vec<Hit>,
     /// How many slots were met.
@@ -57,8 +58,8 @@ pub struct Search {
 
 impl Search {
     /// Before its first slot.
-    pub fn new(space: Space, query: Profile, wanted: Wanted) -> Search {
-        Search { space, query, wanted, hits: vec![], count: 0 }
+    pub fn new(space: Space, query: Profile, wanted: Wanted, first_day: u16) -> Search {
+        Search { space, query, wanted, first_day, hits: vec![], count: 0 }
     }
 
     /// Goes through one tree.
@@ -66,7 +67,7 @@ impl Search {
         let Some((first, rest)) = slots.split_first() else { return };
         let d = distance(&self.space, &first.profile, &self.query);
         self.count += 1;
-        if first.is_live() {
+        if first.may_report(self.first_day) {
             self.take((d, first.tag));
         }
         let (left, right) = rest.split_at(slots.len() / 2);

@@ -1,12 +1,13 @@
-//! `list FILE`: reads a herd list as a scale head writes it, says how many items were added or which line is wrong and
-//! why, and shows the three nearest to the first of them.
+//! `list FILE [DAY]`: reads a herd list as a scale head writes it, weighed on this day or on day 1, says how many items
+//! were added or which line is wrong and why, and shows the three nearest to the first of them.
 
 use std::env;
 use std::error::Error;
+use std::ffi::OsStr;
 use std::fs;
 use std::process::ExitCode;
 
-use vpindex::{Metric, Order, Table, Tag};
+use vpindex::{Day, LookedUp, Metric, Order, Table, Tag};
 
 const HEADER: &str = "tag;kg;hip;girth;gain\n";
 
@@ -21,10 +22,12 @@ fn main() -> ExitCode {
 }
 
 fn run() -> Result<ExitCode, Box<dyn Error>> {
-    let file = env::args_os().nth(1).ok_or("usage: list FILE")?;
+    let mut words = env::args_os().skip(1);
+    let file = words.next().ok_or("usage: list FILE [DAY]")?;
+    let day = words.next().map_or(Ok(Day::MIN), |word| day_in(&word))?;
     let list = fs::read(&file).map_err(|error| format!("{}: {error}", file.display()))?;
     let mut table = Table::new(Order::MAX, Metric::SumOfDifferences);
-    let read = table.read_list(&list);
+    let read = table.read_list(&list, day);
     match &read {
         Ok(read) => println!("{} added, {} distances", read.added, read.distances),
         Err(refused) => println!("{refused}"),
@@ -35,14 +38,19 @@ fn run() -> Result<ExitCode, Box<dyn Error>> {
     Ok(if read.is_ok() { ExitCode::SUCCESS } else { ExitCode::FAILURE })
 }
 
+fn day_in(word: &OsStr) -> Result<Day, String> {
+    let number = word.to_str().and_then(|digits| digits.parse().ok());
+    number.and_then(|number| Day::new(number).ok()).ok_or_else(|| format!("{}: not a day, 1 to 65535", word.display()))
+}
+
 // The line after the header was added, so it begins with the 15 digits of a valid tag. What follows it may be any
 // bytes.
 fn nearest_to_first(table: &mut Table, list: &[u8]) -> Result<(), Box<dyn Error>> {
     let digits = str::from_utf8(&list[HEADER.len()..][..15])?;
     let tag = Tag::try_from(digits.parse::<u64>()?)?;
-    let profile = table.look_up(tag)?.profile;
-    println!("nearest 3 to {tag}:");
-    for hit in table.nearest(&profile, 3)? {
+    let LookedUp { profile, day, .. } = table.look_up(tag)?;
+    println!("nearest 3 to {tag}, weighed on day {}:", day.get());
+    for hit in table.nearest(&profile, 3, None)? {
         println!("  {} {}", hit.tag(), hit.distance());
     }
     Ok(())

@@ -2,7 +2,10 @@
 #![allow(missing_docs)]
 
 /// The words of a row: the header's `VPINDEX_ROW_WORDS`.
-pub const ROW_WORDS: usize = 12;
+pub const ROW_WORDS: usize = 13;
+
+/// The first day of a search that leaves no item out: the header's `VPINDEX_ANY_DAY`.
+pub const ANY_DAY: u16 = 0;
 
 pub type Row = [u32; ROW_WORDS];
 pub type Entry = [u64; 2];
@@ -41,6 +44,7 @@ pub struct LookedUp {
     pub refusal: u32,
     pub bucket: u32,
     pub profile: Profile,
+    pub day: u32,
 }
 
 #[repr(C)]
@@ -80,6 +84,7 @@ mod raw {
             work_rows: usize,
             tag: u64,
             profile: Profile,
+            day: u16,
         ) -> Added;
         pub fn vpindex_remove(
             table: *mut Row,
@@ -96,6 +101,7 @@ mod raw {
             result_entries: usize,
             query: Profile,
             radius: u32,
+            first_day: u16,
         ) -> Searched;
         pub fn vpindex_nearest(
             table: *const Row,
@@ -104,6 +110,7 @@ mod raw {
             result_entries: usize,
             query: Profile,
             k: u32,
+            first_day: u16,
         ) -> Searched;
         pub fn vpindex_write(table: *const Row, table_rows: usize, image: *mut u8, image_bytes: usize) -> Written;
         pub fn vpindex_read_list(
@@ -113,6 +120,7 @@ mod raw {
             work_rows: usize,
             list: *const u8,
             list_bytes: usize,
+            day: u16,
         ) -> ListRead;
     }
 }
@@ -128,8 +136,8 @@ pub fn load(table: &mut [Row], image: &[u8]) -> u32 {
     unsafe { raw::vpindex_load(table.as_mut_ptr(), table.len(), image.as_ptr(), image.len()) }
 }
 
-pub fn add(table: &mut [Row], work: &mut [Row], tag: u64, profile: Profile) -> Added {
-    unsafe { raw::vpindex_add(table.as_mut_ptr(), table.len(), work.as_mut_ptr(), work.len(), tag, profile) }
+pub fn add(table: &mut [Row], work: &mut [Row], tag: u64, profile: Profile, day: u16) -> Added {
+    unsafe { raw::vpindex_add(table.as_mut_ptr(), table.len(), work.as_mut_ptr(), work.len(), tag, profile, day) }
 }
 
 pub fn remove(table: &mut [Row], work: &mut [Row], tag: u64) -> Removed {
@@ -140,19 +148,21 @@ pub fn look_up(table: &[Row], tag: u64) -> LookedUp {
     unsafe { raw::vpindex_look_up(table.as_ptr(), table.len(), tag) }
 }
 
-pub fn range(table: &[Row], result: &mut [Entry], query: Profile, radius: u32) -> Searched {
-    unsafe { raw::vpindex_range(table.as_ptr(), table.len(), result.as_mut_ptr(), result.len(), query, radius) }
+pub fn range(table: &[Row], result: &mut [Entry], query: Profile, radius: u32, first_day: u16) -> Searched {
+    let (rows, entries) = (table.len(), result.len());
+    unsafe { raw::vpindex_range(table.as_ptr(), rows, result.as_mut_ptr(), entries, query, radius, first_day) }
 }
 
-pub fn nearest(table: &[Row], result: &mut [Entry], query: Profile, k: u32) -> Searched {
-    unsafe { raw::vpindex_nearest(table.as_ptr(), table.len(), result.as_mut_ptr(), result.len(), query, k) }
+pub fn nearest(table: &[Row], result: &mut [Entry], query: Profile, k: u32, first_day: u16) -> Searched {
+    let (rows, entries) = (table.len(), result.len());
+    unsafe { raw::vpindex_nearest(table.as_ptr(), rows, result.as_mut_ptr(), entries, query, k, first_day) }
 }
 
 pub fn write(table: &[Row], image: &mut [u8]) -> Written {
     unsafe { raw::vpindex_write(table.as_ptr(), table.len(), image.as_mut_ptr(), image.len()) }
 }
 
-pub fn read_list(table: &mut [Row], work: &mut [Row], list: &[u8]) -> ListRead {
-    let (rows, working) = (table.len(), work.len());
-    unsafe { raw::vpindex_read_list(table.as_mut_ptr(), rows, work.as_mut_ptr(), working, list.as_ptr(), list.len()) }
+pub fn read_list(table: &mut [Row], work: &mut [Row], list: &[u8], day: u16) -> ListRead {
+    let (rows, working, bytes) = (table.len(), work.len(), list.len());
+    unsafe { raw::vpindex_read_list(table.as_mut_ptr(), rows, work.as_mut_ptr(), working, list.as_ptr(), bytes, day) }
 }

@@ -1,5 +1,6 @@
-//! An index of up to 4,096 items by likeness. An item is a [`Tag`] with a [`Profile`]: four measures and a code of 128
-//! bits. A [`Table`] gives all items within a distance of a query, and the nearest ones, while items are added and
+//! An index of up to 4,096 items by likeness. An item is a [`Tag`] with a [`Profile`], which is four measures and a
+//! code of 128 bits, and with the [`Day`] on which it was weighed. A [`Table`] gives all items within a distance of a
+//! query, and the nearest ones, of all items or of those weighed on a given day or later, while items are added and
 //! removed, by the rule of its [`Metric`] and with its [`Weights`]. It keeps vantage-point trees in buckets whose sizes
 //! are powers of two.
 //!
@@ -8,15 +9,19 @@
 //! together keep within a bound.
 //!
 //! ```
-//! use vpindex::{Metric, Order, Profile, Table, Tag};
+//! use vpindex::{Day, Metric, Order, Profile, Table, Tag};
 //!
 //! let mut table = Table::new(Order::new(4)?, Metric::SumOfDifferences);
-//! table.add(Tag::new(36, 1)?, &Profile::new([41_250, 12_900, 18_500, 95], [0, 0])?)?;
-//! table.add(Tag::new(36, 2)?, &Profile::new([39_800, 12_700, 18_100, 90], [0, 0])?)?;
+//! table.add(Tag::new(36, 1)?, &Profile::new([41_250, 12_900, 18_500, 95], [0, 0])?, Day::new(210)?)?;
+//! table.add(Tag::new(36, 2)?, &Profile::new([39_800, 12_700, 18_100, 90], [0, 0])?, Day::new(305)?)?;
 //!
 //! let query = Profile::new([41_000, 12_900, 18_400, 95], [0, 0])?;
-//! let hits = table.nearest(&query, 1)?;
+//! let hits = table.nearest(&query, 1, None)?;
 //! assert_eq!((hits[0].tag(), hits[0].distance()), (Tag::new(36, 1)?, 350));
+//!
+//! // of those weighed on day 300 or later
+//! let hits = table.nearest(&query, 1, Some(Day::new(300)?))?;
+//! assert_eq!((hits[0].tag(), hits[0].distance()), (Tag::new(36, 2)?, 1_705));
 //! # Ok::<(), vpindex::Refusal>(())
 //! ```
 
@@ -37,4 +42,4 @@ pub use hits::{Hit, Hits};
 pub use list::{ListRead, ListRefusal};
 pub use refusal::Refusal;
 pub use table::{Added, LookedUp, Table};
-pub use values::{Metric, Order, Profile, Tag, Weights};
+pub use values::{Day, Metric, Order, Profile, Tag, Weights};

@@ -39,6 +39,8 @@ pub enum Refusal {
     BadListLine,
     /// A weight is above 100.
     BadWeight,
+    /// The day is 0.
+    BadDay,
     /// A refusal by a number that this crate does not know: the archive is newer.
     Other(u32),
 }
@@ -46,7 +48,7 @@ pub enum Refusal {
 use Refusal::*;
 
 impl Refusal {
-    const KNOWN: [Refusal; 16] = [
+    const KNOWN: [Refusal; 17] = [
         BadTag,
         BadMeasure,
         BadOrder,
@@ -63,6 +65,7 @@ impl Refusal {
         BadListHeader,
         BadListLine,
         BadWeight,
+        BadDay,
     ];
 
     /// The number by which the archive's calls say it.
@@ -101,6 +104,7 @@ impl Refusal {
                  1 to 5 digits, a comma, 2 digits), and a line feed",
             ),
             BadWeight => (32, "a weight is above 100"),
+            BadDay => (33, "the day is 0"),
             Other(number) => (number, "a refusal that this crate does not know"),
         }
     }
@@ -126,14 +130,14 @@ mod tests {
     #[test]
     fn numbers() {
         assert_eq!(Refusal::check(0), Ok(()));
-        for number in (1..=8).chain(20..=24).chain(30..=32) {
+        for number in (1..=8).chain(20..=24).chain(30..=33) {
             let refusal = Refusal::check(number).expect_err("not 0");
             assert_eq!(refusal.number(), number);
             assert_ne!(refusal, Other(number));
         }
-        for number in [9, 19, 25, 29, 33, u32::MAX] {
+        for number in [9, 19, 25, 29, 34, u32::MAX] {
             assert_eq!(Refusal::check(number), Err(Other(number)));
         }
-        assert_eq!(Other(33).to_string(), "a refusal that this crate does not know: 33");
+        assert_eq!(Other(34).to_string(), "a refusal that this crate does not know: 34");
     }
 }

@@ -1,7 +1,7 @@
 //! The table, with the areas that its calls are lent.
 
 use crate::list::{self, ListRead, ListRefusal};
-use crate::{Hits, Metric, Order, Profile, Refusal, Tag, Weights, ffi};
+use crate::{Day, Hits, Metric, Order, Profile, Refusal, Tag, Weights, ffi};
 
 /// What an add did.
 #[derive(Clone, Copy, Debug, PartialEq, Eq)]
@@ -19,12 +19,14 @@ pub struct LookedUp {
     pub bucket: u32,
     /// Its profile.
     pub profile: Profile,
+    /// On which it was weighed.
+    pub day: Day,
 }
 
 /// Items that can be asked for by likeness.
 ///
 /// A table allocates when it is made, and [`Table::image`] what it returns; no other call allocates. The areas of
-/// one of order T are 48·(3·2^T + T + 1) + 16·2^T bytes, some 641 KiB at order 12.
+/// one of order T are 52·(3·2^T + T + 1) + 16·2^T bytes, some 689 KiB at order 12.
 #[derive(Clone, Debug)]
 pub struct Table {
     header: Header,
@@ -59,14 +61,14 @@ impl Table {
     /// An empty table in which some measures count more than others.
     ///
     /// ```
-    /// use vpindex::{Metric, Order, Profile, Table, Tag, Weights};
+    /// use vpindex::{Day, Metric, Order, Profile, Table, Tag, Weights};
     ///
     /// // kilos count ten times, the daily gain not at all
     /// let weights = Weights::new([10, 1, 1, 0])?;
     /// let mut table = Table::with_weights(Order::new(4)?, Metric::SumOfDifferences, weights);
-    /// table.add(Tag::new(36, 1)?, &Profile::new([41_250, 12_900, 18_500, 95], [0, 0])?)?;
+    /// table.add(Tag::new(36, 1)?, &Profile::new([41_250, 12_900, 18_500, 95], [0, 0])?, Day::MIN)?;
     /// let query = Profile::new([41_000, 12_900, 18_400, 40], [0, 0])?;
-    /// assert_eq!(table.nearest(&query, 1)?[0].distance(), 2_600);
+    /// assert_eq!(table.nearest(&query, 1, None)?[0].distance(), 2_600);
     /// # Ok::<(), vpindex::Refusal>(())
     /// ```
     pub fn with_weights(order: Order, metric: Metric, weights: Weights) -> Table {
@@ -77,10 +79,11 @@ impl Table {
     }
 
     /// The table that the image was written from, with [`Table::image`] or with the C call. Images from before there
-    /// were weights load with [`Weights::ONE`].
+    /// were weights load with [`Weights::ONE`], and those from before there were days with [`Day::MIN`] in every item.
     ///
     /// The image is checked whole. [`Refusal::BadLength`], [`Refusal::BadOrder`], [`Refusal::BadMetric`],
-    /// [`Refusal::BadWeight`], [`Refusal::BadTable`] and [`Refusal::BadImage`] say what is wrong with it.
+    /// [`Refusal::BadWeight`], [`Refusal::BadTable`], [`Refusal::BadDay`] and [`Refusal::BadImage`] say what is wrong
+    /// with it.
     pub fn load(image: &[u8]) -> Result<Table, Refusal> {
         // an order that is not valid is refused before the area's length is looked at
         let order = image.first().and_then(|&byte| Order::new(byte as u32).ok()).unwrap_or(Order::MIN);
@@ -101,27 +104,31 @@ impl Table {
         }
     }
 
-    /// Adds an item. [`Refusal::AlreadyLive`] if its tag is in the table, [`Refusal::Full`] if there is no room.
-    pub fn add(&mut self, tag: Tag, profile: &Profile) -> Result<Added, Refusal> {
-        let reply = ffi::add(&mut self.rows, &mut self.work, tag.into(), profile.raw());
+    /// Adds an item that was weighed on this day. [`Refusal::AlreadyLive`] if its tag is in the table,
+    /// [`Refusal::Full`] if there is no room.
+    pub fn add(&mut self, tag: Tag, profile: &Profile, day: Day) -> Result<Added, Refusal> {
+        let reply = ffi::add(&mut self.rows, &mut self.work, tag.into(), profile.raw(), day.get());
         Refusal::check(reply.refusal)?;
         Ok(Added { bucket: reply.bucket, distances: reply.distances })
     }
 
-    /// Adds a herd list as a scale head writes it: the header line, then a line for each item with its tag and its four
-    /// measures in units, not hundredths. The codes are zero. Every line ends in a line feed, the last one too.
+    /// Adds a herd list as a scale head writes it, all of whose items were weighed on this day: the header line, then a
+    /// line for each item with its tag and its four measures in units, not hundredths. The codes are zero. Every line
+    /// ends in a line feed, the last one too.
     ///
     /// ```
-    /// use vpindex::{Metric, Order, Refusal, Table, Tag};
+    /// use vpindex::{Day, Metric, Order, Refusal, Table, Tag};
     ///
     /// let mut table = Table::new(Order::new(4)?, Metric::SumOfDifferences);
     /// let list = "tag;kg;hip;girth;gain\n\
     ///             036000000000101;412,50;129,00;185,00;0,95\n\
     ///             036000000000102;398,00;127,00;181,00;-0,05\n";
-    /// assert_eq!(table.read_list(list.as_bytes())?.added, 2);
-    /// assert_eq!(table.look_up(Tag::new(36, 102)?)?.profile.measures(), [39_800, 12_700, 18_100, -5]);
+    /// let day = Day::new(305)?;
+    /// assert_eq!(table.read_list(list.as_bytes(), day)?.added, 2);
+    /// let second = table.look_up(Tag::new(36, 102)?)?;
+    /// assert_eq!((second.profile.measures(), second.day), ([39_800, 12_700, 18_100, -5], day));
     ///
-    /// let again = table.read_list(list.as_bytes()).unwrap_err();
+    /// let again = table.read_list(list.as_bytes(), day).unwrap_err();
     /// assert_eq!((again.line, again.refusal), (2, Refusal::AlreadyLive));
     /// assert_eq!(again.to_string(), "line 2: the tag is in the table already (0 added before it)");
     /// # Ok::<(), Box<dyn std::error::Error>>(())
@@ -130,8 +137,8 @@ impl Table {
     /// The reading stops at the first line that is refused, and the lines before it stay added.
     /// [`Refusal::BadListHeader`] if the list begins with another line, [`Refusal::BadListLine`] for a line not of the
     /// form; else a line is refused as [`Table::add`] or the making of its tag and profile would be.
-    pub fn read_list(&mut self, list: &[u8]) -> Result<ListRead, ListRefusal> {
-        list::check(ffi::read_list(&mut self.rows, &mut self.work, list))
+    pub fn read_list(&mut self, list: &[u8], day: Day) -> Result<ListRead, ListRefusal> {
+        list::check(ffi::read_list(&mut self.rows, &mut self.work, list, day.get()))
     }
 
     /// Removes an item, and gives the number of distances that were worked out. [`Refusal::NotLive`] if it is not
@@ -142,24 +149,27 @@ impl Table {
         Ok(reply.distances)
     }
 
-    /// Gives an item's profile. [`Refusal::NotLive`] if it is not there.
+    /// Gives an item's profile and its day. [`Refusal::NotLive`] if it is not there.
     pub fn look_up(&self, tag: Tag) -> Result<LookedUp, Refusal> {
         let reply = ffi::look_up(&self.rows, tag.into());
         Refusal::check(reply.refusal)?;
-        Ok(LookedUp { bucket: reply.bucket, profile: Profile::as_stored(reply.profile) })
+        let (profile, day) = (Profile::as_stored(reply.profile), Day::as_stored(reply.day));
+        Ok(LookedUp { bucket: reply.bucket, profile, day })
     }
 
-    /// All items whose distance from the query is at most the radius.
-    pub fn range(&mut self, query: &Profile, radius: u32) -> Hits<'_> {
-        let reply = ffi::range(&self.rows, &mut self.result, query.raw(), radius);
+    /// All items whose distance from the query is at most the radius and which were weighed on the first day or later;
+    /// `None` is any day.
+    pub fn range(&mut self, query: &Profile, radius: u32, first_day: Option<Day>) -> Hits<'_> {
+        let reply = ffi::range(&self.rows, &mut self.result, query.raw(), radius, Day::raw_first(first_day));
         assert_eq!(reply.refusal, 0, "the query is valid, and the result area holds every item");
         self.hits(reply)
     }
 
-    /// The `count` items nearest to the query, or all where there are fewer; of items at the same distance the lower
-    /// tag goes first. [`Refusal::NoCount`] where `count` is 0.
-    pub fn nearest(&mut self, query: &Profile, count: u32) -> Result<Hits<'_>, Refusal> {
-        let reply = ffi::nearest(&self.rows, &mut self.result, query.raw(), count);
+    /// Of the items weighed on the first day or later the `count` nearest to the query, or all where there are fewer;
+    /// `None` is any day. Of items at the same distance the lower tag goes first. [`Refusal::NoCount`] where `count` is
+    /// 0.
+    pub fn nearest(&mut self, query: &Profile, count: u32, first_day: Option<Day>) -> Result<Hits<'_>, Refusal> {
+        let reply = ffi::nearest(&self.rows, &mut self.result, query.raw(), count, Day::raw_first(first_day));
         Refusal::check(reply.refusal)?;
         Ok(self.hits(reply))
     }
@@ -179,7 +189,7 @@ impl Table {
 
     fn image_bytes(&self) -> usize {
         let built: usize = self.sizes().map(|size| size[0] as usize).sum();
-        8 + 4 * self.sizes().len() + 48 * built
+        8 + 4 * self.sizes().len() + 50 * built
     }
 
     // the size rows of the buckets: built, live

@@ -90,6 +90,36 @@ impl Profile {
     }
 }
 
+/// The day on which an item was weighed, 1 to 65,535, counted from a date that the caller chooses.
+#[derive(Clone, Copy, Debug, PartialEq, Eq, PartialOrd, Ord, Hash)]
+pub struct Day(u16);
+
+impl Day {
+    /// Day 1.
+    pub const MIN: Day = Day(1);
+    /// Day 65,535.
+    pub const MAX: Day = Day(u16::MAX);
+
+    /// Any but 0; else [`Refusal::BadDay`].
+    pub fn new(day: u16) -> Result<Day, Refusal> {
+        if day != 0 { Ok(Day(day)) } else { Err(Refusal::BadDay) }
+    }
+
+    /// Its number.
+    pub fn get(self) -> u16 {
+        self.0
+    }
+
+    // `None` is any day
+    pub(crate) fn raw_first(first_day: Option<Day>) -> u16 {
+        first_day.map_or(ffi::ANY_DAY, Day::get)
+    }
+
+    pub(crate) fn as_stored(day: u32) -> Day {
+        Day(day as u16)
+    }
+}
+
 /// What the difference of each measure is multiplied by before it counts, 0 to 100: of a measure of weight 0 the
 /// distance knows nothing. A table by [`Metric::DifferingBits`] keeps its weights and has no use for them.
 #[derive(Clone, Copy, Debug, PartialEq, Eq, Hash)]

@@ -1,6 +1,6 @@
 //! What a Rust caller meets: values that are checked when they are made, and refusals.
 
-use vpindex::{ListRead, ListRefusal, Metric, Order, Profile, Refusal, Table, Tag, Weights};
+use vpindex::{Day, ListRead, ListRefusal, Metric, Order, Profile, Refusal, Table, Tag, Weights};
 
 #[test]
 fn tags() {
@@ -60,6 +60,47 @@ fn weights() {
     }
 }
 
+#[test]
+fn days() {
+    assert_eq!(Day::new(0), Err(Refusal::BadDay));
+    assert_eq!([Day::new(1), Day::new(65_535)], [Ok(Day::MIN), Ok(Day::MAX)]);
+    for day in [1, 2, 365, 65_534, 65_535] {
+        assert_eq!(Day::new(day).map(Day::get), Ok(day));
+    }
+    assert!(Day::MIN < Day::MAX);
+}
+
+// A search reports what was weighed on its first day or later, any day where there is none, and an image keeps the days.
+#[test]
+fn a_table_of_days() {
+    let (order, query) = (Order::new(2).expect("valid"), Profile::default());
+    let [first, middle, last] = [Day::MIN, Day::new(300).expect("not 0"), Day::MAX];
+    let mut table = Table::new(order, Metric::SumOfDifferences);
+    for (national, day) in [(1, first), (2, middle), (3, last)] {
+        let profile = Profile::new([national as i32, 0, 0, 0], [0, 0]).expect("in range");
+        table.add(Tag::new(36, national).expect("valid"), &profile, day).expect("room");
+    }
+    let mut loaded = Table::load(&table.image()).expect("an image that was written");
+    for table in [&mut table, &mut loaded] {
+        for (national, day) in [(1, first), (2, middle), (3, last)] {
+            assert_eq!(table.look_up(Tag::new(36, national).expect("valid")).map(|found| found.day), Ok(day));
+        }
+        let just_after = Day::new(301).expect("not 0");
+        for (since, expected) in [
+            (None, vec![1, 2, 3]),
+            (Some(first), vec![1, 2, 3]),
+            (Some(middle), vec![2, 3]),
+            (Some(just_after), vec![3]),
+            (Some(last), vec![3]),
+        ] {
+            let nationals = |hits: vpindex::Hits| hits.iter().map(|hit| hit.tag().national()).collect::<Vec<_>>();
+            assert_eq!(nationals(table.range(&query, 3, since)), expected);
+            assert_eq!(nationals(table.nearest(&query, 3, since).expect("a count")), expected);
+            assert_eq!(nationals(table.nearest(&query, 1, since).expect("a count")), expected[..1]);
+        }
+    }
+}
+
 // Each measure has its own weight, and an image keeps them.
 #[test]
 fn a_weighted_table() {
@@ -71,11 +112,11 @@ fn a_weighted_table() {
     {
         let tables = [Table::new(order, metric), Table::with_weights(order, metric, weights)];
         for (mut table, (each, distance)) in tables.into_iter().zip([([1; 4], plain), ([2, 0, 100, 1], weighted)]) {
-            table.add(tag, &item).expect("room");
+            table.add(tag, &item, Day::MIN).expect("room");
             let mut loaded = Table::load(&table.image()).expect("an image that was written");
             for table in [&mut table, &mut loaded] {
                 assert_eq!((table.order(), table.metric(), table.weights().each()), (order, metric, each));
-                assert_eq!(table.nearest(&Profile::default(), 1).expect("room")[0].distance(), distance);
+                assert_eq!(table.nearest(&Profile::default(), 1, None).expect("room")[0].distance(), distance);
             }
         }
     }
@@ -88,12 +129,12 @@ fn a_table_refuses() {
     let profile = Profile::default();
     assert!(table.is_empty());
     assert_eq!(table.remove(tag), Err(Refusal::NotLive));
-    assert_eq!(table.add(tag, &profile).map(|added| (added.bucket, added.distances)), Ok((0, 0)));
-    assert_eq!(table.add(tag, &profile), Err(Refusal::AlreadyLive));
-    assert_eq!(table.add(other, &profile), Err(Refusal::Full));
+    assert_eq!(table.add(tag, &profile, Day::MAX).map(|added| (added.bucket, added.distances)), Ok((0, 0)));
+    assert_eq!(table.add(tag, &profile, Day::MIN), Err(Refusal::AlreadyLive));
+    assert_eq!(table.add(other, &profile, Day::MIN), Err(Refusal::Full));
     assert_eq!(table.look_up(other), Err(Refusal::NotLive));
-    assert_eq!(table.nearest(&profile, 0).err(), Some(Refusal::NoCount));
-    assert_eq!(table.nearest(&profile, u32::MAX).map(|hits| hits.len()), Ok(1));
+    assert_eq!(table.nearest(&profile, 0, None).err(), Some(Refusal::NoCount));
+    assert_eq!(table.nearest(&profile, u32::MAX, None).map(|hits| hits.len()), Ok(1));
     assert_eq!((table.len(), table.order(), table.metric()), (1, Order::MIN, Metric::DifferingBits));
     assert_eq!(table.weights(), Weights::ONE);
 }
@@ -112,7 +153,8 @@ fn images_refused() {
     assert_eq!(refused(&|image| image[0] = 13), Some(Refusal::BadOrder));
     assert_eq!(refused(&|image| image[1] = 2), None);
     assert_eq!(refused(&|image| image[1] = 3), Some(Refusal::BadMetric));
-    assert_eq!(refused(&|image| image[2] = 2), Some(Refusal::BadImage));
+    assert_eq!(refused(&|image| image[2] = 1), None);
+    assert_eq!(refused(&|image| image[2] = 3), Some(Refusal::BadImage));
     assert_eq!(refused(&|image| image[3] = 1), Some(Refusal::BadImage));
     assert_eq!(refused(&|image| image.truncate(7)), Some(Refusal::BadLength));
     assert_eq!(refused(&|image| image[7] = 100), None);
@@ -120,8 +162,19 @@ fn images_refused() {
     assert_eq!(refused(&|image| image[8] = 1), Some(Refusal::BadTable));
 }
 
+// The last two bytes of an image are the day of the last item.
+#[test]
+fn an_image_without_a_day_is_refused() {
+    let mut table = Table::new(Order::MIN, Metric::SumOfDifferences);
+    table.add(Tag::new(36, 1).expect("valid"), &Profile::default(), Day::MAX).expect("room");
+    let mut image = table.image();
+    assert_eq!((image.len(), image[60..].to_vec()), (62, vec![255, 255]));
+    image[60..].fill(0);
+    assert_eq!(Table::load(&image).err(), Some(Refusal::BadDay));
+}
+
 fn read(table: &mut Table, list: &str) -> Result<u32, String> {
-    table.read_list(list.as_bytes()).map(|read| read.added).map_err(|refused| refused.to_string())
+    table.read_list(list.as_bytes(), Day::MIN).map(|read| read.added).map_err(|refused| refused.to_string())
 }
 
 #[test]
@@ -129,9 +182,11 @@ fn a_list_is_read() {
     let mut table = Table::new(Order::new(2).expect("valid"), Metric::SumOfDifferences);
     assert_eq!(read(&mut table, "tag;kg;hip;girth;gain\n"), Ok(0));
     let list = "tag;kg;hip;girth;gain\n036000000000001;0,10;0,00;0,00;0,00\n036000000000002;0,13;-0,07;1,00;10000,00\n";
-    assert_eq!(table.read_list(list.as_bytes()), Ok(ListRead { added: 2, distances: 1 }));
-    let second = table.look_up(Tag::new(36, 2).expect("valid")).expect("live").profile;
-    assert_eq!((second.measures(), second.code()), ([13, -7, 100, 1_000_000], [0, 0]));
+    let day = Day::new(305).expect("not 0");
+    assert_eq!(table.read_list(list.as_bytes(), day), Ok(ListRead { added: 2, distances: 1 }));
+    let second = table.look_up(Tag::new(36, 2).expect("valid")).expect("live");
+    assert_eq!((second.profile.measures(), second.profile.code()), ([13, -7, 100, 1_000_000], [0, 0]));
+    assert_eq!(second.day, day);
 }
 
 #[test]
@@ -140,7 +195,8 @@ fn a_list_stops_at_a_line() {
     let first = "tag;kg;hip;girth;gain\n036000000000001;0,10;0,00;0,00;0,00\n036000000000002;0,13;0,00;0,00;0,00\n";
     let after = |line: &str| {
         let mut table = Table::new(order, Metric::SumOfDifferences);
-        let refused = table.read_list((first.to_string() + line).as_bytes()).expect_err("the line is refused");
+        let refused =
+            table.read_list((first.to_string() + line).as_bytes(), Day::MIN).expect_err("the line is refused");
         assert_eq!((refused.added, refused.distances, table.len()), (2, 1, 2));
         (refused.line, refused.refusal)
     };
@@ -154,8 +210,9 @@ fn a_list_stops_at_a_line() {
     let mut table = Table::new(Order::MIN, Metric::SumOfDifferences);
     let whole = "tag;kg;hip;girth;gain\n".to_string() + one + "036000000000002;0,13;0,00;0,00;0,00\n";
     let full = ListRefusal { line: 3, refusal: Refusal::Full, added: 1, distances: 0 };
-    assert_eq!(table.read_list(whole.as_bytes()), Err(full));
-    assert_eq!(table.read_list(one.as_bytes()).map_err(|refused| refused.refusal), Err(Refusal::BadListHeader));
+    assert_eq!(table.read_list(whole.as_bytes(), Day::MIN), Err(full));
+    let unheaded = table.read_list(one.as_bytes(), Day::MIN);
+    assert_eq!(unheaded.map_err(|refused| refused.refusal), Err(Refusal::BadListHeader));
     assert_eq!(table.len(), 1);
 }
 
@@ -187,4 +244,5 @@ fn a_refusal_says_what_was_wrong() {
     assert_eq!(Refusal::Full.to_string(), "the table holds as many items as its order allows");
     assert_eq!((Refusal::BadTag.number(), Refusal::BadTable.number(), Refusal::BadListLine.number()), (1, 24, 31));
     assert_eq!((Refusal::BadWeight.number(), Refusal::BadWeight.to_string().as_str()), (32, "a weight is above 100"));
+    assert_eq!((Refusal::BadDay.number(), Refusal::BadDay.to_string().as_str()), (33, "the day is 0"));
 }

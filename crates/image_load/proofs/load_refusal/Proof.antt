@@ -3,13 +3,14 @@
 use Prim.Native.Nat.{ℕ}
 use mathlib.Core.Path.{_≡_, sym, ap, _∙_}
 use mathlib.Core.Bool.{Bool}
+use mathlib.Core.List.{List}
 use borrow.Author.Needs.{needs}
 use borrow.Author.Tests.{not-true, not-false}
 use Rattle.metric_rules.specs.declared.Space.{Space}
 use Rattle.metric_rules.specs.Distance.{validWeights}
 use Rattle.table_rules.specs.Refusals.{orElse}
 use Rattle.image_rules.specs.Read.{spaceIn}
-use Rattle.image_rules.specs.Load.{slotsPass}
+use Rattle.image_rules.specs.Load.{daysPass, slotsPass}
 use Rattle.image_read.specs.InImage.{Whole}
 use Rattle.image_entries.specs.declared.Fault.{Fault}
 use Rattle.image_test.proofs.Checked.{slots-numbered}
@@ -39,11 +40,15 @@ sizes-zero c = sym (c .before .sizes-refusal .ensures) ∙ c .if2 .left
 whole : (c : tie.Else2) → Whole (begun c .args .image .now) (begun c .args .header)
 whole c = let s = begun c in steps-whole (s .args .rows) (s .args .image .now) (s .args .header) (s .pre .0) (s .pre .1) (sizes-zero c)
 
+-- the last step, of days and slots
+abbrev slots : List ℕ → ℕ
+slots image = slotsBy (daysPass image) (slotsPass image)
+
 returns : tie.Need-returns
 unfolding laterRefusal weightsBy
 returns c =
     let a = start-of (c .before) .args in
-    let rest : ℕ = orElse (sizesRefusal (a .rows) (a .image .now)) (slotsBy (slotsPass (a .image .now))) in
+    let rest : ℕ = orElse (sizesRefusal (a .rows) (a .image .now)) (slots (a .image .now)) in
     sym (ap (λ (b : Bool). orElse (weightsBy b) rest) (weights-tested (c .before) ∙ not-true (c .before .valid-weights .result) (c .if1 .taken)))
 
 returns-2 : tie.Need-returns-2
@@ -51,24 +56,41 @@ unfolding laterRefusal
 returns-2 c =
     let a = start-of (c .before .before .before) .args in
     let z = c .before .sizes-refusal in
-    let last : ℕ = slotsBy (slotsPass (a .image .now)) in
+    let last : ℕ = slots (a .image .now) in
     sym (ap (λ (n : ℕ). orElse n (orElse (sizesRefusal (a .rows) (a .image .now)) last)) (weights-zero (c .before .before))
     ∙ ap (λ (n : ℕ). orElse n last) (sym (z .ensures))
     ∙ stop-first (z .result) last (c .if2 .taken))
 
-slots-fault-requires : tie.Need-slots-fault-requires
-slots-fault-requires c κs = let all = c .all-slots .ensures in (whole (c .before), all .0, all .1, all .2)
-
--- with weights and sizes passed, the slots decide
-returns-3 : tie.Need-returns-3
-unfolding laterRefusal slotsBy
-returns-3 c =
-    let e = c .before .before in
+-- with weights and sizes passed, days and slots decide
+slots-decide : (e : tie.Else2) → laterRefusal (begun e .args .rows) (begun e .args .image .now) ≡ slots (begun e .args .image .now)
+unfolding laterRefusal
+slots-decide e =
     let a = begun e .args in
-    let last : ℕ = slotsBy (slotsPass (a .image .now)) in
-    sym (ap (λ (n : ℕ). orElse n (orElse (sizesRefusal (a .rows) (a .image .now)) last)) (weights-zero (e .before .before))
-    ∙ ap (λ (n : ℕ). orElse n last) (sizes-zero e)
-    ∙ sym (slots-numbered (a .image .now))
+    let last : ℕ = slots (a .image .now) in
+    ap (λ (n : ℕ). orElse n (orElse (sizesRefusal (a .rows) (a .image .now)) last)) (weights-zero (e .before .before)) ∙ ap (λ (n : ℕ). orElse n last) (sizes-zero e)
+
+days-tested : (c : tie.After-days-pass) → daysPass (begun (c .before .before) .args .image .now) ≡ c .days-pass .result
+days-tested c = sym (c .days-pass .ensures)
+
+returns-3 : tie.Need-returns-3
+unfolding slotsBy
+returns-3 c =
+    let d = c .before in
+    let image = begun (d .before .before) .args .image .now in
+    sym (slots-decide (d .before .before)
+    ∙ ap (λ (b : Bool). slotsBy b (slotsPass image)) (days-tested d ∙ not-true (d .days-pass .result) (c .if3 .taken)))
+
+slots-fault-requires : tie.Need-slots-fault-requires
+slots-fault-requires c κs = let all = c .before .before .all-slots .ensures in (whole (c .before .before .before), all .0, all .1, all .2)
+
+returns-4 : tie.Need-returns-4
+unfolding slotsBy
+returns-4 c =
+    let d = c .before .before in
+    let image = begun (d .before .before) .args .image .now in
+    sym (slots-decide (d .before .before)
+    ∙ ap (λ (b : Bool). slotsBy b (slotsPass image)) (days-tested d ∙ not-false (d .days-pass .result) (c .before .if3 .left))
+    ∙ sym (slots-numbered image)
     ∙ ap (λ (f : Fault). f .number) (sym (c .slots-fault .ensures)))
 
 pub load-refusal-spec : {M : Type 1} → statement M
@@ -80,5 +102,7 @@ load-refusal-spec =
     (λ c κs. c .before .before .before .before .pre)
     returns-2
     (λ c κs. whole c)
+    (λ c κs. c .all-slots .ensures)
+    returns-3
     slots-fault-requires
-    returns-3)
+    returns-4)

@@ -1,27 +1,17 @@
 -- `image_read::slot_in` meets its contract: the slot's tag stands after those of the slots before it, and its record after theirs.
 use Prim.Native.Nat.{ℕ, _+_, _*_, _≤_}
-use mathlib.Core.Path.{_≡_, sym, ap, _∙_}
+use mathlib.Core.Path.{_≡_, refl, sym, ap, ap₂, _∙_}
 use mathlib.Core.List.{_++_}
 use native.Mathlib.Omega.{arith}
 use borrow.Author.Needs.{needs}
 use lib.ListN.{length}
 use Rattle.lists.specs.Lists.{total}
 use Rattle.image_rules.specs.Bytes.{tagFields, recordFields, tagBytes, recordBytes}
-use Rattle.image_rules.specs.Read.{fieldsAt}
-use Rattle.image_read.proofs.Numbers.{slot-within, slot-fields}
+use Rattle.image_rules.specs.Read.{fieldsAt, dayAs, rowIn}
+use Rattle.image_read.specs.InImage.{slotIn}
+use Rattle.image_read.proofs.Numbers.{slot-within}
 use Rattle.image_read.proofs.slot_in.Statement.{statement}
 use Rattle.image_read.proofs.slot_in.Tie as tie
-
-abbrev start-of : tie.After-row-at → tie.Start
-start-of c = c .before .before .before .before .before .before .before
-
--- the row read: the tag after those of the slots before it, and the record after theirs
-row-read : (c : tie.After-row-at)
-    → c .row-at .result
-    ≡ fieldsAt (start-of c .args .image .now) tagFields (start-of c .args .at .tags + 8 * (start-of c .args .at .first + start-of c .args .i))
-    ++ fieldsAt (start-of c .args .image .now) (recordFields (start-of c .args .at .form .number))
-    (start-of c .args .at .records + c .before .before .record-bytes .result * (start-of c .args .at .first + start-of c .args .i))
-row-read c = c .row-at .ensures
 
 -- the slot's tag and its record are in the image
 module _ (s : tie.Start) where
@@ -55,10 +45,17 @@ row-at-requires c κs =
     (tag-inside s, rw (sym (w .ensures)) (record-inside s (w .result) (w .ensures)))
 
 returns : tie.Need-returns
+unfolding slotIn rowIn tagBytes tagFields total
 returns c =
-    let s = start-of c in
+    let s = c .before .before .before .before .before .before .before in
     let w = c .before .before .record-bytes in
-    row-read c ∙ slot-fields (s .pre .0) (s .args .i) (w .result) (w .ensures)
+    let image = s .args .image .now in
+    let at = s .args .at in
+    let p = s .pre .0 in
+    c .row-at .ensures
+    ∙ ap₂ (λ (form n : ℕ). fieldsAt image tagFields (at .tags + 8 * (at .first + s .args .i)) ++ fieldsAt image (recordFields form) (at .records + n * (at .first + s .args .i)) ++ dayAs form)
+    (p .formed) (w .ensures ∙ ap recordBytes (p .formed))
+    ∙ rw (p .recordsAt, p .tagsAt) refl
 
 pub slot-in-spec : {M : Type 1} → statement M
 slot-in-spec = tie.close (tie.spec add-slot mul-row-at add-row-at (λ c κs. search needs) mul-row-at-2 add-row-at-2 row-at-requires returns)

@@ -4,7 +4,7 @@ use native.Mathlib.Omega.{arith}
 use borrow.Author.Needs.{needs}
 use Rattle.lists.specs.Lists.{total}
 use Rattle.table_rules.proofs.Passing.{read-passed}
-use Rattle.image_rules.specs.Bytes.{writtenForm, startFields, weightFields, headerFields, tagFields, recordFields, headerBytes, tagBytes, recordBytes, sizeBytes, pairBytes, sizesEnd, imageLength}
+use Rattle.image_rules.specs.Bytes.{writtenForm, startFields, weightFields, headerFields, tagFields, dayFields, recordFields, headerBytes, tagBytes, recordBytes, sizeBytes, pairBytes, sizesEnd, imageLength}
 use Rattle.image_rules.proofs.Lengths.{length-image}
 use Rattle.image_write.proofs.Runs.{sizes-in}
 use Rattle.image_write.proofs.Counts.{slots-most}
@@ -39,7 +39,7 @@ put-image-requires c κs = (
 )
 
 cast-length : tie.Need-cast-t11
-unfolding imageLength sizesEnd headerBytes headerFields startFields weightFields writtenForm total pairBytes sizeBytes tagBytes recordBytes tagFields recordFields
+unfolding imageLength sizesEnd headerBytes headerFields startFields weightFields writtenForm total pairBytes sizeBytes tagBytes recordBytes tagFields recordFields dayFields
 cast-length c =
     let t = c .before .before .before .before .before .before .before .before .before .before .args .table .now in
     let p = read-passed t (sym (c .before .before .before .before .before .before .before .before .read-refusal .ensures) ∙ c .before .before .before .before .before .before .before .if1 .left) in

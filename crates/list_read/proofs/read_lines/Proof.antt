@@ -16,10 +16,10 @@ use Rattle.list_read.proofs.read_lines.Statement.{statement}
 use Rattle.list_read.proofs.read_lines.Tie as tie
 
 abbrev Inv-loop : tie.InvT-loop
-Inv-loop table₀ work₀ list at₀ added₀ distances₀ table work at added distances = SoFar table₀ work₀ list table work at added distances
+Inv-loop table₀ work₀ list day at₀ added₀ distances₀ table work at added distances = SoFar day table₀ work₀ list table work at added distances
 
 abbrev μ-loop : tie.MeasureT-loop
-μ-loop table₀ work₀ list at₀ added₀ distances₀ table work at added distances = length list - at
+μ-loop table₀ work₀ list day at₀ added₀ distances₀ table work at added distances = length list - at
 
 -- from where the add has answered back to where the line is read, and from there to the loop
 abbrev line-at : tie.After-add Inv-loop μ-loop → tie.After-line Inv-loop μ-loop
@@ -39,11 +39,11 @@ here c =
 
 -- the add's refusal is that of the definition
 known : (c : tie.After-add Inv-loop μ-loop) → let f = line-at c .line .result in
-    let l = loop-at (line-at c) .loop in c .add .result .refusal ≡ addRefusal (l .table) (l .work) (f .tag) (f .profile)
-known c = ap (λ r. r .refusal) (c .add .ensures .0) ∙ reply-refusal _ _ _ _
+    let l = loop-at (line-at c) .loop in c .add .result .refusal ≡ addRefusal (l .table) (l .work) (f .tag) (f .profile) (loop-at (line-at c) .before .before .args .day)
+known c = ap (λ r. r .refusal) (c .add .ensures .0) ∙ reply-refusal _ _ _ _ _
 
 loop-holds : tie.Need-loop-holds Inv-loop μ-loop
-loop-holds c = at-first _ _ _ (c .before .pre)
+loop-holds c = at-first _ _ _ _ (c .before .pre)
 
 add-number : tie.Need-add-number Inv-loop μ-loop
 add-number c = omega (arith, c .before .loop .inv .most)

@@ -8,7 +8,7 @@ use Rattle.list_read.proofs.read_list.Tie as tie
 
 returns : tie.Need-returns
 returns c =
-    let end = without-header _ _ _ (sym (c .before .before .has-header .ensures) ∙ not-true _ (c .before .if1 .taken)) in
+    let end = without-header _ _ _ _ (sym (c .before .before .has-header .ensures) ∙ not-true _ (c .before .if1 .taken)) in
     (c .replied .ensures ∙ end .0, end .1)
 
 read-lines-requires : tie.Need-read-lines-requires
@@ -17,7 +17,7 @@ read-lines-requires c κs = header-room _ (sym (c .before .before .before .has-h
 returns-2 : tie.Need-returns-2
 returns-2 c =
     let r = c .before .before .read-lines .ensures in
-    with-header _ _ _ (sym (c .before .before .before .before .before .before .has-header .ensures) ∙ not-false _ (c .before .before .before .before .before .if1 .left)) (r .0) (r .1 .0) (r .1 .1)
+    with-header _ _ _ _ (sym (c .before .before .before .before .before .before .has-header .ensures) ∙ not-false _ (c .before .before .before .before .before .if1 .left)) (r .0) (r .1 .0) (r .1 .1)
 
 pub read-list-spec : {M : Type 1} → statement M
 read-list-spec =

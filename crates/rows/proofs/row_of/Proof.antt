@@ -34,6 +34,7 @@ returns c =
     ∷ c .high3 .ensures i
     ∷ s .args .threshold
     ∷ s .args .mark
+    ∷ s .args .day
     ∷ []
 
 pub row-of-spec : {M : Type 1} → statement M

@@ -16,7 +16,7 @@ use Rattle.table_insert.proofs.PutIn.{Accepted, changes, built-fits, fe
 use Rattle.table_insert.proofs.insert.Statement.{statement}
 use Rattle.table_insert.proofs.insert.Tie as tie
 
-ok : (c : tie.Start) → Accepted (c .args .table .now) (c .args .work .now) (c .args .tag) (c .args .profile)
+ok : (c : tie.Start) → Accepted (c .args .table .now) (c .args .work .now) (c .args .tag) (c .args .profile) (c .args .day)
 ok c = record { none = c .pre .1 }
 
 built-fits-here : (c : tie.Start) → BuiltFits (c .args .table .now) (c .args .order .t)

@@ -1,14 +1,14 @@
 -- `table_look_up::look_up` meets its contract: the table's refusal, the tag's, and then the place found.
 use native.Mathlib.Omega.{arith}
-use Prim.Native.Nat.{_<_}
+use Prim.Native.Nat.{ℕ, _<_}
 use borrow.Author.Tests.{not-true, not-false}
-use mathlib.Core.Path.{_≡_, sym, _∙_, ap}
+use mathlib.Core.Path.{_≡_, sym, _∙_, ap, ap₂}
 use mathlib.Core.Bool.{true}
 use mathlib.Core.List.{List, []}
 use mathlib.Core.Option.{some}
 use lib.ListN.{length, getD}
 use Rattle.metric_rules.specs.declared.Profile.{Profile}
-use Rattle.metric_rules.specs.Row.{Row, profileOf}
+use Rattle.metric_rules.specs.Row.{Row, profileOf, dayOf}
 use Rattle.metric_rules.specs.Validity.{validTag}
 use Rattle.table_rules.specs.Table.{slotsOf}
 use Rattle.table_rules.specs.Checks.{readRefusal}
@@ -28,29 +28,25 @@ unrefused c = sym (c .before .read-refusal .ensures) ∙ c .if1 .left
 valid : (c : tie.Else2) → validTag (c .before .before .before .before .args .tag) ≡ true
 valid c = sym (c .before .valid-tag .ensures) ∙ not-false (c .before .valid-tag .result) (c .if2 .left)
 
--- from where the place is found back to the start
-abbrev start-of : tie.After-bucket → tie.Start
-start-of c = c .before .before .before .before .before .before .before
-
 -- the place found, and that a live item stands there
 located :
     (c : tie.After-bucket)
-    → let a = start-of c .args in
+    → let a = c .before .before .before .before .before .before .before .args in
     let k = c .bucket .given .0 .0 in
     let i = c .bucket .given .0 .1 .0 in
     some (place k i (getD (slotsOf (a .table .now) k) i [])) ≡ find (a .table .now) (a .tag)
 unfolding placeOf
 located c =
-    ap (placeOf (start-of c .args .table .now)) (sym (c .bucket .given .1)) ∙ c .before .before .find .ensures
+    ap (placeOf (c .before .before .before .before .before .before .before .args .table .now)) (sym (c .bucket .given .1)) ∙ c .before .before .find .ensures
 
 stands :
     (c : tie.After-bucket)
-    → let a = start-of c .args in
+    → let a = c .before .before .before .before .before .before .before .args in
     let k = c .bucket .given .0 .0 in
     let i = c .bucket .given .0 .1 .0 in
     Found (a .table .now) (a .tag) (place k i (getD (slotsOf (a .table .now) k) i []))
 stands c =
-    let a = start-of c .args in
+    let a = c .before .before .before .before .before .before .before .args in
     let k = c .bucket .given .0 .0 in
     let i = c .bucket .given .0 .1 .0 in
     found (a .table .now) (a .tag) (place k i (getD (slotsOf (a .table .now) k) i [])) (sym (located c))
@@ -74,20 +70,20 @@ find-requires : tie.Need-find-requires
 find-requires c κs = read-passed (c .before .before .before .before .args .table .now) (unrefused (c .before .before))
 
 order-in-requires : tie.Need-order-in-requires
-order-in-requires c κs = framed-rows (read-passed (start-of (c .before) .args .table .now) (unrefused (c .before .before .before .before .before .before)) .framed)
+order-in-requires c κs = framed-rows (read-passed (c .before .before .before .before .before .before .before .before .args .table .now) (unrefused (c .before .before .before .before .before .before)) .framed)
 
 slots-of-requires : tie.Need-slots-of-requires
 slots-of-requires c κs =
     let at = c .before .before in
-    let t = start-of at .args .table .now in
+    let t = c .before .before .before .before .before .before .before .before .before .args .table .now in
     slots-asked (read-passed t (unrefused (c .before .before .before .before .before .before .before))) (c .order-in .result .t) (at .bucket .given .0 .0) (c .order-in .ensures)
     (omega (arith, c .order-in .ensures, stands at .inOrder))
 
-mul-profile-of : tie.Need-mul-profile-of
-mul-profile-of c = omega (arith, inside c)
+mul-row : tie.Need-mul-row
+mul-row c = omega (arith, inside c)
 
-shared-slice-copy-out-profile-of : tie.Need-shared-slice-copy-out-profile-of
-shared-slice-copy-out-profile-of c = inside c
+shared-slice-copy-out-row : tie.Need-shared-slice-copy-out-row
+shared-slice-copy-out-row c = inside c
 
 returns-3 : tie.Need-returns-3
 unfolding placeOf
@@ -98,14 +94,14 @@ returns-3 c =
 
 returns-4 : tie.Need-returns-4
 returns-4 c =
-    let at = c .before .before .before .before .before in
-    let a = start-of at .args in
+    let at = c .before .before .before .before .before .before in
+    let a = at .before .before .before .before .before .before .before .args in
     let k = at .bucket .given .0 .0 in
     let i = at .bucket .given .0 .1 .0 in
-    let p : c .profile-of .result ≡ profileOf (getD (slotsOf (a .table .now) k) i []) =
-    c .profile-of .ensures ∙ ap (λ (xs : List Row). profileOf (getD xs i [])) (c .before .before .slots-of .ensures) in
-    ap (λ (q : Profile). record { refusal = 0; bucket = k; profile = q }) p
-    ∙ looked-up (a .table .now) (a .tag) (unrefused (at .before .before .before .before .before)) (valid (at .before .before .before)) (place k i (getD (slotsOf (a .table .now) k) i [])) (located at)
+    let row = getD (slotsOf (a .table .now) k) i [] in
+    let here : getD (c .before .before .before .slots-of .result .now) i [] ≡ row = ap (λ (xs : List Row). getD xs i []) (c .before .before .before .slots-of .ensures) in
+    ap₂ (λ (q : Profile) (n : ℕ). record { refusal = 0; bucket = k; profile = q; day = n }) (c .before .profile-of .ensures ∙ ap profileOf here) (c .day-of .ensures ∙ ap dayOf here)
+    ∙ looked-up (a .table .now) (a .tag) (unrefused (at .before .before .before .before .before)) (valid (at .before .before .before)) (place k i row) (located at)
 
 pub look-up-spec : {M : Type 1} → statement M
 look-up-spec =
@@ -119,8 +115,8 @@ look-up-spec =
     (λ c. search needs) (λ c κs. search needs) (λ c. search needs)
     order-in-requires
     slots-of-requires
-    mul-profile-of
-    shared-slice-copy-out-profile-of
-    (λ c κs. search needs)
+    mul-row
+    shared-slice-copy-out-row
+    (λ c κs. search needs) (λ c κs. search needs)
     returns-3
     returns-4)

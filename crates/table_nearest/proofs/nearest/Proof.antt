@@ -26,14 +26,14 @@ use Rattle.table_nearest.proofs.nearest.Tie as tie
 returns : tie.Need-returns
 returns c =
     let a = c .before .before .before .args in
-    let stop = refused-table (a .table .now) (a .result .now) (a .query) (a .k) (c .before .before .read-refusal .result) (c .before .before .read-refusal .ensures) (c .before .if1 .taken) in
+    let stop = refused-table (a .table .now) (a .result .now) (a .query) (a .k) (a .first-day) (c .before .before .read-refusal .result) (c .before .before .read-refusal .ensures) (c .before .if1 .taken) in
     (c .refused .ensures ∙ stop .0, stop .1)
 
 returns-2 : tie.Need-returns-2
 returns-2 c =
     let a = c .before .before .before .before .before .args in
     let passes = sym (c .before .before .before .before .read-refusal .ensures) ∙ c .before .before .before .if1 .left in
-    let stop = refused-measure (a .table .now) (a .result .now) (a .query) (a .k) passes (sym (c .before .before .valid-measures .ensures) ∙ not-true _ (c .before .if2 .taken)) in
+    let stop = refused-measure (a .table .now) (a .result .now) (a .query) (a .k) (a .first-day) passes (sym (c .before .before .valid-measures .ensures) ∙ not-true _ (c .before .if2 .taken)) in
     (c .refused2 .ensures ∙ stop .0, stop .1)
 
 returns-3 : tie.Need-returns-3
@@ -41,7 +41,7 @@ returns-3 c =
     let a = c .before .before .before .before .before .before .args in
     let passes = sym (c .before .before .before .before .before .read-refusal .ensures) ∙ c .before .before .before .before .if1 .left in
     let valid = sym (c .before .before .before .valid-measures .ensures) ∙ not-false _ (c .before .before .if2 .left) in
-    let stop = refused-none (a .table .now) (a .result .now) (a .query) (a .k) passes valid (c .before .if3 .taken) in
+    let stop = refused-none (a .table .now) (a .result .now) (a .query) (a .k) (a .first-day) passes valid (c .before .if3 .taken) in
     (c .refused3 .ensures ∙ stop .0, stop .1)
 
 -- from the last test of the call's numbers back to the start
@@ -79,7 +79,7 @@ returns-4 c =
     let a = start-of e .args in
     let more = leb-false (min (kAsked (asked .asked-of .result)) (reportedBelow (reportsAsked (asked .asked-of .result)) (a .table .now) (suc (order .order-in .result .t)))) (length (a .result .now))
     (sym (test .before .reply-fits .ensures) ∙ not-true _ (test .if4 .taken)) in
-    let stop = refused-short (a .table .now) (a .result .now) (a .query) (a .k) (passes e) (valid e) (e .if3 .left) (order .order-in .result .t) (order .order-in .ensures) (asked .asked-of .result) (asked .asked-of .ensures) more in
+    let stop = refused-short (a .table .now) (a .result .now) (a .query) (a .k) (a .first-day) (passes e) (valid e) (e .if3 .left) (order .order-in .result .t) (order .order-in .ensures) (asked .asked-of .result) (asked .asked-of .ensures) more in
     (c .before .too-short .ensures .0 ∙ stop .0, c .before .too-short .ensures .1 ∙ stop .1)
 
 -- past the last test the area has room for what will be kept
@@ -101,7 +101,7 @@ nearest-buckets-requires c κs =
     let order = asked .before .before in
     let e = order .before in
     let a = start-of e .args in
-    let number : kAsked (asked .asked-of .result) ≡ a .k = ap kAsked (asked .asked-of .ensures) ∙ threshold-of-row 0 (a .query) (a .k) 0 in
+    let number : kAsked (asked .asked-of .result) ≡ a .k = ap kAsked (asked .asked-of .ensures) ∙ threshold-of-row 0 (a .query) (a .k) 0 (a .first-day) in
     (order .order-in .ensures, passed e, omega (arith, number, e .if3 .left), fits test)
 
 -- what the buckets left is an answer that fits
@@ -129,18 +129,18 @@ module _ (c : tie.After-nearest-buckets) where
   unfolding rowAt headerRow
   numbers found f =
       let a = s .args in
-      numbers-fit (a .table .now) (a .result .now) (a .query) (a .k) (passes e) (valid e) (e .if3 .left) (order .order-in .result .t) (order .order-in .ensures)
+      numbers-fit (a .table .now) (a .result .now) (a .query) (a .k) (a .first-day) (passes e) (valid e) (e .if3 .left) (order .order-in .result .t) (order .order-in .ensures)
       (asked .asked-of .result) (asked .asked-of .ensures) (is-profile (a .query) _ (s .good .1 .1 .0)) (passed e) (fits test) _ (c .nearest-buckets .result) (c .nearest-buckets .ensures) same (s .fits .k .fits) found f
 
   answer : (found : ℕ) → found ≡ keptUnder (s .args .k) (c .nearest-buckets .result .bound)
       → (let a = s .args in
       let mid = c .nearest-buckets .last .1 .1 .0 in
-      (record { refusal = 0; found = found; distances = c .nearest-buckets .result .count } ≡ nearestReply (a .table .now) (a .result .now) (a .query) (a .k))
-      × (take found mid ++ replicate (length mid - found) zeroEntry ≡ resultAfterNearest (a .table .now) (a .result .now) (a .query) (a .k)))
+      (record { refusal = 0; found = found; distances = c .nearest-buckets .result .count } ≡ nearestReply (a .table .now) (a .result .now) (a .query) (a .k) (a .first-day))
+      × (take found mid ++ replicate (length mid - found) zeroEntry ≡ resultAfterNearest (a .table .now) (a .result .now) (a .query) (a .k) (a .first-day)))
   unfolding rowAt headerRow
   answer found f =
       let a = s .args in
-      answered (a .table .now) (a .result .now) (a .query) (a .k) (passes e) (valid e) (e .if3 .left) (order .order-in .result .t) (order .order-in .ensures)
+      answered (a .table .now) (a .result .now) (a .query) (a .k) (a .first-day) (passes e) (valid e) (e .if3 .left) (order .order-in .result .t) (order .order-in .ensures)
       (asked .asked-of .result) (asked .asked-of .ensures) (is-profile (a .query) _ (s .good .1 .1 .0)) (passed e) (fits test) _ (c .nearest-buckets .result) (c .nearest-buckets .ensures) found f same
 
 accepted-requires : tie.Need-accepted-requires

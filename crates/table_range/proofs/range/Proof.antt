@@ -22,14 +22,14 @@ use Rattle.table_range.proofs.range.Tie as tie
 returns : tie.Need-returns
 returns c =
     let a = c .before .before .before .args in
-    let stop = refused-table (a .table .now) (a .result .now) (a .query) (a .radius) (c .before .before .read-refusal .result) (c .before .before .read-refusal .ensures) (c .before .if1 .taken) in
+    let stop = refused-table (a .table .now) (a .result .now) (a .query) (a .radius) (a .first-day) (c .before .before .read-refusal .result) (c .before .before .read-refusal .ensures) (c .before .if1 .taken) in
     (c .refused .ensures ∙ stop .0, stop .1)
 
 returns-2 : tie.Need-returns-2
 returns-2 c =
     let a = c .before .before .before .before .before .args in
     let passes = sym (c .before .before .before .before .read-refusal .ensures) ∙ c .before .before .before .if1 .left in
-    let stop = refused-measure (a .table .now) (a .result .now) (a .query) (a .radius) passes (sym (c .before .before .valid-measures .ensures) ∙ not-true _ (c .before .if2 .taken)) in
+    let stop = refused-measure (a .table .now) (a .result .now) (a .query) (a .radius) (a .first-day) passes (sym (c .before .before .valid-measures .ensures) ∙ not-true _ (c .before .if2 .taken)) in
     (c .refused2 .ensures ∙ stop .0, stop .1)
 
 -- past both tests the table passes
@@ -60,12 +60,12 @@ returns-3 c =
     let a = s .args in
     let t = a .table .now in
     let met = metBelow (asked .result) t (suc (order .result .t)) in
-    let is : met ≡ rangeMet t (a .query) (a .radius) =
+    let is : met ≡ rangeMet t (a .query) (a .radius) (a .first-day) =
     ap₂ (λ (rows : List Row) (n : ℕ). metBelow rows t (suc n)) (asked .ensures) (order .ensures)
-    ∙ met-all t (a .query) (a .radius) (is-profile (a .query) _ (s .good .1 .1 .0))
+    ∙ met-all t (a .query) (a .radius) (a .first-day) (is-profile (a .query) _ (s .good .1 .1 .0))
     in
     let reply = c .before .reply-with in
-    answered t (a .result .now) (a .query) (a .radius)
+    answered t (a .result .now) (a .query) (a .radius) (a .first-day)
     (sym (e .before .before .before .read-refusal .ensures) ∙ e .before .before .if1 .left)
     (sym (e .before .valid-measures .ensures) ∙ not-false _ (e .if2 .left))
     (call .range-buckets .result) (call .range-buckets .last .1 .1 .0) met is (met-pairs (asked .result) t (suc (order .result .t)))

@@ -28,7 +28,7 @@ use Rattle.tree_build.proofs.+build_part.{statement}
 use Rattle.tree_build.proofs.+build_part.Tie.{close}
 
 abbrev zeros : Row
-zeros = 0 ∷ 0 ∷ 0 ∷ 0 ∷ 0 ∷ 0 ∷ 0 ∷ 0 ∷ 0 ∷ 0 ∷ 0 ∷ 0 ∷ []
+zeros = 0 ∷ 0 ∷ 0 ∷ 0 ∷ 0 ∷ 0 ∷ 0 ∷ 0 ∷ 0 ∷ 0 ∷ 0 ∷ 0 ∷ 0 ∷ []
 
 not-zero : (n : ℕ) → (n ≡ 0 → ⊥) → 1 ≤ n
 not-zero n f = omega arith
@@ -49,7 +49,7 @@ end-within n m e h = omega arith
 end-fits : (n : ℕ) → n ≤ 2 ^ 32 → Fits w64 (1 + n / 2)
 end-fits n h = omega arith
 
-end-far : (n : ℕ) → n ≤ 2 ^ 32 → Fits w64 ((1 + n / 2) * 48)
+end-far : (n : ℕ) → n ≤ 2 ^ 32 → Fits w64 ((1 + n / 2) * 52)
 end-far n h = omega arith
 
 counts-fit : (count left right n : ℕ) → count + left + right ≡ cost n → n ≤ 2 ^ 32 → Fits w64 (count + left) × Fits w64 (count + left + right)

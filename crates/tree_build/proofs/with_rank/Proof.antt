@@ -1,4 +1,4 @@
--- `tree_build::with_rank` meets its contract: it writes the mark's word, and a row by value is twelve words long.
+-- `tree_build::with_rank` meets its contract: it writes the mark's word, and a row by value is thirteen words long.
 use borrow.Author.Needs.{needs}
 use mathlib.Core.Path.{refl}
 use Rattle.metric_rules.specs.Row.{rowWidth, withMark}

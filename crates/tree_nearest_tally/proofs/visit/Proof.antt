@@ -60,7 +60,7 @@ use Rattle.tree_nearest_tally.proofs.visit.Code as code
 
 -- a row, what is asked and an entry, as the types of what the references and slices hold
 abbrev RowT : RattleType
-RowT = Array u32 12
+RowT = Array u32 13
 
 abbrev AskedT : RattleType
 AskedT = Array RowT 2
@@ -70,7 +70,7 @@ EntryT = Array u64 2
 
 -- the places of a signature that hold them
 abbrev RowS : Slot 4
-RowS = arrayOf (plain (λ _. u32)) 12
+RowS = arrayOf (plain (λ _. u32)) 13
 
 abbrev AskedS : Slot 4
 AskedS = arrayOf RowS 2

@@ -64,7 +64,7 @@ use Rattle.tree_nearest_tally.proofs.visited.Code as code
 
 -- a row, what is asked and an entry, as the types of what the references and slices hold
 abbrev RowT : RattleType
-RowT = Array u32 12
+RowT = Array u32 13
 
 abbrev AskedT : RattleType
 AskedT = Array RowT 2
@@ -74,7 +74,7 @@ EntryT = Array u64 2
 
 -- the places of a signature that hold them
 abbrev RowS : Slot 3
-RowS = arrayOf (plain (λ _. u32)) 12
+RowS = arrayOf (plain (λ _. u32)) 13
 
 abbrev AskedS : Slot 3
 AskedS = arrayOf RowS 2

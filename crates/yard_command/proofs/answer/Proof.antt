@@ -32,7 +32,7 @@ returns c =
     let read = told .before .before in
     let a = start-of read .args in
     let s = ran .run-add in
-    add-answered (a .table .now) (a .work .now) (a .result .now) (a .number) (a .line .now) (a .out .now) (s .last .1 .1 .0) (s .result) (matched .0 .0) (ran .before .profile .result) (s .last .0) (s .last .1 .0) (sym (matched .1) ∙ read .command .ensures) (ran .before .profile .ensures) (s .ensures .0) (s .ensures .1 .0) (s .ensures .1 .1)
+    add-answered (a .table .now) (a .work .now) (a .result .now) (a .number) (a .line .now) (a .out .now) (s .last .1 .1 .0) (s .result) (matched .0 .0) (ran .before .profile .result) (matched .0 .1 .0) (s .last .0) (s .last .1 .0) (sym (matched .1) ∙ read .command .ensures) (ran .before .profile .ensures) (s .ensures .0) (s .ensures .1 .0) (s .ensures .1 .1)
 
 returns-2 : tie.Need-returns-2
 returns-2 c =
@@ -52,7 +52,7 @@ returns-3 c =
     let read = told .before .before in
     let a = start-of read .args in
     let s = ran .run-range in
-    within-answered (a .table .now) (a .work .now) (a .result .now) (a .number) (a .line .now) (a .out .now) (s .last .1 .1 .0) (s .result) (matched .0 .0) (ran .before .profile2 .result) (s .last .1 .0) (sym (matched .1) ∙ read .command .ensures) (ran .before .profile2 .ensures) (s .ensures .0) (s .ensures .1)
+    within-answered (a .table .now) (a .work .now) (a .result .now) (a .number) (a .line .now) (a .out .now) (s .last .1 .1 .0) (s .result) (matched .0 .0) (ran .before .profile2 .result) (matched .0 .1 .0) (s .last .1 .0) (sym (matched .1) ∙ read .command .ensures) (ran .before .profile2 .ensures) (s .ensures .0) (s .ensures .1)
 
 returns-4 : tie.Need-returns-4
 returns-4 c =
@@ -62,7 +62,7 @@ returns-4 c =
     let read = told .before .before in
     let a = start-of read .args in
     let s = ran .run-nearest in
-    nearest-answered (a .table .now) (a .work .now) (a .result .now) (a .number) (a .line .now) (a .out .now) (s .last .1 .1 .0) (s .result) (matched .0 .0) (ran .before .profile3 .result) (s .last .1 .0) (sym (matched .1) ∙ read .command .ensures) (ran .before .profile3 .ensures) (s .ensures .0) (s .ensures .1)
+    nearest-answered (a .table .now) (a .work .now) (a .result .now) (a .number) (a .line .now) (a .out .now) (s .last .1 .1 .0) (s .result) (matched .0 .0) (ran .before .profile3 .result) (matched .0 .1 .0) (s .last .1 .0) (sym (matched .1) ∙ read .command .ensures) (ran .before .profile3 .ensures) (s .ensures .0) (s .ensures .1)
 
 returns-5 : tie.Need-returns-5
 returns-5 c =

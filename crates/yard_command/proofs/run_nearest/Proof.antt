@@ -13,7 +13,7 @@ use Rattle.yard_command.proofs.run_nearest.Tie as tie
 put-searched-requires : tie.Need-put-searched-requires
 put-searched-requires c κs =
     let a = c .before .before .before .before .before .before .args in
-    let few = nearest-found (a .table .now) (a .result .now) (a .query) (a .k) in
+    let few = nearest-found (a .table .now) (a .result .now) (a .query) (a .k) (a .first-day) in
     let found = ap (λ (s : Searched). s .found) (c .before .before .before .nearest .ensures .0) in
     (omega (arith, few, found), omega (arith, few, found, c .before .before .before .before .before .before .pre))
 

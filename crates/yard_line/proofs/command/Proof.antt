@@ -3,9 +3,8 @@ use mathlib.Core.Path.{ap, sym, _∙_}
 use native.Mathlib.Omega.{arith}
 use lib.ListN.{take}
 use borrow.Author.Needs.{needs}
-use mathlib.Core.Bool.{true, false}
-use borrow.Author.Tests.{not-true, not-false}
 use Rattle.yard_rules.specs.Line.{onlyByte}
+use Rattle.yard_line.specs.declared.WordRead.the-variants.{Word, NoWord}
 use Rattle.yard_line.proofs.Fields.{two-fields, first-byte, long-letter, one-field, whole-is}
 use Rattle.yard_line.proofs.command.Statement.{statement}
 use Rattle.yard_line.proofs.command.Tie as tie
@@ -18,17 +17,17 @@ returns-2 c = one-field _ (c .before .before .part-end .ensures) (c .if2 .taken)
 
 returns-3 : tie.Need-returns-3
 returns-3 c =
-    let line = c .before .before .before .before .before .before .before .before .args .line .now in
-    let parts = two-fields line (c .before .before .before .before .before .before .part-end .ensures) (omega arith) (c .before .before .before .part-end2 .ensures) in
-    let letter = first-byte line (omega arith) ∙ ap (λ k. onlyByte (take k line)) (sym (c .before .before .before .before .before .if1 .left)) in
-    whole-is line parts letter false (sym (c .before .is-whole .ensures) ∙ not-true _ (c .if3 .taken))
+    let line = c .before .before .before .before .before .before .before .before .before .args .line .now in
+    let parts = two-fields line (c .before .before .before .before .before .before .before .part-end .ensures) (omega arith) (c .before .before .before .before .part-end2 .ensures) in
+    let letter = first-byte line (omega arith) ∙ ap (λ k. onlyByte (take k line)) (sym (c .before .before .before .before .before .before .if1 .left)) in
+    whole-is line parts letter NoWord (sym (c .enum-told .given .1) ∙ c .before .before .day-for .ensures)
 
 returns-4 : tie.Need-returns-4
 returns-4 c =
-    let line = c .before .before .before .before .before .before .before .before .before .before .args .line .now in
-    let parts = two-fields line (c .before .before .before .before .before .before .before .before .part-end .ensures) (omega arith) (c .before .before .before .before .before .part-end2 .ensures) in
-    let letter = first-byte line (omega arith) ∙ ap (λ k. onlyByte (take k line)) (sym (c .before .before .before .before .before .before .before .if1 .left)) in
-    c .command-of .ensures ∙ whole-is line parts letter true (sym (c .before .before .before .is-whole .ensures) ∙ not-false _ (c .before .before .if3 .left))
+    let line = c .before .before .before .before .before .before .before .before .before .before .before .before .args .line .now in
+    let parts = two-fields line (c .before .before .before .before .before .before .before .before .before .before .part-end .ensures) (omega arith) (c .before .before .before .before .before .before .before .part-end2 .ensures) in
+    let letter = first-byte line (omega arith) ∙ ap (λ k. onlyByte (take k line)) (sym (c .before .before .before .before .before .before .before .before .before .if1 .left)) in
+    c .command-of .ensures ∙ whole-is line parts letter (Word _) (sym (c .before .before .before .day .given .1) ∙ c .before .before .before .before .before .day-for .ensures)
 
 pub command-spec : {M : Type 1} → statement M
 command-spec =
@@ -37,7 +36,7 @@ command-spec =
     (λ c κs. search needs)
     returns
     returns-2
-    (λ c. search needs) (λ c κs. search needs) (λ c. search needs) (λ c κs. search needs)
+    (λ c. search needs) (λ c κs. search needs) (λ c. search needs) (λ c κs. search needs) (λ c. search needs) (λ c. search needs)
     returns-3
     (λ c. search needs) (λ c. search needs) (λ c. search needs) (λ c. search needs) (λ c κs. search needs)
     returns-4)

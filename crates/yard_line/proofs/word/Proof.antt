@@ -1,7 +1,5 @@
--- `yard_line::word` meets its contract: one to ten digits, and a value that fits.
-use Prim.Native.Nat.{_^_}
-use mathlib.Core.Path.{refl, ap, sym, _∙_}
-use lib.Dec.{ltb}
+-- `yard_line::word` meets its contract: so many digits, and a value below the bound.
+use mathlib.Core.Path.{refl}
 use borrow.Author.Needs.{needs}
 use borrow.Author.Tests.{lt-ltb, le-ltb}
 use Rattle.text_read.specs.Found.{numberIn}
@@ -13,19 +11,19 @@ use Rattle.yard_line.proofs.word.Tie as tie
 
 returns : tie.Need-returns
 unfolding numberIn wordIf
-returns c = word-by _ (no-number _ _ (c .before .before .number .ensures) (c .enum-told .given .1)) refl refl
+returns c = word-by _ _ _ (no-number _ _ (c .before .before .number .ensures) (c .enum-told .given .1)) refl refl
 
 returns-2 : tie.Need-returns-2
 unfolding numberIn wordIf
 returns-2 c =
     let n = a-number _ _ (c .before .before .before .before .number .ensures) (c .before .before .n .given .1) in
-    word-by _ (n .0) (ap (λ k. ltb k (2 ^ 32)) (sym (n .1)) ∙ lt-ltb _ _ (c .if1 .taken)) (n .1)
+    word-by _ _ _ (n .0) (n .1) (lt-ltb _ _ (c .if1 .taken))
 
 returns-3 : tie.Need-returns-3
 unfolding numberIn wordIf
 returns-3 c =
     let n = a-number _ _ (c .before .before .before .before .number .ensures) (c .before .before .n .given .1) in
-    word-by _ (n .0) (ap (λ k. ltb k (2 ^ 32)) (sym (n .1)) ∙ le-ltb _ _ (c .if1 .left)) (n .1)
+    word-by _ _ _ (n .0) (n .1) (le-ltb _ _ (c .if1 .left))
 
 pub word-spec : {M : Type 1} → statement M
 word-spec =
