@@ -13,7 +13,7 @@ use Rattle.table_rules.specs.Geometry.{room}
 use Rattle.table_rules.specs.Table.{Table, orderOf, builtOf, liveOf, liveSlots}
 use Rattle.table_rules.specs.Rebuild.{Rebuilt}
 use Rattle.table_rules.specs.Checks.{sizePasses}
-use Rattle.table_rules.specs.Remove.{marked, shrunk, removed}
+use Rattle.table_rules.specs.Remove.{marked, afterDeletion, removed}
 use Rattle.table_rules.specs.LookUp.{Place, find}
 use Rattle.table_rules.proofs.Views.{Only, same-order, kept-built, kept-live}
 use Rattle.table_rules.proofs.Changes.{marked-only, marked-built, marked-live}
@@ -25,7 +25,8 @@ use Rattle.history.proofs.ByBucket.{ByBucket, by-bucket-roomy}
 use Rattle.history.proofs.InvariantForms.{by-bucket-lives, invariant-lives, invariant-by-bucket}
 use Rattle.history.proofs.Marking.{row-is, row-within, marked-by-bucket}
 use Rattle.history.proofs.AmortizedCredit.{potential, mark-pays}
-use Rattle.history.proofs.AmortizedRebuild.{potentialOf, shrunk-paid}
+use Rattle.table_rules.proofs.Deletion.{deletion}
+use Rattle.history.proofs.AmortizedRebuild.{potentialOf, deletion-paid}
 
 -- an item found in a sound table, and its slot marked dead
 module _ {t : Table} (invariant : Invariant t) (tag : ℕ) (place : Place) (here : find t tag ≡ some place) where
@@ -79,21 +80,22 @@ module _ {t : Table} (invariant : Invariant t) (tag : ℕ) (place : Place) (here
       subst (λ (o : ℕ). potential o (builtOf (marked t place)) (liveOf (marked t place)) ≤ potentialOf t + orderOf t * 11) (sym (same-order (only .header)))
       (mark-pays (at .inOrder) some-live (used .live-built) built-same live-less (λ j h ne. kept-live (only .others j h ne)))
 
-  shrink-paid : shrunk (marked t place) (place .bucket) .distances + potentialOf (shrunk (marked t place) (place .bucket) .table) ≤ potentialOf (marked t place)
-  shrink-paid =
+  steps-paid :
+      afterDeletion (marked t place) (place .bucket) .distances + potentialOf (afterDeletion (marked t place) (place .bucket) .table) ≤ potentialOf (marked t place)
+  steps-paid =
       let order : orderOf (marked t place) ≡ orderOf t = same-order (only .header) in
       let after : ByBucket (marked t place) = marked-by-bucket stands tag place at in
-      shrunk-paid (marked t place) (by-bucket-roomy after) (place .bucket) (omega (arith, at .inOrder, order))
+      deletion-paid (marked t place) (by-bucket-roomy after) (place .bucket) (omega (arith, at .inOrder, order))
       (omega (arith, used .quarter, live-less, some-live)) (omega (arith, used .half, built-same (place .bucket) (at .inOrder)))
-      (λ j h. others-pass j (omega (arith, h, order))) (by-bucket-lives after)
+      (λ j h. others-pass j (omega (arith, h, order))) (by-bucket-lives after) (deletion (marked t place) (place .bucket))
 
 pub remove-paid : {t : Table} → Invariant t → (tag : ℕ) → removed t tag .distances + potentialOf (removed t tag .table) ≤ potentialOf t + orderOf t * 11
 unfolding removed
 remove-paid {t} invariant tag = go (find t tag) refl
   where
     result : Option Place → Rebuilt
-    result o = elim o [ some place ↦ shrunk (marked t place) (place .bucket) | none ↦ record { table = t; distances = 0 } ]
+    result o = elim o [ some place ↦ afterDeletion (marked t place) (place .bucket) | none ↦ record { table = t; distances = 0 } ]
 
     go : (o : Option Place) → find t tag ≡ o → result o .distances + potentialOf (result o .table) ≤ potentialOf t + orderOf t * 11
-    go (some place) e = omega (arith, mark-paid invariant tag place e, shrink-paid invariant tag place e)
+    go (some place) e = omega (arith, mark-paid invariant tag place e, steps-paid invariant tag place e)
     go none e = omega arith

@@ -3,12 +3,10 @@
 use Prim.Native.Nat.{ℕ, suc, _+_, _-_, _*_, _≤_, _<_}
 use native.Mathlib.Omega.{arith}
 use mathlib.Core.Path.{_≡_, refl, sym, _∙_, ap, ap₂, subst}
-use mathlib.Core.Bool.{Bool, true, false}
+use mathlib.Core.Bool.{true, false}
 use mathlib.Core.Logic.{inl, inr}
 use mathlib.Core.List.{List, [], _∷_, map}
-use lib.Dec.{ltb, eqb}
 use lib.ListN.{length}
-use borrow.Author.Tests.{ltb-false, eqb-false}
 use Rattle.lists.specs.Lists.{countFrom, total, All}
 use Rattle.lists.proofs.Lists.{Pairs}
 use Rattle.metric_rules.specs.declared.Profile.{Profile}
@@ -19,13 +17,16 @@ use Rattle.table_rules.specs.Table.{Table, orderOf, builtOf, liveOf, inUse, liv
 use Rattle.table_rules.specs.Rebuild.{Rebuilt, liveItems, rebuilt}
 use Rattle.table_rules.specs.Checks.{sizePasses, sizesPass}
 use Rattle.table_rules.specs.Add.{lowestEmpty, gathered, addTarget, added}
-use Rattle.table_rules.specs.Remove.{united, rebuiltLower, shrunk}
+use Rattle.table_rules.specs.Remove.{united, moved}
 use Rattle.table_rules.proofs.Views.{same-order, kept-built, kept-live}
 use Rattle.table_rules.proofs.Puts.{held-built, held-live, emptied-only, emptied-holds}
 use Rattle.table_rules.proofs.ByNumber.{count-apart, length-flatten}
 use Rattle.table_rules.proofs.Live.{Roomy, rebuilt-only}
 use Rattle.table_rules.proofs.Sizes.{Used, size-cases, size-in-use, sizes-at}
 use Rattle.table_rules.proofs.Adding.{Target, lowest-within, lowest-used, add-target, gathered-buckets, not-in-use, in-use}
+use Rattle.table_rules.proofs.Deletion.{Rebuilds, Deletion}
+use Rattle.table_rules.proofs.Deletion.Rebuilds.{unites-in-k, unites-lower, unites-between, moves}
+use Rattle.table_rules.proofs.Deletion.Deletion.{empties, ends, rebuilds}
 use Rattle.table_rules.proofs.Removing.{Sparse, deep, room-one, room-two, exactly, used}
 use Rattle.history.proofs.Amortized.{below}
 use Rattle.history.proofs.AmortizedMoved.{built-moved, live-moved}
@@ -125,8 +126,8 @@ module _ (t : Table) (roomy : Roomy t) (k : ℕ) (sparse : Sparse t k) (half : r
             (subst (λ (n : ℕ). n + 4 * (orderOf t - g) * n ≤ total (map (credit (orderOf t) (builtOf t) (liveOf t)) (k ∷ r ∷ [])) + 0) (sym number) (omega (arith, covered))),
       )
 
-  alone-paid : inUse t (k - 2) ≡ false → united t (k ∷ []) (k - 2) .distances + potentialOf (united t (k ∷ []) (k - 2) .table) ≤ potentialOf t
-  unfolding united total
+  alone-paid : inUse t (k - 2) ≡ false → moved t k (k - 2) .distances + potentialOf (moved t k (k - 2) .table) ≤ potentialOf t
+  unfolding moved united total
   alone-paid e =
       let number : length (liveItems t (k ∷ [])) ≡ liveOf t k = live-number t (k ∷ []) (sparse .lives) one-in ∙ omega arith in
       omega (
@@ -137,35 +138,21 @@ module _ (t : Table) (roomy : Roomy t) (k : ℕ) (sparse : Sparse t k) (half : r
             (omega (arith, alone-credit (orderOf t) k (builtOf t) (liveOf t) (sparse .inOrder) many-dead (deep sparse)))),
       )
 
-  pub rebuilt-lower-paid : rebuiltLower t k .distances + potentialOf (rebuiltLower t k .table) ≤ potentialOf t
-  unfolding rebuiltLower
-  rebuilt-lower-paid = go (inUse t (k - 1)) refl (ltb (room (k - 2)) (liveOf t (k - 1))) refl (inUse t (k - 2)) refl
-    where
-      result : Bool → Bool → Bool → Rebuilt
-      result a b c =
-          elim a [
-            | true ↦ united t (k ∷ (k - 1) ∷ []) (elim b [ true ↦ k | false ↦ k - 1 ])
-            | false ↦ elim c [ true ↦ united t (k ∷ (k - 2) ∷ []) (k - 1) | false ↦ united t (k ∷ []) (k - 2) ]
-          ]
-
-      go :
-          (a : Bool) → inUse t (k - 1) ≡ a → (b : Bool) → ltb (room (k - 2)) (liveOf t (k - 1)) ≡ b → (c : Bool) → inUse t (k - 2) ≡ c
-          → result a b c .distances + potentialOf (result a b c .table) ≤ potentialOf t
-      go true u true f c v =
-          let next = used sparse (k - 1) (omega (arith, deep sparse)) u in
-          pair-paid (k - 1) k (omega (arith, deep sparse)) (omega arith) (λ a. absurd (a .0 refl))
-          (omega (arith, exactly sparse, room-two sparse, room-one sparse, next .live-built, next .built-room))
-          (same-credit (orderOf t) k (builtOf t) (liveOf t) (sparse .inOrder) many-dead (deep sparse))
-      go true u false f c v =
-          let few = ltb-false (room (k - 2)) (liveOf t (k - 1)) f in
-          pair-paid (k - 1) (k - 1) (omega (arith, deep sparse)) (omega arith) (λ a. absurd (a .1 .0 refl)) (omega (arith, exactly sparse, room-one sparse, few))
-          (next-credit (orderOf t) k (builtOf t) (liveOf t) (sparse .inOrder) many-dead (deep sparse) (omega (arith, few, exactly sparse)))
-      go false u b f true v =
-          let second = used sparse (k - 2) (omega (arith, deep sparse)) v in
-          pair-paid (k - 2) (k - 1) (omega (arith, deep sparse)) (omega arith) (λ a. unused (k - 1) (omega (arith, deep sparse)) u)
-          (omega (arith, exactly sparse, room-one sparse, second .live-built, second .built-room))
-          (second-credit (orderOf t) k (builtOf t) (liveOf t) (sparse .inOrder) many-dead (deep sparse))
-      go false u b f false v = alone-paid v
+  pub rebuilds-paid : {r : Rebuilt} → Rebuilds t k r → r .distances + potentialOf (r .table) ≤ potentialOf t
+  rebuilds-paid (unites-in-k u more) =
+      let next = used sparse (k - 1) (omega (arith, deep sparse)) u in
+      pair-paid (k - 1) k (omega (arith, deep sparse)) (omega arith) (λ a. absurd (a .0 refl))
+      (omega (arith, exactly sparse, room-two sparse, room-one sparse, next .live-built, next .built-room))
+      (same-credit (orderOf t) k (builtOf t) (liveOf t) (sparse .inOrder) many-dead (deep sparse))
+  rebuilds-paid (unites-lower u few) =
+      pair-paid (k - 1) (k - 1) (omega (arith, deep sparse)) (omega arith) (λ a. absurd (a .1 .0 refl)) (omega (arith, exactly sparse, room-one sparse, few))
+      (next-credit (orderOf t) k (builtOf t) (liveOf t) (sparse .inOrder) many-dead (deep sparse) (omega (arith, few, exactly sparse)))
+  rebuilds-paid (unites-between u v) =
+      let second = used sparse (k - 2) (omega (arith, deep sparse)) v in
+      pair-paid (k - 2) (k - 1) (omega (arith, deep sparse)) (omega arith) (λ a. unused (k - 1) (omega (arith, deep sparse)) u)
+      (omega (arith, exactly sparse, room-one sparse, second .live-built, second .built-room))
+      (second-credit (orderOf t) k (builtOf t) (liveOf t) (sparse .inOrder) many-dead (deep sparse))
+  rebuilds-paid (moves u v) = alone-paid v
 
 -- a bucket emptied holds nothing any more
 emptied-paid : (t : Table) → tableRows (orderOf t) ≤ length t → (k : ℕ) → k ≤ orderOf t → potentialOf (emptied (k ∷ []) t) ≤ potentialOf t
@@ -184,34 +171,12 @@ emptied-paid t long k h =
     (omega (arith, paid))
 
 -- what follows a mark in bucket k, whose sizes passed before it
-pub shrunk-paid :
+pub deletion-paid :
     (t : Table) → Roomy t → (k : ℕ) → k ≤ orderOf t → room k < 4 * suc (liveOf t k) → room k < 2 * builtOf t k
     → ((j : ℕ) → j ≤ orderOf t → (j ≡ k → ⊥) → sizePasses j (builtOf t j) (liveOf t j) ≡ true)
-    → ((j : ℕ) → j ≤ orderOf t → length (liveSlots t j) ≡ liveOf t j)
-    → shrunk t k .distances + potentialOf (shrunk t k .table) ≤ potentialOf t
-unfolding shrunk
-shrunk-paid t roomy k h before half others lives = go (eqb (liveOf t k) 0) refl (ltb (room k) (4 * liveOf t k)) refl
-  where
-    result : Bool → Bool → Rebuilt
-    result a b =
-        elim a [
-          | true ↦ record { table = emptied (k ∷ []) t; distances = 0 }
-          | false ↦ elim b [ true ↦ record { table = t; distances = 0 } | false ↦ rebuiltLower t k ]
-        ]
-
-    go :
-        (a : Bool) → eqb (liveOf t k) 0 ≡ a → (b : Bool) → ltb (room k) (4 * liveOf t k) ≡ b
-        → result a b .distances + potentialOf (result a b .table) ≤ potentialOf t
-    go true e b f = omega (arith, emptied-paid t (roomy .long) k h)
-    go false e true f = omega arith
-    go false e false f =
-        rebuilt-lower-paid t roomy k
-        (record {
-          inOrder = h;
-          some = omega (arith, eqb-false (liveOf t k) 0 e);
-          sparse = ltb-false (room k) (4 * liveOf t k) f;
-          before = before;
-          others = others;
-          lives = lives;
-        })
-        half
+    → ((j : ℕ) → j ≤ orderOf t → length (liveSlots t j) ≡ liveOf t j) → {r : Rebuilt} → Deletion t k r
+    → r .distances + potentialOf (r .table) ≤ potentialOf t
+deletion-paid t roomy k h before half others lives (empties z) = omega (arith, emptied-paid t (roomy .long) k h)
+deletion-paid t roomy k h before half others lives (ends positive enough) = omega arith
+deletion-paid t roomy k h before half others lives (rebuilds positive few step) =
+    rebuilds-paid t roomy k (record { inOrder = h; some = positive; sparse = few; before = before; others = others; lives = lives }) half step

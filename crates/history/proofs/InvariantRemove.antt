@@ -2,15 +2,13 @@
 -- emptied, left or rebuilt.
 use Prim.Native.Nat.{ℕ, suc, _+_, _-_, _*_, _≤_, _<_}
 use mathlib.Core.Path.{_≡_, refl, sym, _∙_, ap, ap₂, subst}
-use mathlib.Core.Bool.{Bool, true, false}
+use mathlib.Core.Bool.{true}
 use mathlib.Core.Logic.{_⊎_, inl, inr}
 use mathlib.Core.List.{List, [], _∷_, _++_, map, flatten, append-nil, List·Permᴰ, List·Permᴰ·cons, List·Permᴰ·trans, Permᴰ·refl, Permᴰ·symm}
 use mathlib.Core.Option.{Option, none, some}
 use native.Mathlib.Omega.{arith}
 use native.Mathlib.Decide.{ℕ-discrete}
-use lib.Dec.{ltb, eqb}
 use lib.ListN.{length, length-map}
-use borrow.Author.Tests.{ltb-true, ltb-false, eqb-true, eqb-false}
 use Rattle.lists.specs.Lists.{distinct, All}
 use Rattle.lists.proofs.Lists.{perm-length, perm-map, perm-of-eq}
 use Rattle.lists.proofs.Distinct.{distinct-perm}
@@ -22,13 +20,15 @@ use Rattle.table_rules.specs.Table.{Table, orderOf, tableSpace, builtOf, liveOf
 use Rattle.table_rules.specs.Checks.{sizePasses}
 use Rattle.table_rules.specs.LookUp.{Place, find}
 use Rattle.table_rules.specs.Rebuild.{Rebuilt, liveItems}
-use Rattle.table_rules.specs.Remove.{marked, rebuiltLower, shrunk, removed}
+use Rattle.table_rules.specs.Remove.{marked, afterDeletion, removed}
 use Rattle.table_rules.proofs.Views.{Only, only-own, only-twice, only-fewer, same-order, kept-built, kept-live}
 use Rattle.table_rules.proofs.Puts.{Holds, held-built, held-live, apart-or, emptied-only, emptied-holds}
 use Rattle.table_rules.proofs.Changes.{marked-only, marked-built, marked-live as live-marked}
 use Rattle.table_rules.proofs.Live.{allLive, emptied-live, rebuilt-only}
 use Rattle.table_rules.proofs.Finding.{Found, found, found-within}
 use Rattle.table_rules.proofs.Sizes.{Used, size-none, size-used, size-in-use, sizes-at, sizes-total}
+use Rattle.table_rules.proofs.Deletion.{Rebuilds, Deletion, deletion}
+use Rattle.table_rules.proofs.Deletion.Deletion.{empties, ends, rebuilds}
 use Rattle.table_rules.proofs.Removing.{Unites, sparse-unites}
 use Rattle.history.proofs.Invariant.{Invariant}
 use Rattle.history.proofs.ByBucket.{ByBucket, good-none, by-bucket-roomy, by-bucket-changed}
@@ -36,21 +36,18 @@ use Rattle.history.proofs.InvariantForms.{by-bucket-invariant, by-bucke
 use Rattle.history.proofs.Rebuilding.{rebuilt-by-bucket, rebuilt-sizes, rebuilt-live}
 use Rattle.history.proofs.Marking.{row-is, row-within, marked-by-bucket, marked-live, marked-once}
 
--- u is t settled: it stands, its sizes pass, and the live items are permuted, thresholds and marks aside
-record Shrunk (t u : Table) : Type 0 where
+-- u stands, its sizes pass, and its live items are those of t, permuted, thresholds and marks aside
+record Reordered (t u : Table) : Type 0 where
   only : Only (λ j. ⊥) t u
   by-bucket : ByBucket u
   sizes : (j : ℕ) → j ≤ orderOf u → sizePasses j (builtOf u j) (liveOf u j) ≡ true
   live : List·Permᴰ (map (placed 0) (allLive u)) (map (placed 0) (allLive t))
 
-abbrev Shrinks : Table → Rebuilt → Type 0
-Shrinks t r = Shrunk t (r .table)
-
 -- a table that stands and whose sizes pass but for bucket k
 module _ {t : Table} (s : ByBucket t) (once : distinct (map tagOf (allLive t)) ≡ true) (k : ℕ) (inOrder : k ≤ orderOf t)
     (others : (j : ℕ) → j ≤ orderOf t → (j ≡ k → ⊥) → sizePasses j (builtOf t j) (liveOf t j) ≡ true) where
   -- enough of them: the end
-  as-it-is : sizePasses k (builtOf t k) (liveOf t k) ≡ true → Shrunk t t
+  as-it-is : sizePasses k (builtOf t k) (liveOf t k) ≡ true → Reordered t t
   as-it-is here =
       record {
         only = only-own;
@@ -63,7 +60,7 @@ module _ {t : Table} (s : ByBucket t) (once : distinct (map tagOf (allLive t)) �
       }
 
   -- none left: the bucket is emptied
-  made-empty : liveOf t k ≡ 0 → Shrunk t (emptied (k ∷ []) t)
+  made-empty : liveOf t k ≡ 0 → Reordered t (emptied (k ∷ []) t)
   unfolding liveItems flatten
   made-empty zero-live =
       let only : Only (λ j. All (λ i. j ≡ i → ⊥) (k ∷ [])) t (emptied (k ∷ []) t) = emptied-only (k ∷ []) t (inOrder, tt) (s .long) in
@@ -94,11 +91,12 @@ module _ {t : Table} (s : ByBucket t) (once : distinct (map tagOf (allLive t)) �
       nothing-lost (x ∷ xs) e p = absurd (omega (arith, e))
 
   -- too thin: rebuilt
-  rebuilt-sparse : 0 < liveOf t k → 4 * liveOf t k ≤ room k → room k < 4 * suc (liveOf t k) → Shrunk t (rebuiltLower t k .table)
-  rebuilt-sparse positive sparse before =
-      let u : Unites t k (rebuiltLower t k) =
-      sparse-unites (record { inOrder = inOrder; some = positive; sparse = sparse; before = before; others = others; lives = by-bucket-lives s }) in
-      subst (λ (r : Rebuilt). Shrunk t (r .table)) (sym (u .steps))
+  rebuilt-sparse :
+      0 < liveOf t k → 4 * liveOf t k ≤ room k → room k < 4 * suc (liveOf t k) → {r : Rebuilt} → Rebuilds t k r → Reordered t (r .table)
+  rebuilt-sparse positive sparse before {r} step =
+      let u : Unites t k r =
+      sparse-unites (record { inOrder = inOrder; some = positive; sparse = sparse; before = before; others = others; lives = by-bucket-lives s }) step in
+      subst (λ (q : Rebuilt). Reordered t (q .table)) (sym (u .steps))
       (record {
         only = only-fewer (λ j b. absurd b) (rebuilt-only t (by-bucket-roomy s) (u .from) (u .inOrder) (u .to) (u .target .reached) (liveItems t (u .from)) (u .target .fits));
         by-bucket = rebuilt-by-bucket s (u .from) (u .inOrder) (u .apart) [] tt tt once (u .to) (u .target);
@@ -107,23 +105,13 @@ module _ {t : Table} (s : ByBucket t) (once : distinct (map tagOf (allLive t)) �
       })
 
   -- the three in their order
-  shrinks : liveOf t k ≤ builtOf t k → builtOf t k ≤ room k → room k < 2 * builtOf t k → room k < 4 * suc (liveOf t k) → Shrinks t (shrunk t k)
-  unfolding shrunk
-  shrinks low fits half before = go (eqb (liveOf t k) 0) refl (ltb (room k) (4 * liveOf t k)) refl
-    where
-      go :
-          (a : Bool) → eqb (liveOf t k) 0 ≡ a → (b : Bool) → ltb (room k) (4 * liveOf t k) ≡ b
-          → Shrinks t (elim a [
-            | true ↦ record { table = emptied (k ∷ []) t; distances = 0 }
-            | false ↦ elim b [ true ↦ record { table = t; distances = 0 } | false ↦ rebuiltLower t k ]
-          ])
-      go true e b f = made-empty (eqb-true (liveOf t k) 0 e)
-      go false e true f =
-          as-it-is
-          (size-used k (builtOf t k) (liveOf t k)
-          (record { live-built = low; built-room = fits; half = half; quarter = ltb-true (room k) (4 * liveOf t k) f }))
-      go false e false f =
-          rebuilt-sparse (omega (arith, eqb-false (liveOf t k) 0 e)) (ltb-false (room k) (4 * liveOf t k) f) before
+  deletion-reorders :
+      liveOf t k ≤ builtOf t k → builtOf t k ≤ room k → room k < 2 * builtOf t k → room k < 4 * suc (liveOf t k) → {r : Rebuilt} → Deletion t k r
+      → Reordered t (r .table)
+  deletion-reorders low fits half before (empties z) = made-empty z
+  deletion-reorders low fits half before (ends positive enough) =
+      as-it-is (size-used k (builtOf t k) (liveOf t k) (record { live-built = low; built-room = fits; half = half; quarter = enough }))
+  deletion-reorders low fits half before (rebuilds positive few step) = rebuilt-sparse positive few before step
 
 map-placed : {B : Type 0} (f : Row → B) → ((m : ℕ) (row : Row) → f (placed m row) ≡ f row) → (rows : List Row) → map f (map (placed 0) rows) ≡ map f rows
 map-placed f kept [] = refl
@@ -167,32 +155,33 @@ module _ {t : Table} (invariant : Invariant t) (tag : ℕ) (place : Place) (e : 
   unfolding liveTotal
   most = sizes-total (orderOf t) (builtOf t) (liveOf t) (invariant .sizes)
 
-  shrunk-mark : Shrinks (marked t place) (shrunk (marked t place) k)
-  shrunk-mark =
+  steps-reorder : Reordered (marked t place) (afterDeletion (marked t place) k .table)
+  steps-reorder =
       let built : builtOf (marked t place) k ≡ builtOf t k = marked-built t place (here .inOrder) (invariant .long) (row-within stands tag place here) in
       let live : liveOf (marked t place) k ≡ liveOf t k - 1 = live-marked t place (here .inOrder) (invariant .long) (row-within stands tag place here) in
-      shrinks (marked-by-bucket stands tag place here) (marked-once stands tag place here once) k (omega (arith, same, here .inOrder)) others
+      deletion-reorders (marked-by-bucket stands tag place here) (marked-once stands tag place here once) k (omega (arith, same, here .inOrder)) others
       (omega (arith, built, live, used .live-built))
       (omega (arith, built, used .built-room))
       (omega (arith, built, used .half))
       (omega (arith, live, used .quarter))
+      (deletion (marked t place) k)
 
-  removed-steps : removed t tag ≡ shrunk (marked t place) k
+  removed-steps : removed t tag ≡ afterDeletion (marked t place) k
   unfolding removed
-  removed-steps = ap (λ (o : Option Place). elim o [ some p ↦ shrunk (marked t p) (p .bucket) | none ↦ record { table = t; distances = 0 } ]) e
+  removed-steps = ap (λ (o : Option Place). elim o [ some p ↦ afterDeletion (marked t p) (p .bucket) | none ↦ record { table = t; distances = 0 } ]) e
 
   abbrev after : Table
-  after = shrunk (marked t place) k .table
+  after = afterDeletion (marked t place) k .table
 
   -- all live items but the one with the tag, whatever a row has besides threshold and mark
   module _ {B : Type 0} (f : Row → B) (kept : (m : ℕ) (row : Row) → f (placed m row) ≡ f row) where
-    shrunk-live : List·Permᴰ (map f (allLive (marked t place))) (map f (allLive after))
-    shrunk-live =
+    steps-live : List·Permᴰ (map f (allLive (marked t place))) (map f (allLive after))
+    steps-live =
         List·Permᴰ·trans (perm-of-eq (sym (map-placed f kept (allLive (marked t place)))))
-        (List·Permᴰ·trans (perm-map f (Permᴰ·symm (shrunk-mark .live))) (perm-of-eq (map-placed f kept (allLive after))))
+        (List·Permᴰ·trans (perm-map f (Permᴰ·symm (steps-reorder .live))) (perm-of-eq (map-placed f kept (allLive after))))
 
     live-without : List·Permᴰ (map f (allLive t)) (f (place .row) ∷ map f (allLive after))
-    live-without = List·Permᴰ·trans (perm-map f (marked-live stands tag place here)) (List·Permᴰ·cons refl shrunk-live)
+    live-without = List·Permᴰ·trans (perm-map f (marked-live stands tag place here)) (List·Permᴰ·cons refl steps-live)
 
     pub removed-live : List·Permᴰ (map f (allLive t)) (f (place .row) ∷ map f (allLive (removed t tag .table)))
     removed-live = subst (λ (r : Rebuilt). List·Permᴰ (map f (allLive t)) (f (place .row) ∷ map f (allLive (r .table)))) (sym removed-steps) live-without
@@ -200,22 +189,22 @@ module _ {t : Table} (invariant : Invariant t) (tag : ℕ) (place : Place) (e : 
   -- header, length and the rows past the table are kept
   pub removed-only : Only (λ j. ⊥) t (removed t tag .table)
   removed-only =
-      subst (λ (r : Rebuilt). Only (λ j. ⊥) t (r .table)) (sym removed-steps) (only-twice (only-fewer (λ j b. absurd b) mark-only) (shrunk-mark .only))
+      subst (λ (r : Rebuilt). Only (λ j. ⊥) t (r .table)) (sym removed-steps) (only-twice (only-fewer (λ j b. absurd b) mark-only) (steps-reorder .only))
 
-  shrunk-number : suc (length (allLive after)) ≡ length (allLive t)
-  shrunk-number =
+  steps-number : suc (length (allLive after)) ≡ length (allLive t)
+  steps-number =
       ap suc (sym (length-map (allLive after) tagOf)) ∙ sym (perm-length (live-without tagOf tag-placed)) ∙ length-map (allLive t) tagOf
 
-  shrunk-once : distinct (map tagOf (allLive after)) ≡ true
-  shrunk-once = distinct-perm (shrunk-live tagOf tag-placed) (marked-once stands tag place here once)
+  steps-once : distinct (map tagOf (allLive after)) ≡ true
+  steps-once = distinct-perm (steps-live tagOf tag-placed) (marked-once stands tag place here once)
 
   pub invariant-removed : Invariant (removed t tag .table)
   invariant-removed =
-      let order : orderOf after ≡ orderOf t = same-order (shrunk-mark .only .header) ∙ same in
+      let order : orderOf after ≡ orderOf t = same-order (steps-reorder .only .header) ∙ same in
       subst (λ (r : Rebuilt). Invariant (r .table)) (sym removed-steps)
-      (by-bucket-invariant (shrunk-mark .by-bucket) (shrunk-mark .sizes)
-      (rw order (omega (arith, shrunk-number, by-bucket-total stands, most)))
-      shrunk-once)
+      (by-bucket-invariant (steps-reorder .by-bucket) (steps-reorder .sizes)
+      (rw order (omega (arith, steps-number, by-bucket-total stands, most)))
+      steps-once)
 
   pub removed-tag : tagOf (place .row) ≡ tag
   removed-tag = here .tagged

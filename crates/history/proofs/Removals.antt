@@ -3,7 +3,7 @@
 use Prim.Native.Nat.{ℕ}
 use mathlib.Core.Path.{_≡_, refl}
 use mathlib.Core.List.{List, [], _∷_, _++_}
-use Rattle.table_rules.specs.Table.{Table}
+use Rattle.table_rules.specs.Table.{Table, liveOf, slotsOf, putBucket}
 use Rattle.history.proofs.Running.{fresh, add, remove, by, tag, valued, scratch, replies, after, contents, days, adding, removing, table, dated}
 
 -- order 2, the four items less 3 and 4, and then 5 and 6 (values 5 and 6) in bucket 1
@@ -19,6 +19,41 @@ full = after scratch (fresh 3 (by 0) ∷ adding 5 (1 ∷ 2 ∷ 3 ∷ 4 ∷ 5 ∷
 fewWith : List ℕ → Table
 unfolding after full adding removing
 fewWith more = after full (removing (1 ∷ 2 ∷ 3 ∷ 4 ∷ 5 ∷ []) ++ adding 5 more)
+
+-- a foreign table: eight items less 1 to 5, with 7 and 8 live in two buckets: bucket k as it is where the items n at n are added
+twice : ℕ → List ℕ → Table
+unfolding after scratch adding fewWith slotsOf liveOf putBucket
+twice k ns = let u = after scratch (fresh 3 (by 0) ∷ adding 1 ns) in putBucket k (slotsOf u k) (liveOf u k) (fewWith [])
+
+unites : List (List (List ℕ))
+unfolding replies after contents twice removing
+unites =
+    replies (twice 2 (7 ∷ 8 ∷ 9 ∷ 10 ∷ [])) (removing (6 ∷ []))
+    ∷ contents (after (twice 2 (7 ∷ 8 ∷ 9 ∷ 10 ∷ [])) (removing (6 ∷ []))) 3
+    ∷ contents (after (twice 2 (7 ∷ 8 ∷ 9 ∷ 10 ∷ [])) (removing (9 ∷ 10 ∷ 6 ∷ []))) 2
+    ∷ contents (after (twice 1 (7 ∷ 8 ∷ [])) (removing (6 ∷ []))) 2
+    ∷ []
+
+-- equal tags rank by the order gathered, bucket 3 first: 7 (35) is the first slot and not 7 (7), and 8 (40) is before 8 (8)
+k-first :
+    unites
+    ≡ ( -- with 7 to 10 of bucket 2, in bucket 3. From 7 (35) the left half is 8 (40) with 10 at 30 and 9 at 31, the right half 7 (7) with 8 (8) at 1
+    ((0 ∷ 8 ∷ []) ∷ [])
+    ∷ ((6 ∷ 6 ∷ [])
+    ∷ (tag 7 ∷ 26 ∷ 0 ∷ [])
+    ∷ (tag 8 ∷ 30 ∷ 0 ∷ [])
+    ∷ (tag 10 ∷ 0 ∷ 0 ∷ [])
+    ∷ (tag 9 ∷ 0 ∷ 0 ∷ [])
+    ∷ (tag 7 ∷ 1 ∷ 0 ∷ [])
+    ∷ (tag 8 ∷ 0 ∷ 0 ∷ [])
+    ∷ [])
+    -- with 7 and 8 of bucket 2, in bucket 2. From 7 (35) the left half is 8 (40) with 8 (8) at 32, the right half 7 (7)
+    ∷ ((4 ∷ 4 ∷ []) ∷ (tag 7 ∷ 27 ∷ 0 ∷ []) ∷ (tag 8 ∷ 32 ∷ 0 ∷ []) ∷ (tag 8 ∷ 0 ∷ 0 ∷ []) ∷ (tag 7 ∷ 0 ∷ 0 ∷ []) ∷ [])
+    -- and with 7 and 8 of bucket 1, in bucket 2
+    ∷ ((4 ∷ 4 ∷ []) ∷ (tag 7 ∷ 27 ∷ 0 ∷ []) ∷ (tag 8 ∷ 32 ∷ 0 ∷ []) ∷ (tag 8 ∷ 0 ∷ 0 ∷ []) ∷ (tag 7 ∷ 0 ∷ 0 ∷ []) ∷ [])
+    ∷ [])
+unfolding unites tag
+k-first = refl
 
 cases : List (List (List ℕ))
 unfolding replies after contents table paired full fewWith removing

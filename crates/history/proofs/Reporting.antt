@@ -8,9 +8,7 @@ use mathlib.Core.Bool.{Bool, true, false}
 use mathlib.Core.Logic.{inl, inr}
 use mathlib.Core.List.{List, [], _∷_, flatten}
 use mathlib.Core.Option.{Option, none, some}
-use lib.Dec.{ltb, eqb}
 use lib.ListN.{length, take, length-append}
-use borrow.Author.Tests.{ltb-true, ltb-false, eqb-false}
 use Rattle.lists.specs.Lists.{countFrom, select, All}
 use Rattle.lists.proofs.Lists.{all-weaken}
 use Rattle.metric_rules.specs.declared.Profile.{Profile}
@@ -23,7 +21,7 @@ use Rattle.table_rules.specs.Rebuild.{Rebuilt, liveItems}
 use Rattle.table_rules.specs.Checks.{changeRefusal}
 use Rattle.table_rules.specs.LookUp.{Place, find}
 use Rattle.table_rules.specs.Add.{addRefusal, lowestEmpty, gathered, addTarget, added, addReply, tableAfterAdd, workAfterAdd}
-use Rattle.table_rules.specs.Remove.{removeRefusal, marked, united, rebuiltLower, shrunk, removed, removeReply, tableAfterRemove}
+use Rattle.table_rules.specs.Remove.{removeRefusal, marked, united, moved, afterDeletion, removed, removeReply, tableAfterRemove}
 use Rattle.table_rules.proofs.Views.{Only, only-own, only-fewer, same-order, kept-built, kept-live, kept-live-slots}
 use Rattle.table_rules.proofs.Puts.{held-built, apart-or, emptied-only, emptied-holds}
 use Rattle.table_rules.proofs.Passing.{bucket-within}
@@ -32,6 +30,9 @@ use Rattle.table_rules.proofs.Live.{slots-length}
 use Rattle.table_rules.proofs.Finding.{Found, found}
 use Rattle.table_rules.proofs.Sizes.{Used, size-in-use, sizes-at, room-zero, room-positive}
 use Rattle.table_rules.proofs.Adding.{Target, gathered-buckets, not-in-use}
+use Rattle.table_rules.proofs.Deletion.{Rebuilds, Deletion, deletion}
+use Rattle.table_rules.proofs.Deletion.Rebuilds.{unites-in-k, unites-lower, unites-between, moves}
+use Rattle.table_rules.proofs.Deletion.Deletion.{empties, ends, rebuilds}
 use Rattle.table_rules.proofs.Fill.{passed-roomy, Changeable, changeable, add-accepted, add-fits}
 use Rattle.list_rules.specs.Lines.{ListLine, hasHeader, itemLines}
 use Rattle.list_rules.specs.Lines.ListLine.{anItem, malformed}
@@ -184,48 +185,23 @@ module _ {work : List Row} {t : Table} (c : Changeable work t) (tag : ℕ) (plac
           within j inOrder .0,
         )
 
-    rebuilt-lower-reports : rebuiltLower v k .distances ≡ buildCost t (rebuiltLower v k .table)
-    unfolding rebuiltLower
-    rebuilt-lower-reports = go (inUse v (k - 1)) refl (ltb (room (k - 2)) (liveOf v (k - 1))) refl (inUse v (k - 2)) refl
-      where
-        result : Bool → Bool → Bool → Rebuilt
-        result a b d =
-            elim a [
-              | true ↦ united v (k ∷ (k - 1) ∷ []) (elim b [ true ↦ k | false ↦ k - 1 ])
-              | false ↦ elim d [ true ↦ united v (k ∷ (k - 2) ∷ []) (k - 1) | false ↦ united v (k ∷ []) (k - 2) ]
-            ]
+    one : All (λ j. j ≤ orderOf t) ((k - 1) ∷ [])
+    one = (omega (arith, at .inOrder), tt)
 
-        one : All (λ j. j ≤ orderOf t) ((k - 1) ∷ [])
-        one = (omega (arith, at .inOrder), tt)
+    rebuilds-report : {r : Rebuilt} → Rebuilds v k r → r .distances ≡ buildCost t (r .table)
+    unfolding moved
+    rebuilds-report (unites-in-k u more) =
+        let same : liveOf v (k - 1) ≡ liveOf t (k - 1) = kept-live (only .others (k - 1) (one .0) (λ z. absurd (omega (arith, z, positive)))) in
+        united-reports ((k - 1) ∷ []) one k (at .inOrder) (omega (arith, pair-number, one-less, same, more, room-positive (k - 2)))
+    rebuilds-report (unites-lower u few) = united-reports ((k - 1) ∷ []) one (k - 1) (one .0) (omega (arith, pair-number, some-left))
+    rebuilds-report (unites-between e u) =
+        united-reports ((k - 2) ∷ []) (omega (arith, at .inOrder), tt) (k - 1) (one .0) (vacant-more ((k - 2) ∷ []) (k - 1) (omega (arith, positive)) e)
+    rebuilds-report (moves e f) = united-reports [] tt (k - 2) (omega (arith, at .inOrder)) (vacant-more [] (k - 2) (omega (arith, positive)) f)
 
-        go :
-            (a : Bool) → inUse v (k - 1) ≡ a → (b : Bool) → ltb (room (k - 2)) (liveOf v (k - 1)) ≡ b → (d : Bool) → inUse v (k - 2) ≡ d
-            → result a b d .distances ≡ buildCost t (result a b d .table)
-        go true e true f d q =
-            let same : liveOf v (k - 1) ≡ liveOf t (k - 1) = kept-live (only .others (k - 1) (one .0) (λ z. absurd (omega (arith, z, positive)))) in
-            united-reports ((k - 1) ∷ []) one k (at .inOrder)
-            (omega (arith, pair-number, one-less, same, ltb-true (room (k - 2)) (liveOf v (k - 1)) f, room-positive (k - 2)))
-        go true e false f d q = united-reports ((k - 1) ∷ []) one (k - 1) (one .0) (omega (arith, pair-number, some-left))
-        go false e b f true q =
-            united-reports ((k - 2) ∷ []) (omega (arith, at .inOrder), tt) (k - 1) (one .0) (vacant-more ((k - 2) ∷ []) (k - 1) (omega (arith, positive)) e)
-        go false e b f false q = united-reports [] tt (k - 2) (omega (arith, at .inOrder)) (vacant-more [] (k - 2) (omega (arith, positive)) q)
-
-  shrunk-reports : shrunk v k .distances ≡ buildCost t (shrunk v k .table)
-  unfolding shrunk
-  shrunk-reports = go (eqb (liveOf v k) 0) refl (ltb (room k) (4 * liveOf v k)) refl
-    where
-      result : Bool → Bool → Rebuilt
-      result a b =
-          elim a [
-            | true ↦ record { table = emptied (k ∷ []) v; distances = 0 }
-            | false ↦ elim b [ true ↦ record { table = v; distances = 0 } | false ↦ rebuiltLower v k ]
-          ]
-
-      go :
-          (a : Bool) → eqb (liveOf v k) 0 ≡ a → (b : Bool) → ltb (room k) (4 * liveOf v k) ≡ b → result a b .distances ≡ buildCost t (result a b .table)
-      go true e b f = emptied-reports
-      go false e true f = left-reports
-      go false e false f = rebuilt-lower-reports (omega (arith, eqb-false (liveOf v k) 0 e)) (ltb-false (room k) (4 * liveOf v k) f)
+  deletion-reports : {r : Rebuilt} → Deletion v k r → r .distances ≡ buildCost t (r .table)
+  deletion-reports (empties z) = emptied-reports
+  deletion-reports (ends positive enough) = left-reports
+  deletion-reports (rebuilds positive few step) = rebuilds-report positive few step
 
 -- an accepted removal
 removed-reports : (t : Table) (work : List Row) (tag : ℕ) → removeRefusal t work tag ≡ 0 → removed t tag .distances ≡ buildCost t (removed t tag .table)
@@ -233,10 +209,11 @@ unfolding removed removeRefusal
 removed-reports t work tag accepted = go (find t tag) refl
   where
     result : Option Place → Rebuilt
-    result o = elim o [ some place ↦ shrunk (marked t place) (place .bucket) | none ↦ record { table = t; distances = 0 } ]
+    result o = elim o [ some place ↦ afterDeletion (marked t place) (place .bucket) | none ↦ record { table = t; distances = 0 } ]
 
     go : (o : Option Place) → find t tag ≡ o → result o .distances ≡ buildCost t (result o .table)
-    go (some place) e = shrunk-reports (changeable work t (or-zero (changeRefusal (length work) t) _ accepted .0)) tag place e
+    go (some place) e =
+        deletion-reports (changeable work t (or-zero (changeRefusal (length work) t) _ accepted .0)) tag place e (deletion (marked t place) (place .bucket))
     go none e = kept-reports t
 
 -- accepted or refused

@@ -1,4 +1,5 @@
-// An accepted add: the lowest empty bucket, the items below it gathered behind the new one, and all of them built in one bucket.
+// An accepted add: Algorithm 1's Insert with line 2 of Algorithm 2 in place of its line 9 (RULES 1.3). B_k is bucket k, null an empty one; D are the rows
+// gathered in the work area, n their number.
 ghost use mathlib.Core.Path.{_≡_};
 ghost use Prim.Native.Nat.{_+_, _≤_, _<_};
 ghost use lib.ListN.{length};
@@ -20,7 +21,7 @@ use table_rebuild::build_bucket;
 use table_rules::Added;
 use table_views::in_use;
 
-// The lowest empty bucket, or the one after the last if none is.
+// Line 5: the lowest empty bucket, or the one after the last if none is.
 fn lowest_empty(table: &[Row], order: Order) -> u32
     requires { ⌜ OfOrder (now table) (order .t) ⌝ }
     ensures { λ r. ⌜ r ≡ lowestEmpty (now (table .entry)) ⌝ }
@@ -36,7 +37,8 @@ fn lowest_empty(table: &[Row], order: Order) -> u32
     k
 }
 
-// The live items of buckets 0 to k - 1, in slot order, behind the first n rows of the work area. The reply is the number of rows there now.
+// Lines 6 and 7, D ← D ∪ Unbuild(B_i): the live items of buckets 0 to k - 1, in slot order, behind the first n rows of the work area. The reply is the
+// number of rows there now.
 fn gather_below(table: &[Row], order: Order, k: u32, work: &mut [Row], n: usize) -> usize
     requires { ⌜ BuiltFits (now table) (order .t) × (k ≤ order .t + 1) × (n + length (liveItems (now table) (countFrom 0 k)) ≤ length (now work)) ⌝ }
     ensures { λ r. ⌜ (r ≡ n + length (liveItems (now (table .entry)) (countFrom 0 k))) × (now (work .exit) ≡ sets (now (work .entry)) n (liveItems (now (table .entry)) (countFrom 0 k))) ⌝ }
@@ -50,7 +52,7 @@ fn gather_below(table: &[Row], order: Order, k: u32, work: &mut [Row], n: usize)
     end
 }
 
-// Buckets 0 to k - 1 become empty.
+// Lines 6 and 8: buckets 0 to k - 1 become empty.
 fn empty_below(table: &mut [Row], order: Order, k: u32)
     requires { ⌜ OfOrder (now table) (order .t) × (k ≤ order .t + 1) ⌝ }
     ensures { λ _. ⌜ now (table .exit) ≡ emptied (countFrom 0 k) (now (table .entry)) ⌝ }
@@ -62,7 +64,7 @@ fn empty_below(table: &mut [Row], order: Order, k: u32)
     }
 }
 
-// Where n items are built whose lowest empty bucket is k: in k if they are more than half its room, else in k - 1.
+// Line 2 of Algorithm 2: n items whose lowest empty bucket is k are built in k if they are more than 2^(k-1), half its room, else in k - 1.
 fn add_bucket(k: u32, n: usize) -> u32
     requires { ⌜ (k < 32) × (1 ≤ n) × (n ≤ 4096) ⌝ }
     ensures { λ r. ⌜ r ≡ addBucket k n ⌝ }
@@ -70,7 +72,7 @@ fn add_bucket(k: u32, n: usize) -> u32
     if Order::room(k) < 2 * n { k } else { k - 1 }
 }
 
-// The accepted call: the new item, then those of the buckets below the lowest empty one, all built in one bucket.
+// The accepted call, line by line of Algorithm 1. Its lines 10 and 11 have nothing here: buckets 0 to T are there from the start.
 pub fn insert(
     table: &mut [Row],
     work: &mut [Row],
@@ -84,11 +86,15 @@ pub fn insert(
     ensures table { λ _. ⌜ now (table .exit) ≡ added (now (table .entry)) tag profile day .table ⌝ }
     ensures work { λ _. ⌜ now (work .exit) ≡ cleared zeroRow (workRows (orderOf (now (table .entry)))) (now (work .entry)) ⌝ }
 {
-    let k = lowest_empty(table, order);
+    // Line 4.
     work[0] = new_row(tag, profile, day);
+    // Line 5.
+    let k = lowest_empty(table, order);
+    // Lines 6 and 7, for every i, then 6 and 8.
     let n = gather_below(table, order, k, work, 1);
-    let target = add_bucket(k, n);
     empty_below(table, order, k);
+    // Line 2 of Algorithm 2, in place of line 9.
+    let target = add_bucket(k, n);
     let distances = build_bucket(table, order, target, work, n);
     Added {
         refusal: 0,

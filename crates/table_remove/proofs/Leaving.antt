@@ -24,7 +24,7 @@ use Rattle.table_rules.proofs.Sizes.{Used, size-in-use, sizes-at, room-positive
 use Rattle.table_rules.proofs.Fill.{passed-roomy, Changeable}
 use Rattle.table_buckets.specs.OfOrder.{BuiltFits}
 use Rattle.table_buckets.proofs.Places.{lent-only}
-use Rattle.table_shrink.specs.Lost.{Lost}
+use Rattle.table_after_deletion.specs.Lost.{Lost}
 
 pub built-fits-of : {work : List Row} {t : Table} → Changeable work t → (order : ℕ) → order ≡ orderOf t → BuiltFits t order
 built-fits-of {t = t} c order e =

@@ -14,7 +14,7 @@ use Rattle.table_rules.specs.Table.{Table, orderOf, cleared}
 use Rattle.table_rules.specs.Checks.{changeRefusal}
 use Rattle.table_rules.specs.Rebuild.{Rebuilt}
 use Rattle.table_rules.specs.LookUp.{Place, find, isLiveTag}
-use Rattle.table_rules.specs.Remove.{removeRefusal, marked, shrunk, removed, removeReply, tableAfterRemove, workAfterRemove}
+use Rattle.table_rules.specs.Remove.{removeRefusal, marked, afterDeletion, removed, removeReply, tableAfterRemove, workAfterRemove}
 
 -- a removal's refusal by the outcomes of its tests
 refusalBy : ℕ → Bool → Bool → ℕ
@@ -66,15 +66,15 @@ module _ (t : Table) (work : List Row) (tag : ℕ) where
     unfolding refusalBy replyBy tableBy workBy
     refused-missing e f = by-refusal (by-tests 0 true false passes e (live-by none (sym f)))
 
-    -- an accepted call settles the bucket of the item found
+    -- an accepted call marks the item found, and the steps after it follow
     pub accepted-call :
         validTag tag ≡ true → (place : Place) → find t tag ≡ some place
-        → (record { refusal = 0; distances = shrunk (marked t place) (place .bucket) .distances } ≡ removeReply t work tag)
-        × (shrunk (marked t place) (place .bucket) .table ≡ tableAfterRemove t work tag)
+        → (record { refusal = 0; distances = afterDeletion (marked t place) (place .bucket) .distances } ≡ removeReply t work tag)
+        × (afterDeletion (marked t place) (place .bucket) .table ≡ tableAfterRemove t work tag)
         × (cleared zeroRow (workRows (orderOf t)) work ≡ workAfterRemove t work tag)
     unfolding refusalBy replyBy tableBy workBy removed
     accepted-call e place f =
         let r = by-refusal (by-tests 0 true true passes e (live-by (some place) f)) in
-        let s : shrunk (marked t place) (place .bucket) ≡ removed t tag =
-        ap (λ (o : Option Place). elim o [ some p ↦ shrunk (marked t p) (p .bucket) | none ↦ record { table = t; distances = 0 } ]) (sym f) in
+        let s : afterDeletion (marked t place) (place .bucket) ≡ removed t tag =
+        ap (λ (o : Option Place). elim o [ some p ↦ afterDeletion (marked t p) (p .bucket) | none ↦ record { table = t; distances = 0 } ]) (sym f) in
         (ap (λ (x : Rebuilt). record { refusal = 0; distances = x .distances }) s ∙ r .0, ap (λ (x : Rebuilt). x .table) s ∙ r .1, r .2)

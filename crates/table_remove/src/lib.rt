@@ -1,4 +1,4 @@
-// Remove: the slot is marked dead, and its bucket is emptied, left as it is, or built anew where it has become too thin.
+// Remove: Algorithm 2 (RULES 1.3), with the refusals before it.
 ghost use mathlib.Core.Path.{_≡_};
 ghost use Prim.Native.Nat.{_+_, _≤_, _<_};
 ghost use lib.ListN.{length};
@@ -10,6 +10,7 @@ ghost use Rattle.table_buckets.specs.OfOrder.{OfOrder};
 use metric::valid_tag;
 use metric_rules::MARK_AT;
 use metric_rules::Row;
+use table_after_deletion::after_deletion;
 use table_buckets::put_sizes;
 use table_checks::change_refusal;
 use table_look_up::Spot;
@@ -18,7 +19,6 @@ use table_order::Order;
 use table_rules::BAD_TAG;
 use table_rules::NOT_LIVE;
 use table_rules::Removed;
-use table_shrink::shrink;
 use table_views::built_of;
 use table_views::live_of;
 use table_views::order_in;
@@ -32,7 +32,7 @@ fn dead(row: Row) -> Row
     marked
 }
 
-// A slot of bucket k is marked dead, and the bucket's live size is one less.
+// Line 7. The rules mark an item dead and take none out: its slot still guides searches, and |B_k|, the live size of bucket k, is one less.
 fn mark_dead(table: &mut [Row], order: Order, k: u32, slot: usize)
     requires { ⌜ OfOrder (now table) (order .t) × (k ≤ order .t) × (slot < room k) × (1 ≤ liveOf (now table) k) ⌝ }
     ensures marked { λ _. ⌜ now (table .exit) ≡ marked (now (table .entry)) (record { bucket = k; slot = slot; row = rowAt (now (table .entry)) (firstSlot (order .t) k + slot) }) ⌝ }
@@ -68,12 +68,15 @@ pub fn remove(table: &mut [Row], work: &mut [Row], tag: u64) -> Removed
     if !valid_tag(tag) {
         return refused(BAD_TAG);
     }
+    // Lines 4 to 6: o is found by its tag, in the lowest bucket first, and no distance is worked out.
     match find(table, tag) {
         Spot::Nowhere => refused(NOT_LIVE),
         Spot::At { bucket, slot } => {
             let order = order_in(table);
+            // Line 7.
             mark_dead(table, order, bucket, slot);
-            let distances = shrink(table, order, bucket, work);
+            // Lines 8 to 26.
+            let distances = after_deletion(table, order, bucket, work);
             Removed {
                 refusal: 0,
                 distances,

@@ -13,6 +13,7 @@ pub mod Live
 pub mod Finding
 pub mod Sizes
 pub mod Adding
+pub mod Deletion
 pub mod Removing
 pub mod Owned
 pub mod RowsFit

@@ -2,22 +2,22 @@
 -- the four cases the items fit the bucket built, more than half full. Plain arithmetic of the live sizes.
 use Prim.Native.Nat.{ℕ, suc, _+_, _-_, _*_, _≤_, _<_}
 use mathlib.Core.Path.{_≡_, refl, _∙_, ap}
-use mathlib.Core.Bool.{Bool, true, false}
+use mathlib.Core.Bool.{true}
 use mathlib.Core.List.{List, [], _∷_}
 use native.Mathlib.Omega.{arith}
 use native.Mathlib.Decide.{ℕ-discrete}
-use lib.Dec.{ltb}
 use lib.ListN.{length}
-use borrow.Author.Tests.{ltb-true, ltb-false}
 use Rattle.lists.specs.Lists.{total, All}
 use Rattle.lists.proofs.Lists.{Pairs}
 use Rattle.table_rules.specs.Geometry.{room}
 use Rattle.table_rules.specs.Table.{Table, orderOf, builtOf, liveOf, inUse, liveSlots}
 use Rattle.table_rules.specs.Checks.{sizePasses}
 use Rattle.table_rules.specs.Rebuild.{Rebuilt, liveItems, rebuilt}
-use Rattle.table_rules.specs.Remove.{united, rebuiltLower}
+use Rattle.table_rules.specs.Remove.{united, moved}
 use Rattle.table_rules.proofs.ByNumber.{length-flatten}
 use Rattle.table_rules.proofs.Sizes.{Used, size-in-use, room-zero, room-next, room-positive}
+use Rattle.table_rules.proofs.Deletion.{Rebuilds}
+use Rattle.table_rules.proofs.Deletion.Rebuilds.{unites-in-k, unites-lower, unites-between, moves}
 use Rattle.table_rules.proofs.Adding.{Target, not-in-use, in-use, vacant-live}
 
 -- a bucket that has just lost the item that kept it above a quarter
@@ -75,76 +75,52 @@ module _ {t : Table} {k : ℕ} (sparse : Sparse t k) where
   used j h u =
       size-in-use j (builtOf t j) (liveOf t j) (sparse .others j (omega (arith, h, sparse .inOrder)) (λ e. absurd (omega (arith, e, h)))) (in-use t j u)
 
-  with-next : inUse t (k - 1) ≡ true → Unites t k (united t (k ∷ (k - 1) ∷ []) (elim (ltb (room (k - 2)) (liveOf t (k - 1))) [ true ↦ k | false ↦ k - 1 ]))
+  with-lower : (j to : ℕ) → j < k → Target t (k ∷ j ∷ []) to (length (liveItems t (k ∷ j ∷ []))) → Unites t k (united t (k ∷ j ∷ []) to)
   unfolding united
-  with-next u = go (ltb (room (k - 2)) (liveOf t (k - 1))) refl
-    where
-      next : Used (k - 1) (builtOf t (k - 1)) (liveOf t (k - 1))
-      next = used (k - 1) (omega (arith, deep)) u
-
-      number : length (liveItems t (k ∷ (k - 1) ∷ [])) ≡ room (k - 2) + liveOf t (k - 1)
-      number = two-live (k - 1) (omega (arith, sparse .inOrder))
-
-      go : (b : Bool) → ltb (room (k - 2)) (liveOf t (k - 1)) ≡ b → Unites t k (united t (k ∷ (k - 1) ∷ []) (elim b [ true ↦ k | false ↦ k - 1 ]))
-      go true h =
-          let more = ltb-true (room (k - 2)) (liveOf t (k - 1)) h in
-          record {
-            from = k ∷ (k - 1) ∷ [];
-            to = k;
-            steps = refl;
-            inOrder = (sparse .inOrder, (omega (arith, sparse .inOrder), tt));
-            taken = λ j a. a .0;
-            apart = (((λ e. absurd (omega (arith, e, deep))), tt), (tt, tt));
-            target =
-                record {
-                  reached = sparse .inOrder;
-                  fits = omega (arith, number, next .live-built, next .built-room, room-one, room-two);
-                  half = omega (arith, number, more, room-two);
-                  vacant = λ a. absurd (a .0 refl);
-                };
-          }
-      go false h =
-          let few = ltb-false (room (k - 2)) (liveOf t (k - 1)) h in
-          record {
-            from = k ∷ (k - 1) ∷ [];
-            to = k - 1;
-            steps = refl;
-            inOrder = (sparse .inOrder, (omega (arith, sparse .inOrder), tt));
-            taken = λ j a. a .0;
-            apart = (((λ e. absurd (omega (arith, e, deep))), tt), (tt, tt));
-            target =
-                record {
-                  reached = omega (arith, sparse .inOrder);
-                  fits = omega (arith, number, few, room-one);
-                  half = omega (arith, number, next .quarter, room-one);
-                  vacant = λ a. absurd (a .1 .0 refl);
-                };
-          }
-
-  with-second : inUse t (k - 1) ≡ false → inUse t (k - 2) ≡ true → Unites t k (united t (k ∷ (k - 2) ∷ []) (k - 1))
-  unfolding united
-  with-second e u =
-      let second : Used (k - 2) (builtOf t (k - 2)) (liveOf t (k - 2)) = used (k - 2) (omega (arith, deep)) u in
-      let number : length (liveItems t (k ∷ (k - 2) ∷ [])) ≡ room (k - 2) + liveOf t (k - 2) = two-live (k - 2) (omega (arith, sparse .inOrder)) in
+  with-lower j to below target =
       record {
-        from = k ∷ (k - 2) ∷ [];
-        to = k - 1;
+        from = k ∷ j ∷ [];
+        to = to;
         steps = refl;
-        inOrder = (sparse .inOrder, (omega (arith, sparse .inOrder), tt));
-        taken = λ j a. a .0;
-        apart = (((λ q. absurd (omega (arith, q, deep))), tt), (tt, tt));
-        target =
-            record {
-              reached = omega (arith, sparse .inOrder);
-              fits = omega (arith, number, second .live-built, second .built-room, room-one);
-              half = omega (arith, number, second .quarter, room-one);
-              vacant = λ a. vacant-live t (k - 1) (not-in-use t (k - 1) e);
-            };
+        inOrder = (sparse .inOrder, (omega (arith, sparse .inOrder, below), tt));
+        taken = λ i a. a .0;
+        apart = (((λ e. absurd (omega (arith, e, below))), tt), (tt, tt));
+        target = target;
       }
 
-  alone : inUse t (k - 2) ≡ false → Unites t k (united t (k ∷ []) (k - 2))
-  unfolding united
-  alone e =
+  pub sparse-unites : {r : Rebuilt} → Rebuilds t k r → Unites t k r
+  unfolding united moved
+  sparse-unites (unites-in-k u more) =
+      let next = used (k - 1) (omega (arith, deep)) u in
+      let number = two-live (k - 1) (omega (arith, sparse .inOrder)) in
+      with-lower (k - 1) k (omega (arith, deep))
+      (record {
+        reached = sparse .inOrder;
+        fits = omega (arith, number, next .live-built, next .built-room, room-one, room-two);
+        half = omega (arith, number, more, room-two);
+        vacant = λ a. absurd (a .0 refl);
+      })
+  sparse-unites (unites-lower u few) =
+      let next = used (k - 1) (omega (arith, deep)) u in
+      let number = two-live (k - 1) (omega (arith, sparse .inOrder)) in
+      with-lower (k - 1) (k - 1) (omega (arith, deep))
+      (record {
+        reached = omega (arith, sparse .inOrder);
+        fits = omega (arith, number, few, room-one);
+        half = omega (arith, number, next .quarter, room-one);
+        vacant = λ a. absurd (a .1 .0 refl);
+      })
+  sparse-unites (unites-between e u) =
+      let second = used (k - 2) (omega (arith, deep)) u in
+      let number = two-live (k - 2) (omega (arith, sparse .inOrder)) in
+      with-lower (k - 2) (k - 1) (omega (arith, deep))
+      (record {
+        reached = omega (arith, sparse .inOrder);
+        fits = omega (arith, number, second .live-built, second .built-room, room-one);
+        half = omega (arith, number, second .quarter, room-one);
+        vacant = λ a. vacant-live t (k - 1) (not-in-use t (k - 1) e);
+      })
+  sparse-unites (moves e f) =
       record {
         from = k ∷ [];
         to = k - 2;
@@ -157,20 +133,6 @@ module _ {t : Table} {k : ℕ} (sparse : Sparse t k) where
               reached = omega (arith, sparse .inOrder);
               fits = omega (arith, one-live);
               half = omega (arith, one-live, room-positive (k - 2));
-              vacant = λ a. vacant-live t (k - 2) (not-in-use t (k - 2) e);
+              vacant = λ a. vacant-live t (k - 2) (not-in-use t (k - 2) f);
             };
       }
-
-  pub sparse-unites : Unites t k (rebuiltLower t k)
-  unfolding rebuiltLower
-  sparse-unites = go (inUse t (k - 1)) refl (inUse t (k - 2)) refl
-    where
-      go :
-          (a : Bool) → inUse t (k - 1) ≡ a → (b : Bool) → inUse t (k - 2) ≡ b
-          → Unites t k (elim a [
-            | true ↦ united t (k ∷ (k - 1) ∷ []) (elim (ltb (room (k - 2)) (liveOf t (k - 1))) [ true ↦ k | false ↦ k - 1 ])
-            | false ↦ elim b [ true ↦ united t (k ∷ (k - 2) ∷ []) (k - 1) | false ↦ united t (k ∷ []) (k - 2) ]
-          ])
-      go true e b f = with-next e
-      go false e true f = with-second e f
-      go false e false f = alone f

@@ -1,4 +1,5 @@
--- RULES 8: the refusals, the bucket built, and every area after the call.
+-- RULES 8: the refusals, Algorithm 1's Insert with line 2 of Algorithm 2 in place of its line 9 (RULES 1.3), and every area after the call. B_k is bucket
+-- k, and null an empty one.
 use Prim.Native.Nat.{ℕ, zero, suc, _-_, _*_}
 use mathlib.Core.Bool.{true, false}
 use mathlib.Core.List.{List, _∷_}
@@ -32,14 +33,17 @@ unfoldable pub emptyFrom : Table → ℕ → ℕ → ℕ
 emptyFrom t k zero = k
 emptyFrom t k (suc n) = elim (inUse t k) [ true ↦ emptyFrom t (suc k) n | false ↦ k ]
 
+-- Algorithm 1, line 5: the minimum k such that B_k is null
 -- RULES 8.1: the lowest empty bucket, or T + 1 if none is
 unfoldable pub lowestEmpty : Table → ℕ
 lowestEmpty t = emptyFrom t 0 (suc (orderOf t))
 
+-- Algorithm 1, lines 4, 6 and 7: D
 -- RULES 8.2: the new item, then the live items of buckets 0 to k - 1 in slot order
 unfoldable pub gathered : Table → ℕ → Profile → ℕ → List Row
 gathered t tag p day = newRow tag p day ∷ liveItems t (countFrom 0 (lowestEmpty t))
 
+-- Algorithm 2, line 2: which bucket is built of D, |D| being n
 -- RULES 8.3: n items go to bucket k if they are more than 2^(k-1), else to k - 1
 unfoldable pub addBucket : ℕ → ℕ → ℕ
 addBucket k n = elim (ltb (room k) (2 * n)) [ true ↦ k | false ↦ k - 1 ]
@@ -48,6 +52,7 @@ addBucket k n = elim (ltb (room k) (2 * n)) [ true ↦ k | false ↦ k - 1 ]
 unfoldable pub addTarget : Table → ℕ → Profile → ℕ → ℕ
 addTarget t tag p day = addBucket (lowestEmpty t) (length (gathered t tag p day))
 
+-- Algorithm 1, line 8, and Build(D)
 -- RULES 8.3: the items gathered are built there, and the other gathered buckets become empty
 unfoldable pub added : Table → ℕ → Profile → ℕ → Rebuilt
 added t tag p day = rebuilt t (countFrom 0 (lowestEmpty t)) (addTarget t tag p day) (gathered t tag p day)

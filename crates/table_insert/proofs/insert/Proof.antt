@@ -27,45 +27,46 @@ abbrev gathered-at : tie.After-build-bucket → tie.After-gather-below
 gathered-at c = c .before .before .before .before .before .before .before .before
 
 abbrev lowest-at : tie.After-gather-below → tie.After-lowest-empty
-lowest-at c = c .before .before .before .before
+lowest-at c = c .before .before .before
 
 abbrev row-at : tie.After-gather-below → tie.After-new-row
-row-at c = c .before .before .before
+row-at c = c .before .before .before .before .before
 
 abbrev start-of : tie.After-gather-below → tie.Start
 start-of c = c .before .before .before .before .before .before
 
-lowest-empty-requires : tie.Need-lowest-empty-requires
-lowest-empty-requires c κs = built-fits-here (c .before) .lent
-
 slice-set-from-work : tie.Need-slice-set-from-work
-slice-set-from-work c = omega (arith, few (ok (c .before .before .before)) .0, some-gathered (ok (c .before .before .before)), changes (ok (c .before .before .before)) .roomy)
+slice-set-from-work c = omega (arith, few (ok (c .before)) .0, some-gathered (ok (c .before)), changes (ok (c .before)) .roomy)
+
+lowest-empty-requires : tie.Need-lowest-empty-requires
+lowest-empty-requires c κs = built-fits-here (c .before .before) .lent
 
 gather-below-requires : tie.Need-gather-below-requires
 gather-below-requires c κs =
     let s = c .before .before .before .before .before in
     let w : List Row = s .args .work .now in
-    let l = c .before .before .before .lowest-empty in (
+    let l = c .before .before .lowest-empty in (
       built-fits-here s,
       omega (arith, l .ensures, lowest-within (s .args .table .now), s .pre .0),
-      omega (arith, number-gathered (ok s) (l .ensures) refl, few (ok s) .0, changes (ok s) .roomy, length-set w 0 (c .before .before .new-row .result)),
-    )
-
-add-bucket-requires : tie.Need-add-bucket-requires
-add-bucket-requires c κs =
-    let s = start-of (c .before) in
-    let l = lowest-at (c .before) .lowest-empty in
-    let g = c .before .gather-below in (
-      omega (arith, l .ensures, lowest-within (s .args .table .now), changes (ok s) .passed .framed .order),
-      omega (arith, g .ensures .0),
-      omega (arith, number-gathered (ok s) (l .ensures) (g .ensures .0), few (ok s) .1),
+      omega (arith, number-gathered (ok s) (l .ensures) refl, few (ok s) .0, changes (ok s) .roomy, length-set w 0 (c .before .before .before .before .new-row .result)),
     )
 
 empty-below-requires : tie.Need-empty-below-requires
 empty-below-requires c κs =
-    let gathered = c .before .before .before in
+    let gathered = c .before .before in
     let s = start-of gathered in
     (built-fits-here s .lent, omega (arith, lowest-at gathered .lowest-empty .ensures, lowest-within (s .args .table .now), s .pre .0))
+
+add-bucket-requires : tie.Need-add-bucket-requires
+add-bucket-requires c κs =
+    let gathered = c .before .before .before .before in
+    let s = start-of gathered in
+    let l = lowest-at gathered .lowest-empty in
+    let g = gathered .gather-below in (
+      omega (arith, l .ensures, lowest-within (s .args .table .now), changes (ok s) .passed .framed .order),
+      omega (arith, g .ensures .0),
+      omega (arith, number-gathered (ok s) (l .ensures) (g .ensures .0), few (ok s) .1),
+    )
 
 build-bucket-requires : tie.Need-build-bucket-requires
 build-bucket-requires c κs =
@@ -73,8 +74,8 @@ build-bucket-requires c κs =
     let s = start-of gathered in
     let l = lowest-at gathered .lowest-empty in
     let g = gathered .gather-below in
-    let e = c .before .before .before .empty-below in
-    let fits = target-fits (ok s) (l .ensures) (g .ensures .0) (c .before .before .before .before .before .add-bucket .ensures) in (
+    let e = c .before .before .before .before .empty-below in
+    let fits = target-fits (ok s) (l .ensures) (g .ensures .0) (c .before .before .add-bucket .ensures) in (
       subst⁻¹ (λ (u : List Row). OfOrder u (s .args .order .t)) (e .ensures) (lent-emptied (ok s) (s .args .order .t) (s .pre .0) (l .ensures)),
       omega (arith, fits .0, s .pre .0),
       omega (arith, fits .1, g .ensures .0),
@@ -94,12 +95,12 @@ returns c =
     let l = lowest .ensures in
     let g = gathered .gather-below .ensures in
     let b = c .before .before .build-bucket .ensures in
-    let to = c .before .before .before .before .before .before .before .before .add-bucket .ensures in
+    let to = c .before .before .before .before .before .add-bucket .ensures in
     let w : List Row = s .args .work .now in
     let stored = g .1 ∙ ap (λ (r : Row). sets (set w 0 r) 1 (liveItems (s .args .table .now) (countFrom 0 (lowest .result)))) (row-at gathered .new-row .ensures) in (
       ap₂ (λ (k d : ℕ). record { refusal = 0; bucket = k; distances = d }) (target-found (ok s) l (g .0) to) (cost-counted (ok s) l (g .0) (b .1 .1)),
       (
-        table-built (ok s) l (g .0) stored to (c .before .before .before .before .before .before .empty-below .ensures) (b .0),
+        table-built (ok s) l (g .0) stored to (c .before .before .before .before .before .before .before .empty-below .ensures) (b .0),
         b .1 .0 ∙ work-cleared (ok s) l (g .0) stored (s .args .order .t) (s .pre .0),
       ),
     )
@@ -108,12 +109,12 @@ pub insert-spec : {M : Type 1} → statement M
 insert-spec =
     tie.close
     (tie.spec
-    lowest-empty-requires
     (λ c κs. search needs)
     slice-set-from-work
+    lowest-empty-requires
     gather-below-requires
-    add-bucket-requires
     empty-below-requires
+    add-bucket-requires
     build-bucket-requires
     (λ c. search needs)
     same-length-2

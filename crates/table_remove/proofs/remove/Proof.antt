@@ -1,4 +1,4 @@
--- `table_remove::remove` meets its contract: each refusal is the definition's, and the item found is marked and its bucket shrunk.
+-- `table_remove::remove` meets its contract: each refusal is the definition's, and the item found is marked and the steps after it follow.
 use borrow.Author.Needs.{needs}
 use native.Mathlib.Omega.{arith}
 use borrow.Author.Tests.{not-true, not-false}
@@ -14,13 +14,13 @@ use Rattle.table_rules.specs.Geometry.{firstSlot, workRows}
 use Rattle.table_rules.specs.Table.{rowAt, orderOf, slotsOf, cleared}
 use Rattle.table_rules.specs.Checks.{changeRefusal}
 use Rattle.table_rules.specs.LookUp.{Place, find}
-use Rattle.table_rules.specs.Remove.{marked, shrunk}
+use Rattle.table_rules.specs.Remove.{marked, afterDeletion}
 use Rattle.table_rules.proofs.Passing.{framed-rows}
 use Rattle.table_rules.proofs.Finding.{Found, found}
 use Rattle.table_rules.proofs.Fill.{Changeable, changeable}
 use Rattle.table_look_up.specs.Spots.{placeOf}
 use Rattle.table_buckets.specs.OfOrder.{BuiltFits}
-use Rattle.table_shrink.specs.Lost.{Lost}
+use Rattle.table_after_deletion.specs.Lost.{Lost}
 use Rattle.table_remove.proofs.Leaving.{built-fits-of, slot-row, within-built, within-room, some-live, lost-one, built-fits-still}
 use Rattle.table_remove.proofs.Refusing.{refused-first, refused-tag, refused-missing, accepted-call}
 use Rattle.table_remove.proofs.remove.Statement.{statement}
@@ -105,9 +105,9 @@ mark-dead-requires c κs =
     let o = c .before .order-in in
     (built-fits-of ch (o .result .t) (o .ensures) .lent, omega (arith, stands at .inOrder, o .ensures), within-room ch (stands at), some-live ch (stands at))
 
-shrink-requires : tie.Need-shrink-requires
+after-deletion-requires : tie.Need-after-deletion-requires
 unfolding place
-shrink-requires c κs =
+after-deletion-requires c κs =
     let at = c .before .before .before .before .before .before .before .before in
     let o = c .before .before .before .before .before .order-in in
     let m = c .before .before .before .mark-dead in
@@ -134,14 +134,14 @@ returns-4 c =
     let at = c .before .before .before .before .before .before .before .before .before .before .before in
     let o = c .before .before .before .before .before .before .before .before .order-in in
     let m = c .before .before .before .before .before .before .mark-dead in
-    let e = c .before .before .shrink .ensures in
+    let e = c .before .before .after-deletion .ensures in
     let a = start-of at .args in
     let k : ℕ = at .bucket .given .0 .0 in
     let u : m .last .0 ≡ marked (a .table .now) (place at) = marked-place at (o .result .t) (o .ensures) (m .ensures .0) in
     let r = accepted-call (a .table .now) (a .work .now) (a .tag) (past-first (passed-at at)) (valid (at .before .before .before .before)) (place at) (located at) in (
-      ap (λ (d : ℕ). record { refusal = 0; distances = d }) (e .1 .1 ∙ ap (λ (t : List Row). shrunk t k .distances) u) ∙ r .0,
+      ap (λ (d : ℕ). record { refusal = 0; distances = d }) (e .1 .1 ∙ ap (λ (t : List Row). afterDeletion t k .distances) u) ∙ r .0,
       (
-        e .0 ∙ ap (λ (t : List Row). shrunk t k .table) u ∙ r .1,
+        e .0 ∙ ap (λ (t : List Row). afterDeletion t k .table) u ∙ r .1,
         e .1 .0 ∙ ap (λ (n : ℕ). cleared zeroRow (workRows n) (a .work .now)) (o .ensures) ∙ r .2,
       ),
     )
@@ -158,7 +158,7 @@ remove-spec =
     (λ c. search needs) (λ c κs. search needs) (λ c. search needs)
     order-in-requires
     mark-dead-requires
-    shrink-requires
+    after-deletion-requires
     (λ c. search needs)
     returns-3
     (λ c. search needs) (λ c. search needs)

@@ -1,4 +1,4 @@
--- `table_shrink::move_down` meets its contract: the rebuild of one bucket.
+-- `table_after_deletion::move_down` meets its contract: the rebuild of one bucket.
 use borrow.Author.Needs.{needs}
 use native.Mathlib.Omega.{arith}
 use mathlib.Core.Path.{_∙_, ap, subst⁻¹}
@@ -6,11 +6,12 @@ use mathlib.Core.List.{List, [], _∷_}
 use lib.ListN.{length}
 use Rattle.metric_rules.specs.Row.{Row}
 use Rattle.table_rules.specs.Table.{emptied}
+use Rattle.table_rules.specs.Remove.{moved}
 use Rattle.table_buckets.specs.OfOrder.{OfOrder}
 use Rattle.table_buckets.proofs.Places.{lent-put}
-use Rattle.table_shrink.proofs.Uniting.{Gathered, Fits, items-one, one-gathered, few, work-cleared, table-united, cost-united}
-use Rattle.table_shrink.proofs.move_down.Statement.{statement}
-use Rattle.table_shrink.proofs.move_down.Tie as tie
+use Rattle.table_after_deletion.proofs.Uniting.{Gathered, Fits, items-one, one-gathered, few, work-cleared, table-united, cost-united}
+use Rattle.table_after_deletion.proofs.move_down.Statement.{statement}
+use Rattle.table_after_deletion.proofs.move_down.Tie as tie
 
 fit : (c : tie.Start) → Fits (c .args .table .now) (c .args .order .t) (c .args .k ∷ []) (c .args .target) (c .args .work .now)
 fit c =
@@ -40,7 +41,7 @@ build-bucket-requires c κs =
     )
 
 returns : tie.Need-returns
-unfolding emptied
+unfolding moved emptied
 returns c =
     let s = c .before .before .before .before .before .before .before .before .before .before .before .before in
     let g = c .before .before .before .before .before .before .before .before .before .gather-bucket in

@@ -1,4 +1,4 @@
--- `table_shrink::unite` meets its contract: what two gatherings store and two emptyings leave are what a rebuild of both buckets takes.
+-- `table_after_deletion::unite` meets its contract: what two gatherings store and two emptyings leave are what a rebuild of both buckets takes.
 use borrow.Author.Needs.{needs}
 use native.Mathlib.Omega.{arith}
 use Prim.Native.Nat.{_+_}
@@ -10,9 +10,9 @@ use Rattle.table_rules.specs.Table.{liveSlots, putBucket, emptied}
 use Rattle.table_rules.specs.Rebuild.{liveItems}
 use Rattle.table_buckets.specs.OfOrder.{OfOrder}
 use Rattle.table_buckets.proofs.Places.{lent-put}
-use Rattle.table_shrink.proofs.Uniting.{Gathered, Fits, items-two, two-gathered, few, lent-emptied, work-cleared, table-united, cost-united}
-use Rattle.table_shrink.proofs.unite.Statement.{statement}
-use Rattle.table_shrink.proofs.unite.Tie as tie
+use Rattle.table_after_deletion.proofs.Uniting.{Gathered, Fits, items-two, two-gathered, few, lent-emptied, work-cleared, table-united, cost-united}
+use Rattle.table_after_deletion.proofs.unite.Statement.{statement}
+use Rattle.table_after_deletion.proofs.unite.Tie as tie
 
 fit : (c : tie.Start) → Fits (c .args .table .now) (c .args .order .t) (c .args .k ∷ c .args .other ∷ []) (c .args .target) (c .args .work .now)
 fit c =
