@@ -237,7 +237,7 @@ def at(first, code="-"):
     return f"{'-' if first < 0 else ''}{abs(first) // 100}.{abs(first) % 100:02} 0.00 0.00 0.00 {code}"
 
 
-def talk(*lines):
+def conversation(*lines):
     return "".join(line + "\n" for line in lines).encode("latin-1")
 
 
@@ -245,7 +245,7 @@ def add(national, first):
     return f"A {tag_of(national)} {at(first)}"
 
 
-REFUSALS = talk(
+REFUSALS = conversation(
     "1 0",
     f"R {tag_of(1)}",
     add(1, 10),
@@ -275,7 +275,7 @@ REFUSALS = talk(
     f"W 4294967295 {FLAT}",
 )
 
-NATIONALS = talk(
+NATIONALS = conversation(
     "3 0",
     *(
         f"{letter} {tag_of(274_877_906_943 + more, country)}{rest}"
@@ -289,7 +289,7 @@ NATIONALS = talk(
 )
 
 GOOD = f"A {tag_of(7)} {FLAT}"
-MALFORMED = talk(
+MALFORMED = conversation(
     "2 0",
     "",
     GOOD + "\r",
@@ -344,7 +344,7 @@ MALFORMED = talk(
     f"N 1 {FLAT}",
 )
 
-NUMBERS = talk(
+NUMBERS = conversation(
     "0000000002 0000000000",
     f"A {tag_of(1)} -0.05 00000.00 -0.00 -00001.50 -",
     f"A {tag_of(2)} 0.05 0.00 0.00 0.00 {'0123456789abcdef' * 2}",
@@ -360,7 +360,7 @@ NUMBERS = talk(
     f"N 0000000001 {FLAT}",
 )
 
-CODES = talk(
+CODES = conversation(
     "3 1",
     f"A {tag_of(1)} 0.00 0.00 0.00 0.00 {'0' * 31}1",
     f"A {tag_of(2)} 9.00 0.00 0.00 0.00 {'8' + '0' * 31}",
@@ -374,7 +374,7 @@ CODES = talk(
     f"N 9 0.00 0.00 0.00 0.00 {'0123456789abcdef' * 2}",
 )
 
-TIES = talk(
+TIES = conversation(
     "3 0",
     *(add(n, v) for n, v in ((5, 10), (3, -10), (8, 10), (1, -10), (7, 0), (2, 20))),
     f"N 1 {FLAT}",
@@ -391,7 +391,7 @@ TIES = talk(
 
 
 FIRST_DAYS = ("", " 0", " 1", " 2", " 299", " 300", " 00301", " 302", " 65535")
-DAYS = talk(
+DAYS = conversation(
     "3 0",
     add(1, 10),
     add(2, 20) + " 300",
@@ -422,7 +422,7 @@ DAYS = talk(
 )
 
 NO_DAYS = (" 65536", " 99999", " 000001", " 065535", " 100000", " ", "  1", " 1 ", " 1 1", "\t1", " -1", " -0", " +1", " 1.00", " 1,0", " 0x1", " a", " -", " 1\r")
-DAYS_MALFORMED = talk(
+DAYS_MALFORMED = conversation(
     "2 0",
     GOOD + " 7",
     *(f"{line}{day}" for day in NO_DAYS for line in (GOOD.replace("7", "8"), f"W 9 {FLAT}", f"N 9 {FLAT}")),
@@ -439,11 +439,11 @@ def full():
     lines = ["2 0"] + [add(n, v) for n, v in ((1, 10), (2, 13), (3, 13), (4, 20))]
     lines += [add(5, 1), add(4, 1), f"W 0 {at(13)}", f"W 5 {at(30)}", f"N 1 {at(13)}", f"N 1 {at(30)}"]
     lines += [f"R {tag_of(4)}", add(5, 11), add(6, 1), f"R {tag_of(3)}", f"R {tag_of(2)}", f"W 4294967295 {FLAT}"]
-    return talk(*lines, add(7, 7), add(8, 8), add(9, 9), f"N 4 {FLAT}")
+    return conversation(*lines, add(7, 7), add(8, 8), add(9, 9), f"N 4 {FLAT}")
 
 
 def smallest():
-    return talk("0 1", f"N 1 {FLAT}", add(1, 0), add(2, 0), f"W 0 {FLAT}", f"R {tag_of(1)}", f"R {tag_of(1)}", add(2, 0), f"N 1 {FLAT}")
+    return conversation("0 1", f"N 1 {FLAT}", add(1, 0), add(2, 0), f"W 0 {FLAT}", f"R {tag_of(1)}", f"R {tag_of(1)}", add(2, 0), f"N 1 {FLAT}")
 
 
 class Draws:
@@ -484,7 +484,7 @@ def at_order_8(metric, seed, count, days=0):
         else:
             lines.append(f"W {draws.below((1500, 60, 800)[metric])} {profile()}")
     lines += [f"A {tag_of(n)} {profile()}" for n in range(1000, 1300)]
-    return talk(*lines, f"W 4294967295 {FLAT}", f"N 300 {FLAT}")
+    return conversation(*lines, f"W 4294967295 {FLAT}", f"N 300 {FLAT}")
 
 
 LONGEST = f"A {tag_of(9)} -10000.00 -10000.00 -10000.00 -10000.00 {'a' * 32} 65535"
@@ -496,7 +496,7 @@ def long_lines():
     lines = ["1 0", LONGEST, LONGEST + " ", LONGEST + "0"]
     lines += ["A" * n for n in (127, 128, 129, 130, 4095, 4096, 4097)]
     lines += [f"R {tag_of(9)}" + " " * 200, f"R {tag_of(9)}" + "9" * 100_000, f"N 1 {FLAT}", "x" * 300, f"R {tag_of(9)}"]
-    return talk(*lines)
+    return conversation(*lines)
 
 
 def strange_bytes():
@@ -504,7 +504,7 @@ def strange_bytes():
     line = f"R {tag_of(7)}"
     strange = ["\0", "\x7f", "\x80", "\xa0", "\xb2", "\xff", "\v", "\f", "\r"]
     lines = ["1 0", GOOD] + [line + s for s in strange] + [s + line for s in strange] + [line.replace(" ", s) for s in strange]
-    return talk(*lines, *strange, line[:-1] + "\xb2", line)
+    return conversation(*lines, *strange, line[:-1] + "\xb2", line)
 
 
 HEADERS = {
@@ -549,11 +549,11 @@ def runs():
     yield "empty", b""
     yield "header_alone", b"8 1"
     yield "header_alone_refused", b"9 1"
-    yield "no_last_feed", talk("1 0", GOOD) + f"N 1 {FLAT}".encode()
-    yield "no_last_feed_malformed", talk("1 0", GOOD, "") + b" "
-    yield "no_last_feed_long", talk("1 0", GOOD) + b"x" * 129
+    yield "no_last_feed", conversation("1 0", GOOD) + f"N 1 {FLAT}".encode()
+    yield "no_last_feed_malformed", conversation("1 0", GOOD, "") + b" "
+    yield "no_last_feed_long", conversation("1 0", GOOD) + b"x" * 129
     for name, line in HEADERS.items():
-        yield f"header_{name}", talk(line, GOOD, "")
+        yield f"header_{name}", conversation(line, GOOD, "")
 
 
 # What the program does.

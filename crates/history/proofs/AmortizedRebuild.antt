@@ -89,7 +89,7 @@ module _ (t : Table) (roomy : Roomy t) (sizes : sizesPass (orderOf t) (builtOf t
       (4 * (orderOf t + 1))
       (add-credit (orderOf t) (builtOf t) (liveOf t) (lowestEmpty t) (length (gathered t tag p day)) lowest-sizes number (target .reached) (target .fits))
 
--- a bucket that has become too thin, its dead more than half of its room
+-- a bucket that has become sparse, its dead more than half of its room
 module _ (t : Table) (roomy : Roomy t) (k : ℕ) (sparse : Sparse t k) (half : room k < 2 * builtOf t k) where
   many-dead : 2 * liveOf t k < builtOf t k
   many-dead = omega (arith, half, exactly sparse, room-two sparse)

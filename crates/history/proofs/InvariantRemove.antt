@@ -90,7 +90,7 @@ module _ {t : Table} (s : ByBucket t) (once : distinct (map tagOf (allLive t)) �
       nothing-lost [] e p = p
       nothing-lost (x ∷ xs) e p = absurd (omega (arith, e))
 
-  -- too thin: rebuilt
+  -- sparse: rebuilt
   rebuilt-sparse :
       0 < liveOf t k → 4 * liveOf t k ≤ room k → room k < 4 * suc (liveOf t k) → {r : Rebuilt} → Rebuilds t k r → Reordered t (r .table)
   rebuilt-sparse positive sparse before {r} step =

@@ -97,13 +97,13 @@ module _ {t : Table} {work : List Row} {result : List Entry} {m : Model} (s : Se
   unfolding removeRefusalOf
   remove-refused tag = remove-refusal m t work (inl (s .matches)) tag ∙ change-asked (tagRefusal m tag)
 
-  pub add-told : (tag : ℕ) (p : Profile) (day : ℕ) → addReply t work tag p day .refusal ≡ itemRefusal m tag p day
+  pub add-refusal-alike : (tag : ℕ) (p : Profile) (day : ℕ) → addReply t work tag p day .refusal ≡ itemRefusal m tag p day
   unfolding addReply
-  add-told tag p day = add-number (addRefusal t work tag p day) _ _ ∙ add-refused tag p day
+  add-refusal-alike tag p day = add-number (addRefusal t work tag p day) _ _ ∙ add-refused tag p day
 
-  pub remove-told : (tag : ℕ) → removeReply t work tag .refusal ≡ tagRefusal m tag
+  pub remove-refusal-alike : (tag : ℕ) → removeReply t work tag .refusal ≡ tagRefusal m tag
   unfolding removeReply
-  remove-told tag = remove-number (removeRefusal t work tag) _ ∙ remove-refused tag
+  remove-refusal-alike tag = remove-number (removeRefusal t work tag) _ ∙ remove-refused tag
 
   -- a change of table and model where the refusal, of either, is 0
   changed-served : (n r k : ℕ) → n ≡ r → (changed : Table) (after : Model) → after .order ≡ m .order → (r ≡ 0 → Matches changed after)

@@ -145,7 +145,7 @@ module _ {work : List Row} {t : Table} (c : Changeable work t) (tag : ℕ) (plac
             kept-not-built t u j (kept-built last ∙ kept-built first) (kept-live last ∙ kept-live first))
       ])
 
-  -- too thin: its items and those of other buckets are more than the bucket built had
+  -- sparse: its items and those of other buckets are more than the bucket built had
   module _ (some-left : 0 < liveOf v k) (sparse : 4 * liveOf v k ≤ room k) where
     positive : 0 < k
     positive = elim (ℕ-discrete k 0) [ yes e ↦ absurd (omega (arith, some-left, sparse, ap room e ∙ room-zero)) | no ne ↦ omega (arith, ne) ]

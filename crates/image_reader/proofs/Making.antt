@@ -46,5 +46,5 @@ module _ {M : Type 1} (𝓤 : URA M) (H : Heap 𝓤) (A : Atoms 𝓤) (mem : Mem
     abbrev pub Made : Reader → SProp 𝓤
     Made r = ensured 𝓤 H A make.ended (make.clauses 𝓤 H A mem run) (κ, tt) x₀ tt r
 
-    pub make-said : (r : Reader) → ent 𝓤 (Made r) (fact 𝓤 ((r .image ≡ s) × (r .at ≡ n)))
-    make-said r = exE 𝓤 _ (λ ws. snd∗ 𝓤 (sem 𝓤 H A (lasts make.ended (κ, tt) x₀ ws)) (fact 𝓤 ((r .image ≡ s) × (r .at ≡ n))))
+    pub make-ensures : (r : Reader) → ent 𝓤 (Made r) (fact 𝓤 ((r .image ≡ s) × (r .at ≡ n)))
+    make-ensures r = exE 𝓤 _ (λ ws. snd∗ 𝓤 (sem 𝓤 H A (lasts make.ended (κ, tt) x₀ ws)) (fact 𝓤 ((r .image ≡ s) × (r .at ≡ n))))

@@ -25,7 +25,7 @@ use Rattle.table_rules.proofs.Chains.{unless-zero}
 use Rattle.table_rules.proofs.Fill.{rooms-grow}
 use Rattle.call_rules.specs.Calls.Begin.{fresh}
 use Rattle.history.specs.Model.{Model, modelBegun}
-use Rattle.history.proofs.LongAreas.{Served, fresh-served, add-told, remove-told, add-served, remove-served, range-refused, nearest-refused, range-alike, nearest-alike, search-served}
+use Rattle.history.proofs.LongAreas.{Served, fresh-served, add-refusal-alike, remove-refusal-alike, add-served, remove-served, range-refused, nearest-refused, range-alike, nearest-alike, search-served}
 use Rattle.yard_rules.specs.declared.Command.{Command}
 use Rattle.yard_rules.specs.declared.Command.the-variants as command
 use Rattle.yard_rules.specs.Line.{letterA, letterN, letterR, letterW}
@@ -58,9 +58,9 @@ module _ {a : Areas} {m : Model} (s : ServedBy a m) where
   unfolding textAfter modelText lineRefusal countsAt addText removeText rangeReply resultAfterRange nearestReply resultAfterNearest
   text-served number (command.Add tag day) p =
       let r = addReply (a .table) (a .work) tag p day in
-      ap (λ (n : ℕ). replyLine letterA (replyNumbers n (r .bucket ∷ r .distances ∷ []))) (add-told s tag p day)
+      ap (λ (n : ℕ). replyLine letterA (replyNumbers n (r .bucket ∷ r .distances ∷ []))) (add-refusal-alike s tag p day)
   text-served number (command.Remove tag) p =
-      ap (λ (n : ℕ). replyLine letterR (replyNumbers n (removeReply (a .table) (a .work) tag .distances ∷ []))) (remove-told s tag)
+      ap (λ (n : ℕ). replyLine letterR (replyNumbers n (removeReply (a .table) (a .work) tag .distances ∷ []))) (remove-refusal-alike s tag)
   text-served number (command.Within radius firstDay) p =
       let found : Answer = rangeAnswer (a .table) p radius firstDay in
       search-text letterW (rangeRefusal (a .table) (a .result) p radius firstDay) (a .result) found

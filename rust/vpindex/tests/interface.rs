@@ -219,22 +219,22 @@ fn a_list_stops_at_a_line() {
 #[test]
 fn a_stop_is_told_in_words() {
     let mut table = Table::new(Order::MIN, Metric::SumOfDifferences);
-    let mut said = |list: &str| read(&mut table, list).expect_err("it is refused");
+    let mut refused = |list: &str| read(&mut table, list).expect_err("it is refused");
     assert_eq!(
-        said("tag;kg;hip;girth;gain\r\n"),
+        refused("tag;kg;hip;girth;gain\r\n"),
         "line 1: the header is not `tag;kg;hip;girth;gain` and a line feed (0 added before it)"
     );
     assert_eq!(
-        said("tag;kg;hip;girth;gain\n\n"),
+        refused("tag;kg;hip;girth;gain\n\n"),
         "line 2: not of the form: a tag of 15 digits, then four values, each after one semicolon (a minus or none, 1 \
          to 5 digits, a comma, 2 digits), and a line feed (0 added before it)"
     );
     assert_eq!(
-        said("tag;kg;hip;girth;gain\n036000000000001;12000,00;0,00;0,00;0,00\n"),
+        refused("tag;kg;hip;girth;gain\n036000000000001;12000,00;0,00;0,00;0,00\n"),
         "line 2: a measure is not -10,000.00 to 10,000.00 (0 added before it)"
     );
     assert_eq!(
-        said("tag;kg;hip;girth;gain\n036000000000001;0,10;0,00;0,00;0,00\n036000000000001;0,10;0,00;0,00;0,00\n"),
+        refused("tag;kg;hip;girth;gain\n036000000000001;0,10;0,00;0,00;0,00\n036000000000001;0,10;0,00;0,00;0,00\n"),
         "line 3: the tag is in the table already (1 added before it)"
     );
 }

@@ -37,12 +37,15 @@ enough c =
     omega (arith, leb-true (0 + 4) (length (c .before .before .before .args .image .now)) (sym (b .ensures) ∙ not-false (b .result) (c .if1 .left)))
 
 -- the start passed
-start-zero : (c : tie.Else2) → startRefusal (c .before .before .before .before .before .before .args .image .now) ≡ 0
+abbrev entered : tie.Else2 → tie.Start
+entered c = c .before .before .before .before .before .before
+
+start-zero : (c : tie.Else2) → startRefusal (entered c .args .image .now) ≡ 0
 start-zero c = sym (c .before .start-refusal .ensures) ∙ c .if2 .left
 
 -- and the refusal of the whole call is the one behind it
 abbrev begun : tie.After-load-refusal → tie.Start
-begun c = c .before .before .before .before .before .before .before .before
+begun c = entered (c .before .before)
 
 known : (c : tie.After-load-refusal) → c .load-refusal .result ≡ loadRefusal (length (begun c .args .table .now)) (begun c .args .image .now)
 known c =
@@ -82,10 +85,10 @@ returns-2 c =
     (e, load-stops (a .image .now) (a .table .now) (f .start-refusal .result) e (c .if2 .taken))
 
 header-in-requires : tie.Need-header-in-requires
-header-in-requires c κs = (c .before .before .start-in .ensures, start-passed (c .before .before .before .before .before .before .args .image .now) (start-zero c) .1)
+header-in-requires c κs = (c .before .before .start-in .ensures, start-passed (entered c .args .image .now) (start-zero c) .1)
 
 load-refusal-requires : tie.Need-load-refusal-requires
-load-refusal-requires c κs = (c .header-in .ensures, start-passed (c .before .before .before .before .before .before .before .args .image .now) (start-zero (c .before)) .0)
+load-refusal-requires c κs = (c .header-in .ensures, start-passed (entered (c .before) .args .image .now) (start-zero (c .before)) .0)
 
 returns-3 : tie.Need-returns-3
 returns-3 c =

@@ -41,7 +41,7 @@ use denote.Exit.{yes}
 use Rattle.image_reader.specs.declared.Reader.{Reader}
 use Rattle.image_reader.proofs.Reader as T
 use Rattle.image_reader.proofs.Reader.Laws as T′
-use Rattle.image_reader.proofs.Making.{Make, to-make, asked-make, Made, make-said}
+use Rattle.image_reader.proofs.Making.{Make, to-make, asked-make, Made, make-ensures}
 use Rattle.image_reader.proofs.reader_at.Symbol as make-def
 use Rattle.image_reader.proofs.reader_at.Symbol.{name as #image-reader·reader-at}
 use Rattle.image_reader.proofs.reader_at.Met as make-thm
@@ -101,8 +101,8 @@ module _ {M : Type 1} (𝓤 : URA M) (H : Heap 𝓤) (A : Atoms 𝓤) (W : Given
     asked-left : ent 𝓤 (onEntry 𝓤 H A left.signature (κ, tt) (q, tt) x₁ vals₁) (Left 𝓤 H A mem run .pre to-left)
     asked-left = qed W ((‵ (flft κ q) ⊛ ‵ ftrue) ∷ ‵ (owns (B κ ∷ usize ∷ []) x₁ vals₁) ∷ []) ∵ join ! $ frame ! $ done !
 
-    left-said : (t : Bool) → ent 𝓤 (ensured 𝓤 H A left.ended (left.clauses 𝓤 H A mem run) (κ, tt) x₁ tt t) (fact 𝓤 (t ≡ leb (r .at + m) (length (now (r .image)))))
-    left-said t = exE 𝓤 _ (λ ws. snd∗ 𝓤 (sem 𝓤 H A (lasts left.ended (κ, tt) x₁ ws)) (fact 𝓤 (t ≡ leb (r .at + m) (length (now (r .image))))))
+    left-ensures : (t : Bool) → ent 𝓤 (ensured 𝓤 H A left.ended (left.clauses 𝓤 H A mem run) (κ, tt) x₁ tt t) (fact 𝓤 (t ≡ leb (r .at + m) (length (now (r .image)))))
+    left-ensures t = exE 𝓤 _ (λ ws. snd∗ 𝓤 (sem 𝓤 H A (lasts left.ended (κ, tt) x₁ ws)) (fact 𝓤 (t ≡ leb (r .at + m) (length (now (r .image))))))
 
   exits : (t : Bool) (u : Val) → t ≡ found → ent 𝓤 (⋆ 𝓤 H A (‵ (bool .own t (u ∷ [])) ∷ (‵ (flft κ q) ⊛ ‵ ftrue) ∷ [])) (Post u)
   exits t u e =
@@ -121,14 +121,14 @@ module _ {M : Type 1} (𝓤 : URA M) (H : Heap 𝓤) (A : Atoms 𝓤) (W : Given
         use2 W (raw (Make 𝓤 H A mem run .pre (to-make 𝓤 H A mem run W κ q s n))) (asked-make 𝓤 H A mem run W κ q s n) $
         calls-at ! fm (Make 𝓤 H A mem run) known-make (to-make 𝓤 H A mem run W κ q s n) (and-then ! (load ! (from ! (stop !)) (look ! 8 refl)) (and-then ! (load ! (from ! (stop !)) (look ! 6 refl)) (no-more !))) (λ u.
         use1 W (later (some (λ (r : Reader). ((‵ (flft κ q) ⊛ ‵ ftrue) ⊛ ‵ (B κ .own r (u ∷ []))) ⊛ raw (Made 𝓤 H A mem run W κ q s n r)))) (id⊢ 𝓤 _) $ await ! tt $ pick ! (λ r.
-        split ! $ move ! (1 ∷ []) $ use1 W (raw (fact 𝓤 ((r .image ≡ s) × (r .at ≡ n)))) (make-said 𝓤 H A mem run W κ q s n r) $ heard ! ((r .image ≡ s) × (r .at ≡ n)) (λ e. split ! $ move ! (1 ∷ []) $
+        split ! $ move ! (1 ∷ []) $ use1 W (raw (fact 𝓤 ((r .image ≡ s) × (r .at ≡ n)))) (make-ensures 𝓤 H A mem run W κ q s n r) $ heard ! ((r .image ≡ s) × (r .at ≡ n)) (λ e. split ! $ move ! (1 ∷ []) $
         -- [what the reader owns; the token; what n owns; room for _4; …]
         peeks ! (B κ) (Is (B κ)) (shows 𝓤 H A (B κ)) r (u ∷ []) (λ is.
         land ! (from ! (stop !)) (init ! 3 refl (LL.lawful (T.the-type αᵉ) (T′.the-laws αᵉ) 𝓤 H A W .typed r _ is .0)) $
         move ! (0 ∷ 2 ∷ []) $ fjoin ! $ move ! (1 ∷ 0 ∷ []) $ use2 W (raw (Left 𝓤 H A mem run .pre (to-left r u))) (asked-left r u) $
         calls-at ! fm (Left 𝓤 H A mem run) known-left (to-left r u) (and-then ! (load ! (from ! (stop !)) (look ! 1 refl)) (and-then ! (load ! (from ! (stop !)) (look ! 3 refl)) (no-more !))) (λ u′.
         use1 W (later (some (λ (t : Bool). ((‵ (flft κ q) ⊛ ‵ ftrue) ⊛ ‵ (bool .own t (u′ ∷ []))) ⊛ raw (ensured 𝓤 H A left.ended (left.clauses 𝓤 H A mem run) (κ, tt) (x₁ r u) tt t)))) (id⊢ 𝓤 _) $ await ! tt $ pick ! (λ t.
-        split ! $ move ! (1 ∷ []) $ use1 W (raw (fact 𝓤 (t ≡ leb (r .at + m) (length (now (r .image)))))) (left-said r u t) $ heard ! (t ≡ leb (r .at + m) (length (now (r .image)))) (λ e′. split ! $ move ! (1 ∷ []) $
+        split ! $ move ! (1 ∷ []) $ use1 W (raw (fact 𝓤 (t ≡ leb (r .at + m) (length (now (r .image)))))) (left-ensures r u t) $ heard ! (t ≡ leb (r .at + m) (length (now (r .image)))) (λ e′. split ! $ move ! (1 ∷ []) $
         -- [the answer; the token; _4; …; _3; …; _2; …; _1; …; room for _0; …]
         peeks ! bool (Is bool) (shows 𝓤 H A bool) t (u′ ∷ []) (λ is′.
         land ! (from ! (stop !)) (init ! 10 refl (bool-lawful 𝓤 H A W .typed t _ is′ .0)) $

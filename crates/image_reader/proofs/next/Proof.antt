@@ -123,8 +123,8 @@ module _ {M : Type 1} (𝓤 : URA M) (H : Heap 𝓤) (A : Atoms 𝓤) (W : Given
   asked : (w ≤ 2) × (h .at + w ≤ length (now (h .image))) → ent 𝓤 (onEntry 𝓤 H A core.signature (κ′, tt) (q′, tt) x′ vals′) (Core 𝓤 H A at-mem run .pre to)
   asked ready = qed W (raw (onEntry 𝓤 H A core.signature (κ′, tt) (q′, tt) x′ vals′) ∷ []) ∵ says ! ready $ done !
 
-  said : (r : ℕ) → ent 𝓤 (ensured 𝓤 H A core.ended (core.clauses 𝓤 H A at-mem run) (κ′, tt) x′ tt r) (fact 𝓤 (r ≡ found))
-  said r = exE 𝓤 _ (λ ws. snd∗ 𝓤 (sem 𝓤 H A (lasts core.ended (κ′, tt) x′ ws)) (fact 𝓤 (r ≡ found)))
+  core-ensures : (r : ℕ) → ent 𝓤 (ensured 𝓤 H A core.ended (core.clauses 𝓤 H A at-mem run) (κ′, tt) x′ tt r) (fact 𝓤 (r ≡ found))
+  core-ensures r = exE 𝓤 _ (λ ws. snd∗ 𝓤 (sem 𝓤 H A (lasts core.ended (κ′, tt) x′ ws)) (fact 𝓤 (r ≡ found)))
 
   exits : (r : ℕ) (u : Val) → r ≡ found
       → ent 𝓤 (⋆ 𝓤 H A (‵ (fobs γ (B κ′ .coded .code h′)) ∷ ‵ (fbor κ (Body (mem (B κ′)) b o γ)) ∷ ‵ (flft κ q) ∷ ‵ (u32 .own r (u ∷ [])) ∷ (‵ (flft κ′ q′) ⊛ ‵ ftrue) ∷ [])) (Post u)
@@ -152,7 +152,7 @@ module _ {M : Type 1} (𝓤 : URA M) (H : Heap 𝓤) (A : Atoms 𝓤) (W : Given
         use2 W (raw (Core 𝓤 H A at-mem run .pre to)) (asked ready) $
         calls-at ! fm (Core 𝓤 H A at-mem run) known to (and-then ! (load ! (from ! (stop !)) (look ! 10 refl)) (and-then ! (load ! (from ! (stop !)) (look ! 8 refl)) (and-then ! (load ! (from ! (stop !)) (look ! 14 refl)) (no-more !)))) (λ u.
         use1 W (later (some (λ (r : ℕ). ((‵ (flft κ′ q′) ⊛ ‵ ftrue) ⊛ ‵ (u32 .own r (u ∷ []))) ⊛ raw (ensured 𝓤 H A core.ended (core.clauses 𝓤 H A at-mem run) (κ′, tt) x′ tt r)))) (id⊢ 𝓤 _) $ await ! tt $ pick ! (λ r.
-        split ! $ move ! (1 ∷ []) $ use1 W (raw (fact 𝓤 (r ≡ found))) (said r) $ heard ! (r ≡ found) (λ e. split ! $ move ! (1 ∷ []) $
+        split ! $ move ! (1 ∷ []) $ use1 W (raw (fact 𝓤 (r ≡ found))) (core-ensures r) $ heard ! (r ≡ found) (λ e. split ! $ move ! (1 ∷ []) $
         -- [the number; the token; what the reader owns; its cell; the open borrow; obs; auth; _6; …]
         peeks ! u32 (Is u32) (shows 𝓤 H A u32) r (u ∷ []) (λ is.
         land ! (from ! (stop !)) (init ! 13 refl (uint-lawful 𝓤 H A W w32 .typed r _ is .0)) $

@@ -54,7 +54,7 @@ use Rattle.image_reader.proofs.Reader as T
 use Rattle.image_reader.proofs.Reader.Laws as T′
 use Rattle.image_reader.proofs.Two as P
 use Rattle.image_reader.proofs.Two.Laws as P′
-use Rattle.image_reader.proofs.Making.{Make, to-make, asked-make, Made, make-said}
+use Rattle.image_reader.proofs.Making.{Make, to-make, asked-make, Made, make-ensures}
 use Rattle.image_reader.proofs.reader_at.Symbol as make-def
 use Rattle.image_reader.proofs.reader_at.Symbol.{name as #image-reader·reader-at}
 use Rattle.image_reader.proofs.reader_at.Met as make-thm
@@ -192,7 +192,7 @@ module _ {M : Type 1} (𝓤 : URA M) (H : Heap 𝓤) (A : Atoms 𝓤) (W : Given
           use2 W (raw (Make 𝓤 H A mem run .pre (to-make 𝓤 H A mem run W κ q s n))) (asked-make 𝓤 H A mem run W κ q s n) $
           calls-at ! fm (Make 𝓤 H A mem run) known-make (to-make 𝓤 H A mem run W κ q s n) (and-then ! (load ! (from ! (stop !)) (look ! 19 refl)) (and-then ! (load ! (from ! (stop !)) (look ! 17 refl)) (no-more !))) (λ u.
           use1 W (later (some (λ (r : Reader). ((‵ (flft κ q) ⊛ ‵ ftrue) ⊛ ‵ (B κ .own r (u ∷ []))) ⊛ raw (Made 𝓤 H A mem run W κ q s n r)))) (id⊢ 𝓤 _) $ await ! tt $ pick ! (λ r.
-          split ! $ move ! (1 ∷ []) $ use1 W (raw (fact 𝓤 ((r .image ≡ s) × (r .at ≡ n)))) (make-said 𝓤 H A mem run W κ q s n r) $ heard ! ((r .image ≡ s) × (r .at ≡ n)) (λ e. split ! $
+          split ! $ move ! (1 ∷ []) $ use1 W (raw (fact 𝓤 ((r .image ≡ s) × (r .at ≡ n)))) (make-ensures 𝓤 H A mem run W κ q s n r) $ heard ! ((r .image ≡ s) × (r .at ≡ n)) (λ e. split ! $
           rewrite ! 1 (λ (d : Reader). ‵ (B κ .own d (u ∷ []))) (λ i. record { image = e .0 i; at = e .1 i }) refl $
           move ! (1 ∷ []) $ peeks ! (B κ) (Is (B κ)) (shows 𝓤 H A (B κ)) h₀ (u ∷ []) (λ is.
           -- [what the reader owns; the token; _10; …; _9; …; _8; …; _7; …; _6; …; _5; …; _4; …; _3; …; _2; …; _1; …; room for _0; …]

@@ -1,8 +1,9 @@
 -- `image_write::write` meets its contract: by each test in its order, and then by what is put.
-use mathlib.Core.Path.{_∙_, refl, sym}
+use mathlib.Core.Path.{_≡_, _∙_, refl, sym}
 use native.Mathlib.Omega.{arith}
 use borrow.Author.Needs.{needs}
 use Rattle.lists.specs.Lists.{total}
+use Rattle.table_rules.specs.Checks.{readRefusal}
 use Rattle.table_rules.proofs.Passing.{read-passed}
 use Rattle.image_rules.specs.Bytes.{writtenForm, startFields, weightFields, headerFields, tagFields, dayFields, recordFields, headerBytes, tagBytes, recordBytes, sizeBytes, pairBytes, sizesEnd, imageLength}
 use Rattle.image_rules.proofs.Lengths.{length-image}
@@ -12,6 +13,13 @@ use Rattle.image_write.proofs.Replies.{stopped, too-short, written}
 use Rattle.image_write.proofs.write.Statement.{statement}
 use Rattle.image_write.proofs.write.Tie as tie
 
+-- the table passed its tests, from where they were made
+abbrev start-of : tie.Else1 → tie.Start
+start-of c = c .before .before .before
+
+unrefused : (c : tie.Else1) → readRefusal (start-of c .args .table .now) ≡ 0
+unrefused c = sym (c .before .read-refusal .ensures) ∙ c .if1 .left
+
 returns : tie.Need-returns
 returns c =
     let a = c .before .before .before .args in
@@ -19,37 +27,43 @@ returns c =
 
 order-in-requires : tie.Need-order-in-requires
 order-in-requires c κs =
-    let p = read-passed (c .before .before .before .args .table .now) (sym (c .before .read-refusal .ensures) ∙ c .if1 .left) in
-    omega (arith, sizes-in {k = 0} refl p (omega arith))
+    omega (arith, sizes-in {k = 0} refl (read-passed (start-of c .args .table .now) (unrefused c)) (omega arith))
 
 image-length-requires : tie.Need-image-length-requires
 image-length-requires c κs =
-    (c .order-in .ensures, read-passed (c .before .before .before .before .args .table .now) (sym (c .before .before .read-refusal .ensures) ∙ c .before .if1 .left))
+    (c .order-in .ensures, read-passed (start-of (c .before) .args .table .now) (unrefused (c .before)))
 
 returns-2 : tie.Need-returns-2
 returns-2 c =
-    let a = c .before .before .before .before .before .before .args in
-    too-short (a .table .now) (a .image .now) (sym (c .before .before .before .before .read-refusal .ensures) ∙ c .before .before .before .if1 .left) (omega (arith, c .before .image-length .ensures))
+    let tested = c .before .before .before in
+    let a = start-of tested .args in
+    too-short (a .table .now) (a .image .now) (unrefused tested) (omega (arith, c .before .image-length .ensures))
 
 put-image-requires : tie.Need-put-image-requires
-put-image-requires c κs = (
-  c .before .before .before .order-in .ensures,
-  read-passed (c .before .before .before .before .before .before .before .args .table .now) (sym (c .before .before .before .before .before .read-refusal .ensures) ∙ c .before .before .before .before .if1 .left),
-  omega (arith, c .before .before .image-length .ensures, c .before .if2 .left),
-)
+put-image-requires c κs =
+    let tested = c .before .before .before .before in (
+      c .before .before .before .order-in .ensures,
+      read-passed (start-of tested .args .table .now) (unrefused tested),
+      omega (arith, c .before .before .image-length .ensures, c .before .if2 .left),
+    )
+
+abbrev tested-at : tie.After-put-image → tie.Else1
+tested-at c = c .before .before .before .before .before
 
 cast-length : tie.Need-cast-t11
 unfolding imageLength sizesEnd headerBytes headerFields startFields weightFields writtenForm total pairBytes sizeBytes tagBytes recordBytes tagFields recordFields dayFields
 cast-length c =
-    let t = c .before .before .before .before .before .before .before .before .before .before .args .table .now in
-    let p = read-passed t (sym (c .before .before .before .before .before .before .before .before .read-refusal .ensures) ∙ c .before .before .before .before .before .before .before .if1 .left) in
+    let tested = tested-at (c .before .before) in
+    let t = start-of tested .args .table .now in
+    let p = read-passed t (unrefused tested) in
     omega (arith, c .before .before .before .before .before .image-length .ensures, length-image t, slots-most p, p .framed .order)
 
 returns-3 : tie.Need-returns-3
 returns-3 c =
-    let a = c .before .before .before .before .before .before .before .before .before .before .args in
+    let tested = tested-at (c .before .before) in
+    let a = start-of tested .args in
     let long = c .before .before .before .before .before .image-length .ensures in
-    written (a .table .now) (a .image .now) (sym (c .before .before .before .before .before .before .before .before .read-refusal .ensures) ∙ c .before .before .before .before .before .before .before .if1 .left) (omega (arith, long, c .before .before .before .before .if2 .left)) _ long _
+    written (a .table .now) (a .image .now) (unrefused tested) (omega (arith, long, c .before .before .before .before .if2 .left)) _ long _
     (c .before .before .put-image .ensures)
 
 pub write-spec : {M : Type 1} → statement M

@@ -28,25 +28,28 @@ unrefused c = sym (c .before .read-refusal .ensures) ∙ c .if1 .left
 valid : (c : tie.Else2) → validTag (c .before .before .before .before .args .tag) ≡ true
 valid c = sym (c .before .valid-tag .ensures) ∙ not-false (c .before .valid-tag .result) (c .if2 .left)
 
+-- the start, from where the bucket is known
+abbrev start-of : tie.After-bucket → tie.Start
+start-of c = c .before .before .before .before .before .before .before
+
 -- the place found, and that a live item stands there
 located :
     (c : tie.After-bucket)
-    → let a = c .before .before .before .before .before .before .before .args in
+    → let a = start-of c .args in
     let k = c .bucket .given .0 .0 in
     let i = c .bucket .given .0 .1 .0 in
     some (place k i (getD (slotsOf (a .table .now) k) i [])) ≡ find (a .table .now) (a .tag)
 unfolding placeOf
-located c =
-    ap (placeOf (c .before .before .before .before .before .before .before .args .table .now)) (sym (c .bucket .given .1)) ∙ c .before .before .find .ensures
+located c = ap (placeOf (start-of c .args .table .now)) (sym (c .bucket .given .1)) ∙ c .before .before .find .ensures
 
 stands :
     (c : tie.After-bucket)
-    → let a = c .before .before .before .before .before .before .before .args in
+    → let a = start-of c .args in
     let k = c .bucket .given .0 .0 in
     let i = c .bucket .given .0 .1 .0 in
     Found (a .table .now) (a .tag) (place k i (getD (slotsOf (a .table .now) k) i []))
 stands c =
-    let a = c .before .before .before .before .before .before .before .args in
+    let a = start-of c .args in
     let k = c .bucket .given .0 .0 in
     let i = c .bucket .given .0 .1 .0 in
     found (a .table .now) (a .tag) (place k i (getD (slotsOf (a .table .now) k) i [])) (sym (located c))
@@ -70,12 +73,12 @@ find-requires : tie.Need-find-requires
 find-requires c κs = read-passed (c .before .before .before .before .args .table .now) (unrefused (c .before .before))
 
 order-in-requires : tie.Need-order-in-requires
-order-in-requires c κs = framed-rows (read-passed (c .before .before .before .before .before .before .before .before .args .table .now) (unrefused (c .before .before .before .before .before .before)) .framed)
+order-in-requires c κs = framed-rows (read-passed (start-of (c .before) .args .table .now) (unrefused (c .before .before .before .before .before .before)) .framed)
 
 slots-of-requires : tie.Need-slots-of-requires
 slots-of-requires c κs =
     let at = c .before .before in
-    let t = c .before .before .before .before .before .before .before .before .before .args .table .now in
+    let t = start-of at .args .table .now in
     slots-asked (read-passed t (unrefused (c .before .before .before .before .before .before .before))) (c .order-in .result .t) (at .bucket .given .0 .0) (c .order-in .ensures)
     (omega (arith, c .order-in .ensures, stands at .inOrder))
 
@@ -95,7 +98,7 @@ returns-3 c =
 returns-4 : tie.Need-returns-4
 returns-4 c =
     let at = c .before .before .before .before .before .before in
-    let a = at .before .before .before .before .before .before .before .args in
+    let a = start-of at .args in
     let k = at .bucket .given .0 .0 in
     let i = at .bucket .given .0 .1 .0 in
     let row = getD (slotsOf (a .table .now) k) i [] in

@@ -27,9 +27,9 @@ profile-requires-3 c κs =
 returns : tie.Need-returns
 returns c =
     let ran = c .before .before .before .before in
-    let told = ran .before .before .before .before .before .before in
-    let matched = told .tag .given in
-    let read = told .before .before in
+    let taken = ran .before .before .before .before .before .before in
+    let matched = taken .tag .given in
+    let read = taken .before .before in
     let a = start-of read .args in
     let s = ran .run-add in
     add-answered (a .table .now) (a .work .now) (a .result .now) (a .number) (a .line .now) (a .out .now) (s .last .1 .1 .0) (s .result) (matched .0 .0) (ran .before .profile .result) (matched .0 .1 .0) (s .last .0) (s .last .1 .0) (sym (matched .1) ∙ read .command .ensures) (ran .before .profile .ensures) (s .ensures .0) (s .ensures .1 .0) (s .ensures .1 .1)
@@ -37,9 +37,9 @@ returns c =
 returns-2 : tie.Need-returns-2
 returns-2 c =
     let ran = c .before .before .before .before in
-    let told = ran .before .before .before .before .before in
-    let matched = told .tag2 .given in
-    let read = told .before .before in
+    let taken = ran .before .before .before .before .before in
+    let matched = taken .tag2 .given in
+    let read = taken .before .before in
     let a = start-of read .args in
     let s = ran .run-remove in
     remove-answered (a .table .now) (a .work .now) (a .result .now) (a .number) (a .line .now) (a .out .now) (s .last .1 .1 .0) (s .result) (matched .0 .0) (s .last .0) (s .last .1 .0) (sym (matched .1) ∙ read .command .ensures) (s .ensures .0) (s .ensures .1 .0) (s .ensures .1 .1)
@@ -47,9 +47,9 @@ returns-2 c =
 returns-3 : tie.Need-returns-3
 returns-3 c =
     let ran = c .before .before .before in
-    let told = ran .before .before .before .before .before .before in
-    let matched = told .radius .given in
-    let read = told .before .before in
+    let taken = ran .before .before .before .before .before .before in
+    let matched = taken .radius .given in
+    let read = taken .before .before in
     let a = start-of read .args in
     let s = ran .run-range in
     within-answered (a .table .now) (a .work .now) (a .result .now) (a .number) (a .line .now) (a .out .now) (s .last .1 .1 .0) (s .result) (matched .0 .0) (ran .before .profile2 .result) (matched .0 .1 .0) (s .last .1 .0) (sym (matched .1) ∙ read .command .ensures) (ran .before .profile2 .ensures) (s .ensures .0) (s .ensures .1)
@@ -57,9 +57,9 @@ returns-3 c =
 returns-4 : tie.Need-returns-4
 returns-4 c =
     let ran = c .before .before .before in
-    let told = ran .before .before .before .before .before .before in
-    let matched = told .k .given in
-    let read = told .before .before in
+    let taken = ran .before .before .before .before .before .before in
+    let matched = taken .k .given in
+    let read = taken .before .before in
     let a = start-of read .args in
     let s = ran .run-nearest in
     nearest-answered (a .table .now) (a .work .now) (a .result .now) (a .number) (a .line .now) (a .out .now) (s .last .1 .1 .0) (s .result) (matched .0 .0) (ran .before .profile3 .result) (matched .0 .1 .0) (s .last .1 .0) (sym (matched .1) ∙ read .command .ensures) (ran .before .profile3 .ensures) (s .ensures .0) (s .ensures .1)

@@ -1,4 +1,4 @@
--- `yard_step::talk` meets its contract: by the stage.
+-- `yard_step::step` meets its contract: by the stage.
 use mathlib.Core.Path.{refl, sym, subst}
 use native.Mathlib.Omega.{arith}
 use Rattle.yard_rules.specs.declared.Stage.{Stage}
