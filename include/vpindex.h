@@ -14,7 +14,8 @@
  *   - it is aligned as its type wants;
  *   - areas lent to the same call do not overlap;
  *   - no other thread uses an area while a call has it, except that several may read the same table;
- *   - the stack has room: seen, not a bound, is about 70 KB for vpindex_load at order 12, under 4 KB for the others.
+ *   - the stack has room: seen, not a bound, is about 70 KB for vpindex_load and vpindex_restore at order 12, under 4
+ *     KB for the others.
  */
 #ifndef VPINDEX_H
 #define VPINDEX_H
@@ -70,6 +71,11 @@ extern "C" {
 /* As many bytes as any image of this order can have: every slot of every bucket built. */
 #define VPINDEX_IMAGE_BYTES(order) (8 + 4 * ((size_t)(order) + 1) + 50 * (((size_t)2 << (order)) - 1))
 
+/* The states: snapshots of a table under names 1 to VPINDEX_NAMES, each in its part of the area, an eighth of its bytes
+ * rounded down. So many bytes have room for any snapshot of this order under every name. */
+#define VPINDEX_NAMES 8
+#define VPINDEX_STATES_BYTES(order) (VPINDEX_NAMES * (4 + VPINDEX_IMAGE_BYTES(order)))
+
 /* The first line of a herd list; vpindex_read_list says what follows it. */
 #define VPINDEX_LIST_HEADER "tag;kg;hip;girth;gain\n"
 
@@ -87,11 +93,12 @@ extern "C" {
 #define VPINDEX_BAD_ORDER 3              /* order above 12 */
 #define VPINDEX_BAD_METRIC 4             /* metric above 2 */
 #define VPINDEX_NO_COUNT 5               /* nearest with k = 0 */
-#define VPINDEX_NO_ROOM 6                /* result area shorter than the reply, or image area than the image */
-#define VPINDEX_BAD_LENGTH 7             /* the image's length is wrong */
+#define VPINDEX_NO_ROOM 6                /* the result, the image or the snapshot is longer than its area or part */
+#define VPINDEX_BAD_LENGTH 7             /* the image's length is wrong, or past the part that it is restored from */
 #define VPINDEX_BAD_IMAGE 8              /* an image of no known form, or its fields or trees break a rule */
 #define VPINDEX_BAD_WEIGHT 32            /* a weight above 100 */
 #define VPINDEX_BAD_DAY 33               /* an item's day is 0 */
+#define VPINDEX_BAD_NAME 34              /* a name outside 1 to 8 */
 
 /* by the state */
 #define VPINDEX_ALREADY_LIVE 20          /* the tag is in the table */
@@ -99,6 +106,7 @@ extern "C" {
 #define VPINDEX_FULL 22                  /* the table has 2^T items */
 #define VPINDEX_SHORT_AREA 23            /* table or work area shorter than the order needs, or a table of no rows */
 #define VPINDEX_BAD_TABLE 24             /* a table's order, metric, weights, sizes or marks, or an image's sizes */
+#define VPINDEX_NOT_SAVED 35             /* nothing was saved under the name */
 
 /* by the list */
 #define VPINDEX_BAD_LIST_HEADER 30       /* the list does not begin with VPINDEX_LIST_HEADER */
@@ -229,6 +237,21 @@ vpindex_written vpindex_write(VPINDEX_READ uint32_t (*table)[VPINDEX_ROW_WORDS],
 vpindex_list_read vpindex_read_list(uint32_t (*table)[VPINDEX_ROW_WORDS], size_t table_rows,
                                     uint32_t (*work)[VPINDEX_ROW_WORDS], size_t work_rows, const uint8_t *list,
                                     size_t list_bytes, uint16_t day);
+
+/* Saves a snapshot of the table under a name, in place of one before: the image's length in four bytes, the lowest
+ * first, and then the image, at the start of the name's part. Every other byte of the states keeps its content. An area
+ * of zeros, of any length, has nothing saved. The reply's length is the image's.
+ * Refusals: BAD_NAME, then those of vpindex_write, NO_ROOM where the part has fewer than 4 bytes and the image. */
+vpindex_written vpindex_save(VPINDEX_READ uint32_t (*table)[VPINDEX_ROW_WORDS], size_t table_rows, uint8_t *states,
+                             size_t states_bytes, uint32_t name);
+
+/* Makes the table the one that was saved under the name, dead slots too; it may have held anything. The states are only
+ * read, so a name can be restored again and again.
+ * Returns 0 or a refusal: BAD_NAME, NOT_SAVED (a length of 0, or a part under 4 bytes), BAD_LENGTH (a length past the
+ * rest of the part), then those of vpindex_load for the image. Of a part that vpindex_save left, and a table that only
+ * these calls changed, SHORT_AREA alone can be returned. */
+uint32_t vpindex_restore(uint32_t (*table)[VPINDEX_ROW_WORDS], size_t table_rows, const uint8_t *states,
+                         size_t states_bytes, uint32_t name);
 
 #ifdef __cplusplus
 }

@@ -1,5 +1,5 @@
--- The calls on a table, in four groups: those that begin a table, those that change it, those that only ask, and writing. Each with its arguments, the areas
--- lent to it, and what it leaves: its reply, the table and the areas. The contracts of `vpindex` are these definitions, and the demands speak of them.
+-- The calls on a table, in four groups: those that begin a table, those that change it, those that only ask, and those that write it. Each with its arguments, the
+-- areas lent to it, and what it leaves: its reply, the table and the areas. The contracts of `vpindex` are these definitions, and the demands speak of them.
 use Prim.Native.Nat.{ℕ}
 use mathlib.Core.List.{List}
 use lib.ListN.{length}
@@ -20,25 +20,32 @@ use Rattle.table_rules.specs.Search.{rangeReply, resultAfterRange, nearestReply
 use Rattle.image_rules.specs.declared.Written.{Written}
 use Rattle.image_rules.specs.Write.{writeReply, imageAfterWrite}
 use Rattle.image_rules.specs.Load.{loadRefusal, tableAfterLoad}
+use Rattle.state_rules.specs.Save.{saveReply, statesAfterSave}
+use Rattle.state_rules.specs.Restore.{restoreRefusal, tableAfterRestore}
 use Rattle.list_rules.specs.declared.ListRead.{ListRead}
 use Rattle.list_rules.specs.ReadList.{readListReply, tableAfterReadList, workAfterReadList}
 
--- RULES 7, 12.3: the calls that begin a table. They read nothing of what lay there but its length; a load's image is an argument
+-- RULES 7, 12.3, 19.6: the calls that begin a table. They read nothing of what lay there but its length; a load's image and the states that a restore reads are
+-- arguments
 pub data Begin : Type 0 where
   fresh : (order : ℕ) (space : Space) → Begin
   load : (image : List ℕ) → Begin
+  restore : (states : List ℕ) (name : ℕ) → Begin
 
 abbrev pub BeginReply : Begin → Type 0
 BeginReply (fresh order space) = ℕ
 BeginReply (load image) = ℕ
+BeginReply (restore states name) = ℕ
 
 abbrev pub beginReply : (b : Begin) → ℕ → BeginReply b
 beginReply (fresh order space) rows = freshRefusal rows order space
 beginReply (load image) rows = loadRefusal rows image
+beginReply (restore states name) rows = restoreRefusal rows states name
 
 abbrev pub tableBegun : Begin → Table → Table
 tableBegun (fresh order space) t = tableAfterFresh order space t
 tableBegun (load image) t = tableAfterLoad image t
+tableBegun (restore states name) t = tableAfterRestore states name t
 
 -- RULES 8, 9, 13: the calls that change a table. Each is lent a work area; a herd list's bytes are an argument
 pub data Change : Type 0 where
@@ -92,39 +99,52 @@ areasAnswered (lookUp tag) t none = none
 areasAnswered (range query radius firstDay) t result = resultAfterRange t result query radius firstDay
 areasAnswered (nearest query k firstDay) t result = resultAfterNearest t result query k firstDay
 
--- The four groups as one, with writing (RULES 12.2): a call, the areas lent to it besides the table, and what it leaves
+-- RULES 12.2, 19.4: the calls that write a table. They leave it as it is. Each is lent bytes to write in: an area for the image, or the states
+pub data Write : Type 0 where
+  image : Write
+  save : (name : ℕ) → Write
+
+abbrev pub writtenReply : Write → Table → List ℕ → Written
+writtenReply image t bytes = writeReply t bytes
+writtenReply (save name) t bytes = saveReply t bytes name
+
+abbrev pub bytesWritten : Write → Table → List ℕ → List ℕ
+bytesWritten image t bytes = imageAfterWrite t bytes
+bytesWritten (save name) t bytes = statesAfterSave t bytes name
+
+-- The four groups as one: a call, the areas lent to it besides the table, and what it leaves
 pub data Call : Type 0 where
   begin : Begin → Call
   change : Change → Call
   ask : Ask → Call
-  write : Call
+  write : Write → Call
 
 abbrev pub Areas : Call → Type 0
 Areas (begin b) = Unit {0}
 Areas (change c) = List Row
 Areas (ask q) = AskAreas q
-Areas write = List ℕ
+Areas (write w) = List ℕ
 
 abbrev pub Reply : Call → Type 0
 Reply (begin b) = BeginReply b
 Reply (change c) = ChangeReply c
 Reply (ask q) = AskReply q
-Reply write = Written
+Reply (write w) = Written
 
 abbrev pub replyTo : (c : Call) → Table → Areas c → Reply c
 replyTo (begin b) t none = beginReply b (length t)
 replyTo (change c) t work = changeReply c t work
 replyTo (ask q) t areas = askReply q t areas
-replyTo write t image = writeReply t image
+replyTo (write w) t bytes = writtenReply w t bytes
 
 abbrev pub tableAfter : (c : Call) → Table → Areas c → Table
 tableAfter (begin b) t none = tableBegun b t
 tableAfter (change c) t work = tableChanged c t work
 tableAfter (ask q) t areas = t
-tableAfter write t image = t
+tableAfter (write w) t bytes = t
 
 abbrev pub areasAfter : (c : Call) → Table → Areas c → Areas c
 areasAfter (begin b) t none = none
 areasAfter (change c) t work = workChanged c t work
 areasAfter (ask q) t areas = areasAnswered q t areas
-areasAfter write t image = imageAfterWrite t image
+areasAfter (write w) t bytes = bytesWritten w t bytes

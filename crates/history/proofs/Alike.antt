@@ -1,6 +1,6 @@
--- Demand 3's comparison, tried on one list, and on one with weights: at every call, refused ones and short areas among them, table and model show what was worked out by hand,
+-- Demand 3's comparison, tried on one list, on one with weights and on one with named states: at every call, refused ones and short areas among them, table and model show what was worked out by hand,
 -- and after it the sums and the model's items are those worked out by hand. Each side is a run that antt computes.
-use Prim.Native.Nat.{ℕ}
+use Prim.Native.Nat.{ℕ, _+_, _*_}
 use mathlib.Core.Path.{_≡_, refl}
 use mathlib.Core.List.{List, [], _∷_, _++_, map}
 use lib.IntN.{pos, negsuc}
@@ -8,14 +8,14 @@ use lib.ListN.{length, replicate}
 use Rattle.search_rules.specs.Range.{Entry}
 use Rattle.text_rules.specs.Text.{lineFeed}
 use Rattle.table_rules.specs.LookUp.{noProfile}
+use Rattle.state_rules.specs.Parts.{snapshotOf}
 use Rattle.call_rules.specs.Calls.{Call}
-use Rattle.call_rules.specs.Calls.Call.{write}
-use Rattle.history.specs.Trace.{Step, Shown, zeroed, shows, overlaid, leftBy, beginShown, changeShown, askShown, shown, noSums, plus, starting, begunSums, ifAccepted, counted, sumsAfter, stateAfter, shownAt, stateAfterAll, trace}
+use Rattle.history.specs.Trace.{Step, Shown, zeroed, shows, overlaid, leftBy, beginShown, changeShown, askShown, shown, noSums, plus, imageSums, starting, begunSums, ifAccepted, counted, sumsAfter, stateAfter, shownAt, stateAfterAll, trace}
 use Rattle.history.specs.Trace.Payload.{bare, aWeighing, someEntries, aListRead}
-use Rattle.history.specs.Model.{itemOf, withTag, isIn, with, without, weighedIn, scanned, modelRange, modelNearest, canRead, canChange, tagRefusal, itemRefusal, addRefusalOf, removeRefusalOf, fits, questionRefusal, askRefusal, found, answerTo, showsUnless, afterUnless, stopsAt, oneMoreAdded, linesAnswered, listAnswered, modelBegun, beginAnswer, changeAnswer, answer, answerAt, modelAfterAll, modelTrace}
+use Rattle.history.specs.Model.{itemOf, withTag, isIn, with, without, weighedIn, scanned, modelRange, modelNearest, canRead, canChange, tagRefusal, itemRefusal, addRefusalOf, removeRefusalOf, fits, questionRefusal, askRefusal, found, answerTo, showsUnless, afterUnless, stopsAt, oneMoreAdded, linesAnswered, listAnswered, imageModel, modelBegun, beginAnswer, changeAnswer, answer, answerAt, modelAfterAll, modelTrace}
 use Rattle.history.specs.History.{before, blankModel}
 use Rattle.history.proofs.Computing.{performed}
-use Rattle.history.proofs.Running.{fresh, load, add, remove, readList, lookUp, range, nearest, weighing, by, tag, valued, measured, areasFor, scratch, adding, removing, listOf, itemLine}
+use Rattle.history.proofs.Running.{fresh, load, restore, write, save, add, remove, readList, lookUp, range, nearest, weighing, by, tag, valued, measured, areasFor, scratch, adding, removing, listOf, itemLine}
 use Rattle.history.proofs.Imaged.{oneAs, oneImage, deadImage, unweightedImage}
 
 -- calls in roomy areas, each lent its own; and one in areas of these lengths
@@ -123,14 +123,14 @@ expected =
 
 tableShows : trace (before scratch) steps ≡ expected
 unfolding
-    performed steps expected before overlaid leftBy beginShown changeShown askShown shown noSums plus starting begunSums ifAccepted counted sumsAfter stateAfter shownAt trace scratch
+    performed steps expected before overlaid leftBy beginShown changeShown askShown shown noSums plus imageSums starting begunSums ifAccepted counted sumsAfter stateAfter shownAt trace scratch
 tableShows = refl
 
 modelShows : modelTrace blankModel steps ≡ expected
 unfolding
     performed steps expected zeroed beginShown itemOf withTag isIn with without weighedIn scanned modelRange modelNearest canRead canChange tagRefusal
     itemRefusal addRefusalOf removeRefusalOf fits questionRefusal askRefusal found answerTo showsUnless afterUnless stopsAt oneMoreAdded
-    linesAnswered listAnswered modelBegun beginAnswer changeAnswer answer answerAt modelTrace blankModel
+    linesAnswered listAnswered imageModel modelBegun beginAnswer changeAnswer answer answerAt modelTrace blankModel
 modelShows = refl
 
 -- since the load of three live items and a dead one: item 8 added (no distance, into bucket 0), item 3 removed (enough are left), item 1 removed (2 and 8
@@ -184,3 +184,50 @@ weighedTable = refl
 weighedModel : modelTrace blankModel weighedSteps ≡ weighedShow
 unfolding modelShows weighedSteps weighedShow
 weighedModel = refl
+
+-- states whose third part holds an image of three live items and a dead one, with zeros in the parts before it and other bytes behind; seven are left over
+thirdSaved : List ℕ
+unfolding performed deadImage
+thirdSaved = let n = length (snapshotOf deadImage) in replicate (2 * n) 0 ++ snapshotOf deadImage ++ replicate (5 * n + 7) 1
+
+-- a save, whose refusal is excepted; a restore of no name, of one that nothing was saved under, and of one whose length is past its part: the table stays; then of
+-- the third into a short area, and into one that is long enough
+savedSteps : List Step
+unfolding roomy lentOnly tag valued thirdSaved
+savedSteps =
+    roomy
+    (fresh 1 (by 0)
+    ∷ add (tag 1) (valued 0) 1
+    ∷ add (tag 9) (valued 5) 1
+    ∷ save 9
+    ∷ restore thirdSaved 9
+    ∷ restore thirdSaved 2
+    ∷ restore thirdSaved 4
+    ∷ range (valued 0) 99 0
+    ∷ [])
+    ++ (lentOnly 0 9 (restore thirdSaved 3) ∷ [])
+    ++ roomy (restore thirdSaved 3 ∷ nearest (valued 13) 2 0 ∷ lookUp (tag 4) ∷ [])
+
+savedShow : List Shown
+unfolding changed noProfileFor finds tag
+savedShow =
+    map changed (0 ∷ 0 ∷ 0 ∷ 0 ∷ 34 ∷ 35 ∷ 7 ∷ [])
+    ++ (finds ((tag 1 ∷ 0 ∷ []) ∷ (tag 9 ∷ 5 ∷ []) ∷ [])
+    ∷ changed 23
+    ∷ changed 0
+    ∷ finds ((tag 2 ∷ 0 ∷ []) ∷ (tag 3 ∷ 0 ∷ []) ∷ [])
+    ∷ noProfileFor 21
+    ∷ [])
+
+savedTable : trace (before scratch) savedSteps ≡ savedShow
+unfolding tableShows savedSteps savedShow
+savedTable = refl
+
+savedModel : modelTrace blankModel savedSteps ≡ savedShow
+unfolding modelShows savedSteps savedShow
+savedModel = refl
+
+-- the restore starts the sums with the image's items
+savedSums : stateAfterAll (before scratch) savedSteps .sums ≡ record { adds = 3; removals = 1; distances = 0 }
+unfolding tableShows savedSteps stateAfterAll
+savedSums = refl

@@ -1,5 +1,5 @@
 -- One call of a list keeps the sums within what was paid: refused and reading calls leave both as they were, an accepted add or remove pays for what it
--- reports, a herd list by its accepted lines, and an accepted fresh or load starts the sums at what its items hold.
+-- reports, a herd list by its accepted lines, and an accepted fresh, load or restore starts the sums at what its items hold.
 use Prim.Native.Nat.{ℕ, zero, suc, _+_, _-_, _*_, _^_, _≤_, _<_}
 use native.Mathlib.Omega.{arith}
 use mathlib.Core.Path.{_≡_, refl, sym, _∙_, ap, ap₂, subst}
@@ -24,13 +24,15 @@ use Rattle.image_rules.specs.Read.{builtIn, slotsBefore, slotsIn}
 use Rattle.image_rules.specs.Load.{loadRefusal, liveRows, loadedTable, tableAfterLoad}
 use Rattle.list_rules.specs.ReadList.{Reading, stopped, oneMore, readListReply, tableAfterReadList}
 use Rattle.image_rules.proofs.Accepting.{accepted}
+use Rattle.state_rules.specs.Parts.{partOf, savedImage}
+use Rattle.state_rules.proofs.Restored.{restored, image-all}
 use Rattle.image_rules.proofs.Loaded.{length-bucket-in, loaded}
 use Rattle.call_rules.specs.Calls.{Begin, beginReply, tableBegun, Change, changeReply, tableChanged, Call, Areas, replyTo, tableAfter}
-use Rattle.call_rules.specs.Calls.Begin.{fresh, load}
+use Rattle.call_rules.specs.Calls.Begin.{fresh, load, restore}
 use Rattle.call_rules.specs.Calls.Change.{add, remove, readList}
 use Rattle.call_rules.specs.Calls.Call.{begin, change, ask, write}
-use Rattle.history.specs.Trace.{Sums, noSums, plus, starting, begunSums, ifAccepted, counted, sumsAfter, beginShown, overlaid, leftBy}
-use Rattle.history.specs.Model.{Model, ListAnswered, itemOf, with, without, canChange, tagRefusal, itemRefusal, addRefusalOf, removeRefusalOf, modelBegun}
+use Rattle.history.specs.Trace.{Sums, noSums, plus, imageSums, starting, begunSums, ifAccepted, counted, sumsAfter, beginShown, overlaid, leftBy}
+use Rattle.history.specs.Model.{Model, ListAnswered, itemOf, with, without, canChange, tagRefusal, itemRefusal, addRefusalOf, removeRefusalOf, imageModel, modelBegun}
 use Rattle.history.specs.History.{IsBegin, IsChange, IsCall}
 use Rattle.history.proofs.Invariant.{Invariant}
 use Rattle.history.proofs.RefinesItems.{Matches, live-total}
@@ -79,10 +81,10 @@ fresh-paid left t order space is e =
     in
     paid-longer (done .invariant .long) (begin-paid (done .invariant) 0 0 (live-total done) none) (drop (length u) left)
 
-load-paid : (left t : Table) (image : List ℕ) → All (λ b. b < 2 ^ 8) image → loadRefusal (length t) image ≡ 0
-    → Paid (leftBy left (loadedTable image t)) (starting (load image))
-unfolding leftBy starting slotsIn slotsBefore below modelBegun
-load-paid left t image bytes e =
+loaded-paid : (left t : Table) (image : List ℕ) → All (λ b. b < 2 ^ 8) image → loadRefusal (length t) image ≡ 0
+    → Paid (leftBy left (loadedTable image t)) (imageSums image)
+unfolding leftBy imageSums slotsIn slotsBefore below imageModel
+loaded-paid left t image bytes e =
     let u : Table = loadedTable image t in
     let here = loaded image t (accepted (length t) image e) in
     let done = load-matches image t bytes e in
@@ -94,14 +96,23 @@ load-paid left t image bytes e =
     paid-longer (done .invariant .long)
     (begin-paid (done .invariant) (length (liveRows image)) (slotsIn image) (live-total done ∙ length-map (liveRows image) itemOf) slots) (drop (length u) left)
 
+load-paid : (left t : Table) (image : List ℕ) → All (λ b. b < 2 ^ 8) image → loadRefusal (length t) image ≡ 0
+    → Paid (leftBy left (tableAfterLoad image t)) (imageSums image)
+unfolding tableAfterLoad
+load-paid left t image bytes e =
+    subst (λ (n : ℕ). Paid (leftBy left (elim n as (λ _. Table) [ zero ↦ loadedTable image t | suc j ↦ t ])) (imageSums image)) (sym e) (loaded-paid left t image bytes e)
+
 pub begun-paid : (left t : Table) (b : Begin) → IsBegin b → beginShown b (beginReply b (length t)) .refusal ≡ 0 → Paid (leftBy left (tableBegun b t)) (starting b)
-unfolding beginShown tableAfterFresh tableAfterLoad
+unfolding beginShown tableAfterFresh starting
 begun-paid left t (fresh order space) is e =
     subst (λ (n : ℕ). Paid (leftBy left (elim n as (λ _. Table) [ zero ↦ freshTable order space t | suc j ↦ t ])) (starting (fresh order space))) (sym e)
     (fresh-paid left t order space (is .1) e)
-begun-paid left t (load image) is e =
-    subst (λ (n : ℕ). Paid (leftBy left (elim n as (λ _. Table) [ zero ↦ loadedTable image t | suc j ↦ t ])) (starting (load image))) (sym e)
-    (load-paid left t image is e)
+begun-paid left t (load image) is e = load-paid left t image is e
+begun-paid left t (restore states name) is e =
+    let image = savedImage (partOf states name) in
+    let as-load = restored states name t e in
+    subst (λ (u : Table). Paid (leftBy left u) (imageSums image)) (sym (as-load .1))
+    (load-paid left t image (image-all states name (λ b. b < 2 ^ 8) (is .0)) (as-load .0))
 
 -- the table between calls, whose live items are the model's
 module _ {left : Table} {m : Model} (ok : Matches left m) {sums : Sums} (paid : Paid left sums) where
@@ -194,4 +205,4 @@ module _ {left : Table} {m : Model} (ok : Matches left m) {sums : Sums} (paid : 
       go (suc n) e = subst (λ (t : Table). Paid (leftBy left t) sums) (sym (begin-refused b (overlaid left area) n e)) (kept-paid area)
   call-paid (change c) is area work = change-paid c is area work
   call-paid (ask q) is area areas = kept-paid area
-  call-paid write is area image = kept-paid area
+  call-paid (write w) is area bytes = kept-paid area

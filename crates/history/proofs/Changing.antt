@@ -1,5 +1,5 @@
 -- Every accepted change keeps the match of table and model: after fresh, add and remove the table is sound again, and its live items are the model's, with
--- the new one or without the one removed; after load by the laws of images.
+-- the new one or without the one removed; after load and restore by the laws of images.
 use Prim.Native.Nat.{ℕ, zero, suc, _^_, _<_}
 use mathlib.Core.Path.{_≡_, refl, sym, _∙_, ap, subst}
 use mathlib.Core.Bool.{Bool, true, false, not, false≢true}
@@ -32,11 +32,13 @@ use Rattle.image_rules.specs.Load.{loadRefusal, loadedTable, tableAfterLoad}
 use Rattle.image_rules.proofs.Accepting.{accepted}
 use Rattle.image_rules.proofs.ReadTests.{reads-live}
 use Rattle.image_rules.proofs.Loaded.{loaded, loaded-reads}
+use Rattle.state_rules.specs.Parts.{partOf, savedImage}
+use Rattle.state_rules.proofs.Restored.{restored, restore-left, image-all}
 use Rattle.call_rules.specs.Calls.{Begin, beginReply, tableBegun}
-use Rattle.call_rules.specs.Calls.Begin.{fresh, load}
+use Rattle.call_rules.specs.Calls.Begin.{fresh, load, restore}
 use Rattle.history.specs.Trace.{beginShown}
 use Rattle.history.specs.History.{IsBegin}
-use Rattle.history.specs.Model.{Item, itemOf, Model, isIn, with, without, itemRefusal, tagRefusal, modelBegun}
+use Rattle.history.specs.Model.{Item, itemOf, Model, isIn, with, without, itemRefusal, tagRefusal, imageModel, modelBegun}
 use Rattle.history.specs.Represents.{itemsIn}
 use Rattle.history.proofs.BuildsKeep.{item-placed, new-item}
 use Rattle.history.proofs.InvariantFresh.{Freshable, freshable, invariant-fresh, fresh-live}
@@ -66,8 +68,8 @@ matches-fresh order space t four h =
 
 -- a loaded table matches the model that is fed the image
 pub load-matches : (image : List ℕ) (t : Table) → All (λ b. b < 2 ^ 8) image → loadRefusal (length t) image ≡ 0
-    → Matches (loadedTable image t) (modelBegun (load image))
-unfolding modelBegun itemsIn
+    → Matches (loadedTable image t) (imageModel image)
+unfolding imageModel itemsIn
 load-matches image t bytes h =
     let ok = accepted (length t) image h in
     let here = loaded image t ok in
@@ -165,14 +167,22 @@ fresh-matches order space four t e =
     subst (λ (n : ℕ). Matches (elim n as (λ _. Table) [ zero ↦ freshTable order space t | suc j ↦ t ]) (modelBegun (fresh order space))) (sym e)
     (matches-fresh order space t four e)
 
+after-load-matches : (image : List ℕ) (t : Table) → All (λ b. b < 2 ^ 8) image → loadRefusal (length t) image ≡ 0 → Matches (tableAfterLoad image t) (imageModel image)
+unfolding tableAfterLoad
+after-load-matches image t bytes e =
+    subst (λ (n : ℕ). Matches (elim n as (λ _. Table) [ zero ↦ loadedTable image t | suc j ↦ t ]) (imageModel image)) (sym e) (load-matches image t bytes e)
+
 pub begin-matches : (b : Begin) → IsBegin b → (t : Table) → beginShown b (beginReply b (length t)) .refusal ≡ 0 → Matches (tableBegun b t) (modelBegun b)
-unfolding beginShown tableAfterLoad
+unfolding beginShown modelBegun
 begin-matches (fresh order space) is t e = fresh-matches order space (is .1 .weights .four) t e
-begin-matches (load image) is t e =
-    subst (λ (n : ℕ). Matches (elim n as (λ _. Table) [ zero ↦ loadedTable image t | suc j ↦ t ]) (modelBegun (load image))) (sym e)
-    (load-matches image t is e)
+begin-matches (load image) is t e = after-load-matches image t is e
+begin-matches (restore states name) is t e =
+    let image = savedImage (partOf states name) in
+    let as-load = restored states name t e in
+    subst (λ (u : Table). Matches u (imageModel image)) (sym (as-load .1)) (after-load-matches image t (image-all states name (λ b. b < 2 ^ 8) (is .0)) (as-load .0))
 
 pub begin-refused : (b : Begin) (t : Table) (n : ℕ) → beginShown b (beginReply b (length t)) .refusal ≡ suc n → tableBegun b t ≡ t
 unfolding beginShown tableAfterFresh tableAfterLoad
 begin-refused (fresh order space) t n e = ap (λ (k : ℕ). elim k as (λ _. Table) [ zero ↦ freshTable order space t | suc j ↦ t ]) e
 begin-refused (load image) t n e = ap (λ (k : ℕ). elim k as (λ _. Table) [ zero ↦ loadedTable image t | suc j ↦ t ]) e
+begin-refused (restore states name) t n e = restore-left states name t n e

@@ -22,6 +22,9 @@ use Rattle.image_rules.specs.Bytes.{bytesOf, numberOf, lastForm, validForm, wri
 use Rattle.image_rules.specs.Write.{headerBytesOf, sizesOf, tagsOf, recordsOf, allSlots, imageAs, imageOf, writeRefusal, writeReply, imageAfterWrite}
 use Rattle.image_rules.specs.Read.{numberAt, fieldsAt, startNumbers, orderIn, formIn, weightsAs, spaceIn, builtIn, liveIn, slotsBefore, slotsIn, dayAs, rowIn, bucketIn}
 use Rattle.image_rules.specs.Load.{fieldsPass, bucketPasses, daysPass, liveRows, slotsPass, loadRefusal, loadedTable, tableAfterLoad}
+use Rattle.state_rules.specs.Parts.{validName, partBytes, partStart, partOf, snapshotOf, behindLength, savedLength, savedImage}
+use Rattle.state_rules.specs.Save.{saveRefusal, saveReply, statesAfterSave}
+use Rattle.state_rules.specs.Restore.{holdsSnapshot, partRefusal, restoreRefusal, tableAfterRestore}
 use Rattle.text_rules.specs.Text.{onto, parted, partAt, partsIn, digitOf, isDigit, isNumeral, numeralAfter, numeral}
 use Rattle.text_rules.specs.Fields.{isNegative, unsigned, isMeasure, hundredths, measureIn}
 use Rattle.list_rules.specs.Lines.{listHeader, hasHeader, isItemLine, itemTag, itemProfile, lineOf, linesFrom, linesOf, itemLines}
@@ -51,7 +54,8 @@ unfolding
     resultAfterRange nearestReply resultAfterNearest bytesOf numberOf lastForm validForm writtenForm startFields weightFields headerFields tagFields dayFields recordFields bytesOfFields startBytes headerBytes tagBytes
     recordBytes sizeBytes pairBytes sizesEnd tagWords imageLength headerBytesOf sizesOf tagsOf recordsOf allSlots imageAs imageOf writeRefusal
     writeReply imageAfterWrite numberAt fieldsAt startNumbers orderIn formIn weightsAs spaceIn builtIn liveIn slotsBefore slotsIn dayAs rowIn bucketIn
-    distinct fieldsPass bucketPasses daysPass liveRows slotsPass loadRefusal loadedTable tableAfterLoad onto parted partAt partsIn digitOf isDigit
+    distinct fieldsPass bucketPasses daysPass liveRows slotsPass loadRefusal loadedTable tableAfterLoad validName partBytes partStart partOf snapshotOf behindLength savedLength savedImage
+    saveRefusal saveReply statesAfterSave holdsSnapshot partRefusal restoreRefusal tableAfterRestore onto parted partAt partsIn digitOf isDigit
     isNumeral numeralAfter numeral isNegative unsigned isMeasure hundredths measureIn listHeader hasHeader isItemLine itemTag itemProfile lineOf
     linesFrom linesOf itemLines stopped oneMore reading listReading readListReply tableAfterReadList workAfterReadList
 performed c t areas = record { reply = replyTo c t areas; table = tableAfter c t areas; areas = areasAfter c t areas }

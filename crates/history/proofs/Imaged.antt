@@ -1,5 +1,5 @@
--- Images worked by hand from RULES 12: order 0 with one item and weights that differ, and order 2 with a dead slot, written, loaded back, and spoiled; and
--- what is of forms 0 and 1 with its translation.
+-- Images worked by hand from RULES 12: order 0 with one item and weights that differ, and order 2 with a dead slot, written, loaded back, and spoiled; one
+-- saved and restored; and what is of forms 0 and 1 with its translation.
 -- Each is a run that antt computes.
 use Prim.Native.Nat.{ℕ}
 use mathlib.Core.Path.{_≡_, refl}
@@ -9,6 +9,8 @@ use Rattle.table_rules.specs.Table.{Table, rowAt}
 use Rattle.image_rules.specs.Write.{imageOf, imageAfterWrite}
 use Rattle.image_rules.specs.Load.{loadRefusal, tableAfterLoad}
 use Rattle.image_rules.specs.Translate.{weightBytes, recordWithDay, translated}
+use Rattle.state_rules.specs.Save.{statesAfterSave}
+use Rattle.state_rules.specs.Restore.{tableAfterRestore}
 use Rattle.history.proofs.Computing.{performed}
 use Rattle.history.proofs.Running.{fresh, add, weighing, tag, valued, scratch, after, removing, table}
 
@@ -87,6 +89,19 @@ loads = tableAfterLoad oneImage scratch ∷ tableAfterLoad deadImage scratch ∷
 loadedBack : loads ≡ (take 3 one ++ drop 3 scratch) ∷ (take 11 dead ++ drop 11 scratch) ∷ []
 unfolding loads one dead scratch
 loadedBack = refl
+
+-- saved under name 2 into 549 bytes, so parts of 68: the length 62 and the image behind it, and every other byte is kept; and restored from there
+oneStates : List ℕ
+unfolding oneImage
+oneStates = replicate 68 5 ++ (62 ∷ 0 ∷ 0 ∷ 0 ∷ []) ++ oneImage ++ replicate 415 5
+
+statesAfter : statesAfterSave one (replicate 549 5) 2 ≡ oneStates
+unfolding statesAfterSave one oneStates
+statesAfter = refl
+
+restoredBack : tableAfterRestore oneStates 2 scratch ≡ take 3 one ++ drop 3 scratch
+unfolding tableAfterRestore oneStates one scratch
+restoredBack = refl
 
 -- of a day's word that a lent table may hold, 65,543, the lowest 16 bits are written
 lowestBits : imageOf (set one 2 (set (rowAt one 2) 12 65_543)) ≡ oneAs 2 (7 ∷ 0 ∷ [])

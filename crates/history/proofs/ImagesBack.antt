@@ -91,12 +91,12 @@ module _ {t : Table} (invariant : Invariant t) (area other : Table) (image : Lis
   fits = omega (arith, image-size invariant)
 
   bytes-written : imageWritten (imageSize t) t area image ≡ imageOf t
-  bytes-written = ap (λ (n : ℕ). imageWritten n t area image) (sym (image-size invariant)) ∙ writing-bytes invariant area image rows fits
+  bytes-written = ap (λ (n : ℕ). imageWritten n t area image) (sym (image-size invariant)) ∙ writing-bytes invariant area rows image fits
 
   pub loads-back : LoadsBack t area other image
   loads-back =
       record {
-        replied = writing-reply invariant area image rows fits ∙ ap (λ (n : ℕ). record { refusal = 0; length = n }) (image-size invariant);
+        replied = writing-reply invariant area rows image fits ∙ ap (λ (n : ℕ). record { refusal = 0; length = n }) (image-size invariant);
         accepted = ap (loadRefusal (length other)) bytes-written ∙ image-accepted invariant other roomy;
         rows = ap (λ (bytes : List ℕ). take (tableRows (orderOf t)) (tableAfterLoad bytes other)) bytes-written ∙ image-rows invariant other roomy;
       }
@@ -110,6 +110,6 @@ accepted-gives-back bytes other area image below form h rows long =
     let fits : tableRows (orderOf t) ≤ length area = rw (← load-reads bytes other h .order) rows in
     let room : length (imageOf t) ≤ length image = rw same long in
     record {
-      replied = writing-reply invariant area image fits room ∙ ap (λ (bs : List ℕ). record { refusal = 0; length = length bs }) same;
-      given = subst (λ (bs : List ℕ). imageWritten (length bs) t area image ≡ bs) same (writing-bytes invariant area image fits room);
+      replied = writing-reply invariant area fits image room ∙ ap (λ (bs : List ℕ). record { refusal = 0; length = length bs }) same;
+      given = subst (λ (bs : List ℕ). imageWritten (length bs) t area image ≡ bs) same (writing-bytes invariant area fits image room);
     }

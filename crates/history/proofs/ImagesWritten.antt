@@ -58,31 +58,31 @@ image-own {t} invariant u own =
       slots = λ k h. reads .slots k (at k h) ∙ sym (kept-slots (own-kept t u own k (at k h)) (invariant-roomy invariant .within k (at k h)));
     })
 
--- the call as it is lent any areas
-module _ {t : Table} (invariant : Invariant t) (area : Table) (image : List ℕ) (rows : tableRows (orderOf t) ≤ length area) (long : length (imageOf t) ≤ length image) where
-  seen : Table
+-- the table as a call sees it, lent any area that is long enough
+module _ {t : Table} (invariant : Invariant t) (area : Table) (rows : tableRows (orderOf t) ≤ length area) where
+  abbrev seen : Table
   seen = overlaid t area
 
   seen-own : take (tableRows (orderOf t)) seen ≡ take (tableRows (orderOf t)) t
-  unfolding seen
   seen-own = overlaid-own (tableRows (orderOf t)) t area (invariant .long) rows
 
-  seen-invariant : Invariant seen
-  unfolding seen
+  pub seen-invariant : Invariant seen
   seen-invariant = invariant-own invariant seen seen-own (omega (arith, overlaid-length t area))
 
-  seen-image : imageOf seen ≡ imageOf t
+  pub seen-image : imageOf seen ≡ imageOf t
   seen-image = image-own invariant seen seen-own
 
-  seen-long : length (imageOf seen) ≤ length image
-  seen-long = rw seen-image long
+  -- the call as it is lent an area for the image too
+  module _ (image : List ℕ) (long : length (imageOf t) ≤ length image) where
+    seen-long : length (imageOf seen) ≤ length image
+    seen-long = rw seen-image long
 
-  pub writing-reply : writing t area image ≡ record { refusal = 0; length = length (imageOf t) }
-  unfolding seen writing
-  writing-reply = invariant-reply seen-invariant image seen-long ∙ ap (λ (bytes : List ℕ). record { refusal = 0; length = length bytes }) seen-image
+    pub writing-reply : writing t area image ≡ record { refusal = 0; length = length (imageOf t) }
+    unfolding writing
+    writing-reply = invariant-reply seen-invariant image seen-long ∙ ap (λ (bytes : List ℕ). record { refusal = 0; length = length bytes }) seen-image
 
-  pub writing-bytes : imageWritten (length (imageOf t)) t area image ≡ imageOf t
-  unfolding seen imageWritten
-  writing-bytes =
-      subst (λ (bytes : List ℕ). take (length bytes) (imageAfterWrite seen image) ≡ bytes) seen-image
-      (invariant-bytes seen-invariant image seen-long)
+    pub writing-bytes : imageWritten (length (imageOf t)) t area image ≡ imageOf t
+    unfolding imageWritten
+    writing-bytes =
+        subst (λ (bytes : List ℕ). take (length bytes) (imageAfterWrite seen image) ≡ bytes) seen-image
+        (invariant-bytes seen-invariant image seen-long)

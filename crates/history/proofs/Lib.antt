@@ -26,6 +26,7 @@ mod ImagesFit
 mod ImagesLoaded
 mod ImagesWritten
 mod ImagesBack
+mod StatesBack
 mod Ordering
 mod AnyDistance
 mod RefinesLists

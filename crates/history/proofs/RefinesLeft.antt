@@ -110,7 +110,7 @@ module _ {left : Table} {m : Model} (ok : Matches left m) where
   after-call (begin b) is area none = after-begin b is area
   after-call (change c) is area work = after-change c is area work
   after-call (ask q) is area areas = matches-left area
-  after-call write is area image = matches-left area
+  after-call (write w) is area bytes = matches-left area
 
 -- one call of a list: the table after it matches the model after it
 pub step-matches : (state : State) (m : Model) → Matches (state .table) m → (s : Step) → IsCall (s .call) → Matches (stateAfter state s .table) (answerAt m s .model)

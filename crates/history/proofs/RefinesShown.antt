@@ -141,4 +141,4 @@ module _ (m : Model) (t : Table) (lendable : Lendable t m) where
   shown-alike (begin b) is areas = refl
   shown-alike (change c) is work = change-shown c is work
   shown-alike (ask q) is areas = ask-shown q areas
-  shown-alike write is image = refl
+  shown-alike (write w) is bytes = refl

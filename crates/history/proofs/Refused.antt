@@ -11,9 +11,8 @@ use Rattle.table_rules.specs.Geometry.{firstSlot}
 use Rattle.table_rules.specs.Table.{Table, rowAt, pairRow, putSizes}
 use Rattle.table_rules.specs.LookUp.{notFound, lookUpReply}
 use Rattle.call_rules.specs.Calls.{Call, Areas}
-use Rattle.call_rules.specs.Calls.Call.{write}
 use Rattle.history.proofs.Computing.{performed}
-use Rattle.history.proofs.Running.{fresh, load, add, remove, readList, lookUp, range, nearest, weighing, by, tag, valued, areasFor, areaRows, replyNumbers, listOf, itemLine, table}
+use Rattle.history.proofs.Running.{fresh, load, restore, write, save, add, remove, readList, lookUp, range, nearest, weighing, by, tag, valued, areasFor, areaRows, replyNumbers, listOf, itemLine, table}
 
 -- the table of the four items, written out, so that no try works it out again; and that it is theirs
 laid : Table
@@ -168,6 +167,18 @@ tries =
     ∷ on laid (readList (listOf (itemLine 4 1_000_000 ∷ [])) 0)
     ∷ on laid (readList (listOf (itemLine 4 1_000_000 ∷ [])) 1)
     ∷ on laid (readList (listOf (itemLine 5 0 ∷ [])) 65_535)
+    ∷ on [] (save 0)
+    ∷ on [] (save 9)
+    ∷ on [] (save 8)
+    ∷ on (sized 0 1 1) (save 1)
+    ∷ on laid (save 1)
+    ∷ on [] (restore [] 0)
+    ∷ on [] (restore (replicate 72 1) 9)
+    ∷ on [] (restore (replicate 31 1) 8)
+    ∷ on [] (restore (replicate 32 0) 8)
+    ∷ on [] (restore (set (replicate 32 0) 28 1) 8)
+    ∷ on [] (restore (replicate 24 0 ++ (4 ∷ 0 ∷ 0 ∷ 0 ∷ 13 ∷ 0 ∷ 0 ∷ 0 ∷ []) ++ replicate 39 0) 4)
+    ∷ on laid (restore (replicate 24 0 ++ (4 ∷ 0 ∷ 0 ∷ 0 ∷ 0 ∷ 0 ∷ 0 ∷ 0 ∷ []) ++ replicate 39 0) 4)
     ∷ []
 
 -- in the order of the tries: the first number that applies
@@ -236,6 +247,18 @@ expected =
     ∷ noList 33 2
     ∷ noList 20 2
     ∷ noList 22 2
+    ∷ noImage 34
+    ∷ noImage 34
+    ∷ noImage 23
+    ∷ noImage 24
+    ∷ noImage 6
+    ∷ number 34
+    ∷ number 34
+    ∷ number 35
+    ∷ number 35
+    ∷ number 7
+    ∷ number 3
+    ∷ number 7
     ∷ []
 
 unchanged : outcomes tries ≡ refusals expected tries

@@ -10,8 +10,8 @@ use Rattle.metric_rules.specs.declared.Space.{Space}
 use Rattle.table_rules.specs.Table.{Table, slotsOf, builtOf, liveOf}
 use Rattle.text_rules.specs.Text.{lineFeed, digits}
 use Rattle.list_rules.specs.Lines.{semicolon, comma, listHeader}
-use Rattle.call_rules.specs.Calls.{Begin, BeginReply, Change, ChangeReply, Ask, AskAreas, AskReply, Call, Areas, Reply}
-use Rattle.call_rules.specs.Calls.Call.{begin, change, ask, write}
+use Rattle.call_rules.specs.Calls.{Begin, BeginReply, Change, ChangeReply, Ask, AskAreas, AskReply, Write, Call, Areas, Reply}
+use Rattle.call_rules.specs.Calls.Call.{begin, change, ask}
 use Rattle.history.proofs.Computing.{performed}
 
 -- what distances depend on, by a metric's number: with these weights, or with weights 1
@@ -39,6 +39,15 @@ fresh order space = begin (Begin.fresh order space)
 
 abbrev pub load : List ℕ → Call
 load image = begin (Begin.load image)
+
+abbrev pub restore : List ℕ → ℕ → Call
+restore states name = begin (Begin.restore states name)
+
+abbrev pub write : Call
+write = Call.write Write.image
+
+abbrev pub save : ℕ → Call
+save name = Call.write (Write.save name)
 
 abbrev pub add : ℕ → Profile → ℕ → Call
 add n p day = change (Change.add n p day)
@@ -72,7 +81,7 @@ unfolding askAreas
 areasFor n (begin b) = tt
 areasFor n (change c) = replicate n (replicate rowWidth 7)
 areasFor n (ask q) = askAreas n q
-areasFor n write = replicate n 5
+areasFor n (Call.write w) = replicate n 5
 
 -- a call's own areas as lists of numbers
 unfoldable pub askRows : (q : Ask) → AskAreas q → List (List ℕ)
@@ -85,12 +94,13 @@ unfolding askRows
 areaRows (begin b) none = []
 areaRows (change c) work = work
 areaRows (ask q) areas = askRows q areas
-areaRows write image = image ∷ []
+areaRows (Call.write w) bytes = bytes ∷ []
 
 -- a reply as numbers, with the entries that a search found
 unfoldable pub beginNumbers : (b : Begin) → BeginReply b → List ℕ
 beginNumbers (Begin.fresh order space) n = n ∷ []
 beginNumbers (Begin.load image) n = n ∷ []
+beginNumbers (Begin.restore states name) n = n ∷ []
 
 unfoldable pub changeNumbers : (c : Change) → ChangeReply c → List ℕ
 changeNumbers (Change.add t p day) a = a .refusal ∷ a .bucket ∷ a .distances ∷ []
@@ -108,7 +118,7 @@ unfolding beginNumbers changeNumbers askNumbers
 replyNumbers (begin b) n none = beginNumbers b n
 replyNumbers (change c) r work = changeNumbers c r
 replyNumbers (ask q) r areas = askNumbers q r areas
-replyNumbers write w image = w .refusal ∷ w .length ∷ []
+replyNumbers (Call.write w) r bytes = r .refusal ∷ r .length ∷ []
 
 -- the replies of some calls in a row, in areas with room, and the table after them
 unfoldable pub replies : Table → List Call → List (List ℕ)

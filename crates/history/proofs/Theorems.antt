@@ -10,16 +10,17 @@ use Rattle.table_rules.proofs.Visits.{range-visits}
 use Rattle.table_rules.proofs.Keeping.{nearest-size}
 use Rattle.table_rules.specs.Search.{bucketsDown}
 use Rattle.image_rules.proofs.Translating.{translates}
-use Rattle.history.specs.Demands.{CountsVisits, KeepsEnough, AnswersAscend, AnyDistance, EachMetric, WeightsOne, EveryList, EveryReport, WrittenLoads, OlderTranslates}
+use Rattle.history.specs.Demands.{CountsVisits, KeepsEnough, AnswersAscend, AnyDistance, EachMetric, WeightsOne, EveryList, EveryReport, WrittenLoads, SavedRestores, OlderTranslates}
 use Rattle.history.proofs.AnyDistance.{tree-facts}
 use Rattle.history.proofs.RefinesTable.{reported-slots}
 use Rattle.history.proofs.RefinesHistory.{history-traces, history-matches, history-represents}
 use Rattle.history.proofs.AmortizedHistory.{history-bound}
 use Rattle.history.proofs.Reporting.{reports}
-use Rattle.history.proofs.ImagesHistory.{written-loads-where}
+use Rattle.history.proofs.ImagesHistory.{written-loads-where, saved-restores-where}
 use Rattle.history.proofs.Ordering.{range-ascends, answer-ascends, model-range-ascends, model-nearest-ascends}
 pub use Rattle.history.proofs.BuildsKeep.{builds-keep-items}
 pub use Rattle.history.proofs.ImagesBack.{accepted-gives-back}
+pub use Rattle.history.proofs.StatesBack.{save-keeps}
 
 pub counts-visits : CountsVisits
 counts-visits = range-visits
@@ -52,6 +53,9 @@ every-report = reports
 
 pub written-loads : WrittenLoads
 written-loads = written-loads-where history-matches
+
+pub saved-restores : SavedRestores
+saved-restores = saved-restores-where history-matches
 
 pub older-translates : OlderTranslates
 older-translates = translates

@@ -6,6 +6,7 @@
 -- the definitions of `call_rules`: `replyTo`, `tableAfter` and `areasAfter` are these, for all calls.
 use Prim.Native.Nat.{ℕ, _+_, _^_, _≤_, _<_, min}
 use mathlib.Core.Path.{_≡_}
+use mathlib.Core.Bool.{true}
 use mathlib.Core.List.{List, _∷_, map, List·Permᴰ}
 use lib.ListN.{length}
 use lib.Dec.{leb}
@@ -25,11 +26,12 @@ use Rattle.table_rules.specs.Search.{bucketsDown, rangeAnswer, nearestAnswer}
 use Rattle.image_rules.specs.Bytes.{writtenForm, imageLength}
 use Rattle.image_rules.specs.Read.{orderIn, formIn, slotsIn}
 use Rattle.image_rules.specs.Translate.{translated}
+use Rattle.state_rules.specs.Parts.{validName, lengthBytes, partBytes}
 use Rattle.call_rules.specs.Calls.{beginReply, tableBegun}
 use Rattle.call_rules.specs.Calls.Begin.{load}
 use Rattle.history.specs.Model.{Model, itemOf, modelRange, modelNearest}
 use Rattle.history.specs.History.{History, finalState, finalModel}
-use Rattle.history.specs.Images.{imageSize, LoadsBack, GivesBack}
+use Rattle.history.specs.Images.{imageSize, LoadsBack, GivesBack, RestoresBack, KeepsStates}
 use Rattle.history.specs.Represents.{Holds}
 use Rattle.history.specs.Reports.{ReportsBuilds}
 use Rattle.history.specs.Trees.{TreeFacts}
@@ -85,7 +87,7 @@ WeightsOne =
     × (IsProfile p → IsProfile q → distance (record { metric = 2; weights = weightsOne }) p q ≡ largest (gap p q))
     × ((weights : Weights) → distance (record { metric = 1; weights = weights }) p q ≡ codeDistance p q)
 
--- Demands 2 and 3, one claim over every list of calls on one table, refused ones and herd lists read too, that an accepted fresh or load began (`History`):
+-- Demands 2 and 3, one claim over every list of calls on one table, refused ones and herd lists read too, that an accepted fresh, load or restore began (`History`):
 -- at each call table and reference model show the same; after the list the table is a valid one of the published method (which buckets a call builds is
 -- settled by the definitions that `tableAfter` joins), it holds the model's items, range and nearest answer as a scan of them, and all rebuilds together
 -- keep within 4·T·(T+1)·A + 11·T·R distances.
@@ -106,6 +108,19 @@ abbrev pub WrittenLoads : Type 0
 WrittenLoads =
     (h : History) (area other : Table) (image : List ℕ) → tableRows (finalModel h .order) ≤ length area → imageSize (finalState h .table) ≤ length image
     → tableRows (finalModel h .order) ≤ length other → LoadsBack (finalState h .table) area other image
+
+-- W7 (RULES 19.8), named states. After every such list, saving under a name is accepted wherever the table area and the name's part are long enough. Whatever is
+-- written to the other parts and the bytes left over after that, restoring from that part is refused by 23 alone, and accepted gives the table that was saved.
+-- Theorem: `saved-restores`
+abbrev pub SavedRestores : Type 0
+SavedRestores =
+    (h : History) (area : Table) (states : List ℕ) (name : ℕ) → validName name ≡ true → tableRows (finalModel h .order) ≤ length area
+    → lengthBytes + imageSize (finalState h .table) ≤ partBytes (length states) → RestoresBack (finalState h .table) area states name
+
+-- W7 (RULES 19.5), and of every save, of foreign tables too: it leaves the other names' parts, the rest of its own and the bytes left over as they were.
+-- Theorem: `save-keeps`
+abbrev pub SaveKeeps : Type 0
+SaveKeeps = (t : Table) (states : List ℕ) (name : ℕ) → KeepsStates t states name
 
 -- RULES 17.5, and whatever bytes of the newest form are handed to load: they are accepted only if writing the loaded table, into any areas that are long
 -- enough, gives them back.

@@ -1,4 +1,4 @@
--- RULES 17.2: the lists of calls that demands 2 and 3 speak of, on a table that fresh or load began and these calls alone changed since.
+-- RULES 17.2: the lists of calls that demands 2 and 3 speak of, on a table that fresh, load or restore began and these calls alone changed since.
 use Prim.Native.Nat.{_^_, _<_}
 use mathlib.Core.Path.{_≡_}
 use mathlib.Core.List.{List, [], _∷_}
@@ -6,8 +6,8 @@ use Rattle.lists.specs.Lists.{All}
 use Rattle.metric_rules.specs.Row.{IsProfile}
 use Rattle.metric_rules.specs.Distance.{IsSpace, weightsOne}
 use Rattle.table_rules.specs.Table.{Table}
-use Rattle.call_rules.specs.Calls.{Begin, Change, Ask, Call}
-use Rattle.call_rules.specs.Calls.Begin.{fresh, load}
+use Rattle.call_rules.specs.Calls.{Begin, Change, Ask, Write, Call}
+use Rattle.call_rules.specs.Calls.Begin.{fresh, load, restore}
 use Rattle.call_rules.specs.Calls.Change.{add, remove, readList}
 use Rattle.call_rules.specs.Calls.Ask.{lookUp, range, nearest}
 use Rattle.call_rules.specs.Calls.Call.{begin, change, ask, write}
@@ -18,6 +18,7 @@ use Rattle.history.specs.Model.{Model, modelAfterAll}
 abbrev pub IsBegin : Begin → Type 0
 IsBegin (fresh order space) = (order < 2 ^ 32) × IsSpace space
 IsBegin (load image) = All (λ b. b < 2 ^ 8) image
+IsBegin (restore states name) = All (λ b. b < 2 ^ 8) states × (name < 2 ^ 32)
 
 abbrev pub IsChange : Change → Type 0
 IsChange (add tag p day) = (tag < 2 ^ 64) × IsProfile p × (day < 2 ^ 16)
@@ -29,11 +30,15 @@ IsAsk (lookUp tag) = tag < 2 ^ 64
 IsAsk (range q r firstDay) = IsProfile q × (r < 2 ^ 32) × (firstDay < 2 ^ 16)
 IsAsk (nearest q k firstDay) = IsProfile q × (k < 2 ^ 32) × (firstDay < 2 ^ 16)
 
+abbrev pub IsWrite : Write → Type 0
+IsWrite Write.image = Unit {0}
+IsWrite (Write.save name) = name < 2 ^ 32
+
 abbrev pub IsCall : Call → Type 0
 IsCall (begin b) = IsBegin b
 IsCall (change c) = IsChange c
 IsCall (ask q) = IsAsk q
-IsCall write = Unit {0}
+IsCall (write w) = IsWrite w
 
 -- whatever lay there before, with nothing added up yet; and a model with nothing in it, whose order, metric and weights the first call sets
 unfoldable pub before : Table → State
@@ -42,11 +47,11 @@ before t = record { table = t; sums = noSums }
 unfoldable pub blankModel : Model
 blankModel = record { order = 0; space = record { metric = 0; weights = weightsOne }; items = [] }
 
--- a fresh or a load, lent a table area
+-- a fresh, a load or a restore, lent a table area
 unfoldable pub opening : Begin → Table → Step
 opening b area = record { call = begin b; table = area; areas = tt }
 
--- RULES 17.2, a list of calls on one table: an accepted fresh or load on an area that may hold anything, then any calls, refused ones too
+-- RULES 17.2, a list of calls on one table: an accepted fresh, load or restore on an area that may hold anything, then any calls, refused ones too
 pub record History : Type 0 where
   pub initial : Table
   pub first : Begin

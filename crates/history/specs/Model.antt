@@ -1,5 +1,5 @@
--- RULES 16, the reference model: an order, a metric, four weights and a list of items. It is fed the calls' arguments, a load's image and a herd list too, and the
--- lengths of the lent areas, but never an answer or what the table holds.
+-- RULES 16, the reference model: an order, a metric, four weights and a list of items. It is fed the calls' arguments, a load's image, a restore's states and a herd list
+-- too, and the lengths of the lent areas, but never an answer or what the table holds.
 use Prim.Native.Nat.{ℕ, zero, suc}
 use mathlib.Core.Bool.{Bool, true, false, not, _&&_}
 use mathlib.Core.List.{List, [], _∷_, map}
@@ -17,11 +17,12 @@ use Rattle.table_rules.specs.Geometry.{room, tableRows, workRows}
 use Rattle.table_rules.specs.LookUp.{noProfile}
 use Rattle.image_rules.specs.Read.{orderIn, spaceIn}
 use Rattle.image_rules.specs.Load.{liveRows}
+use Rattle.state_rules.specs.Parts.{partOf, savedImage}
 use Rattle.list_rules.specs.Lines.{ListLine, hasHeader, itemLines}
 use Rattle.list_rules.specs.Lines.ListLine.{anItem, malformed}
 use Rattle.list_rules.specs.ReadList.{badListHeader, badListLine}
 use Rattle.call_rules.specs.Calls.{Begin, beginReply, Change, Ask, AskAreas, Call, Areas}
-use Rattle.call_rules.specs.Calls.Begin.{fresh, load}
+use Rattle.call_rules.specs.Calls.Begin.{fresh, load, restore}
 use Rattle.call_rules.specs.Calls.Change.{add, remove, readList}
 use Rattle.call_rules.specs.Calls.Ask.{lookUp, range, nearest}
 use Rattle.call_rules.specs.Calls.Call.{begin, change, ask, write}
@@ -58,13 +59,13 @@ abbrev pub Lengths : Call → Type 0
 Lengths (begin b) = Unit {0}
 Lengths (change c) = ℕ
 Lengths (ask q) = AskLengths q
-Lengths write = ℕ
+Lengths (write w) = ℕ
 
 abbrev pub lengthsOf : (c : Call) → Areas c → Lengths c
 lengthsOf (begin b) none = tt
 lengthsOf (change c) work = length work
 lengthsOf (ask q) areas = askLengths q areas
-lengthsOf write image = length image
+lengthsOf (write w) bytes = length bytes
 
 -- RULES 16.3, the items with a tag: live means in the list
 unfoldable pub withTag : ℕ → List Item → List Item
@@ -190,10 +191,14 @@ unfoldable pub listAnswered : Model → ℕ → ℕ → List ℕ → ℕ → Lis
 listAnswered m rows work list day =
     elim (hasHeader list) [ false ↦ stopsAt m badListHeader 1 | true ↦ linesAnswered day m rows work 2 (itemLines list) ]
 
--- RULES 16.4, fresh: order, metric and weights as given and no item; load: those of the image, with its items of mark 0
+-- RULES 16.4, fresh: order, metric and weights as given and no item; load: those of the image, with its items of mark 0; restore: a load of the image in the part
+unfoldable pub imageModel : List ℕ → Model
+imageModel image = record { order = orderIn image; space = spaceIn image; items = map itemOf (liveRows image) }
+
 unfoldable pub modelBegun : Begin → Model
 modelBegun (fresh order space) = record { order = order; space = space; items = [] }
-modelBegun (load image) = record { order = orderIn image; space = spaceIn image; items = map itemOf (liveRows image) }
+modelBegun (load image) = imageModel image
+modelBegun (restore states name) = imageModel (savedImage (partOf states name))
 
 unfoldable pub beginAnswer : Model → Begin → ℕ → Answered
 beginAnswer m b rows =
@@ -211,12 +216,12 @@ changeAnswer m (readList list day) rows work =
     let a = listAnswered m rows work list day in
     record { model = a .model; shows = shows (a .refusal) (aListRead (a .line) (a .added)) }
 
--- the rows of the table area, then the lengths of the call's own areas. "Writing changes nothing"
+-- the rows of the table area, then the lengths of the call's own areas. Writing and saving change nothing
 unfoldable pub answer : Model → (c : Call) → ℕ → Lengths c → Answered
 answer m (begin b) rows none = beginAnswer m b rows
 answer m (change c) rows work = changeAnswer m c rows work
 answer m (ask q) rows n = record { model = m; shows = showsUnless (askRefusal m q rows n) (answerTo m q) }
-answer m write rows n = record { model = m; shows = shows 0 bare }
+answer m (write w) rows n = record { model = m; shows = shows 0 bare }
 
 -- the answer to one call of a list, and the whole list: the model after it, and the trace of what it showed
 unfoldable pub answerAt : Model → Step → Answered

@@ -8,8 +8,9 @@ use Rattle.table_rules.specs.Table.{Table}
 use Rattle.table_rules.specs.LookUp.{noProfile}
 use Rattle.image_rules.specs.Read.{slotsIn}
 use Rattle.image_rules.specs.Load.{liveRows}
+use Rattle.state_rules.specs.Parts.{partOf, savedImage}
 use Rattle.call_rules.specs.Calls.{Begin, BeginReply, Change, ChangeReply, Ask, AskAreas, AskReply, Call, Areas, Reply, replyTo, tableAfter, areasAfter}
-use Rattle.call_rules.specs.Calls.Begin.{fresh, load}
+use Rattle.call_rules.specs.Calls.Begin.{fresh, load, restore}
 use Rattle.call_rules.specs.Calls.Change.{add, remove, readList}
 use Rattle.call_rules.specs.Calls.Ask.{lookUp, range, nearest}
 use Rattle.call_rules.specs.Calls.Call.{begin, change, ask, write}
@@ -54,6 +55,7 @@ shows n payload = record { refusal = n; payload = payload }
 unfoldable pub beginShown : (b : Begin) → BeginReply b → Shown
 beginShown (fresh order space) n = shows n bare
 beginShown (load image) n = shows n bare
+beginShown (restore states name) n = shows n bare
 
 unfoldable pub changeShown : (c : Change) → ChangeReply c → Shown
 changeShown (add tag p day) a = shows (a .refusal) bare
@@ -65,14 +67,14 @@ askShown (lookUp tag) l none = shows (l .refusal) (aWeighing (l .profile) (l .da
 askShown (range q r firstDay) s result = shows (s .refusal) (someEntries (s .found) (take (s .found) result))
 askShown (nearest q k firstDay) s result = shows (s .refusal) (someEntries (s .found) (take (s .found) result))
 
--- RULES 17.6: writing's refusal is excepted
+-- RULES 17.6: the refusal of a call that writes is excepted
 unfoldable pub shown : (c : Call) → Reply c → Areas c → Shown
 shown (begin b) reply areas = beginShown b reply
 shown (change c) reply work = changeShown c reply
 shown (ask q) reply areas = askShown q reply areas
-shown write reply image = shows 0 bare
+shown (write w) reply bytes = shows 0 bare
 
--- RULES 17.7: A, R, and the distances that add, remove and the reading of a herd list report, since the last fresh or load
+-- RULES 17.7: A, R, and the distances that add, remove and the reading of a herd list report, since the last fresh, load or restore
 pub record Sums : Type 0 where
   pub adds : ℕ
   pub removals : ℕ
@@ -89,10 +91,14 @@ plus sums more =
       distances = sums .distances + more .distances;
     }
 
--- RULES 17.7: fresh and load start the sums afresh, a load with its live items as adds and its dead ones as removals
+-- RULES 17.7: fresh, load and restore start the sums afresh, the latter two with the image's live items as adds and its dead ones as removals
+unfoldable pub imageSums : List ℕ → Sums
+imageSums image = let live = length (liveRows image) in record { adds = live; removals = slotsIn image - live; distances = 0 }
+
 unfoldable pub starting : Begin → Sums
 starting (fresh order space) = noSums
-starting (load image) = let live = length (liveRows image) in record { adds = live; removals = slotsIn image - live; distances = 0 }
+starting (load image) = imageSums image
+starting (restore states name) = imageSums (savedImage (partOf states name))
 
 unfoldable pub begunSums : ℕ → Begin → Sums → Sums
 begunSums zero b sums = starting b
@@ -112,7 +118,7 @@ unfoldable pub sumsAfter : (c : Call) → Reply c → Sums → Sums
 sumsAfter (begin b) reply sums = begunSums (beginShown b reply .refusal) b sums
 sumsAfter (change c) reply sums = plus sums (counted c reply)
 sumsAfter (ask q) reply sums = sums
-sumsAfter write reply sums = sums
+sumsAfter (write w) reply sums = sums
 
 -- the state between calls: the table's rows and the sums
 pub record State : Type 0 where

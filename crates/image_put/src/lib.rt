@@ -25,7 +25,7 @@ pub fn put16(image: &mut [u8], at: usize, n: u32)
     image[at + 1] = (n / 256 % 256) as u8;
 }
 
-fn put32(image: &mut [u8], at: usize, n: u32)
+pub fn put32(image: &mut [u8], at: usize, n: u32)
     requires { ⌜ at + 4 ≤ length (now image) ⌝ }
     ensures { λ _. ⌜ now (image .exit) ≡ sets (now (image .entry)) at (bytesOf 4 n) ⌝ }
 {

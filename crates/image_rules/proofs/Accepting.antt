@@ -10,6 +10,7 @@ use borrow.Author.Tests.{leb-true, eqb-true, le-ltb, le-leb, eq-eqb}
 use Rattle.lists.specs.Lists.{All}
 use Rattle.lists.proofs.Tests.{and-first, and-second, and-pass}
 use Rattle.metric_rules.specs.Distance.{validMetric, validWeights, validSpace}
+use Rattle.table_rules.specs.Refusals.{shortArea, unless}
 use Rattle.table_rules.specs.Geometry.{validOrder, tableRows}
 use Rattle.table_rules.specs.Checks.{sizesPass}
 use Rattle.image_rules.specs.Bytes.{validForm, startBytes, headerBytes, sizesEnd, imageLength}
@@ -142,3 +143,14 @@ module _ (rows : ℕ) (image : List ℕ) where
       (checksBy true (validOrder (orderIn image)) (validMetric (spaceIn image)) true true (validWeights (spaceIn image .weights)) true
       (sizesPass (orderIn image) (builtIn image) (liveIn image)) true (leb (tableRows (orderIn image)) rows) (daysPass image) (slotsPass image))
       (refl, (a .order, (and-first _ _ (a .space), (refl, (refl, (and-second (validMetric (spaceIn image)) _ (a .space), (refl, (a .sizes, (refl, (le-leb (tableRows (orderIn image)) rows (a .roomy), (a .days, (a .slots, tt))))))))))))
+
+  -- an image that loads into an area of some length is refused by 23 alone in any other
+  pub refused-short : (enough : ℕ) → Accepted enough image → loadRefusal rows image ≡ unless (leb (tableRows (orderIn image)) rows) shortArea 0
+  unfolding refusalBy checksBy firstFailing
+  refused-short enough a =
+      let metric : validMetric (spaceIn image) ≡ true = and-first (validMetric (spaceIn image)) (validWeights (spaceIn image .weights)) (a .space) in
+      let weights : validWeights (spaceIn image .weights) ≡ true = and-second (validMetric (spaceIn image)) (validWeights (spaceIn image .weights)) (a .space) in
+      refused-by (a .long) (a .form)
+      ∙ (λ i.
+      refusalBy true (a .order i) (metric i) true true (weights i) true (a .sizes i) true
+      (leb (tableRows (orderIn image)) rows) (a .days i) (a .slots i))

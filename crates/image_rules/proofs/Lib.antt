@@ -7,6 +7,7 @@ pub mod Numbers
 pub mod GivesBack
 pub mod EachBucket
 pub mod Lengths
+pub mod Bounds
 pub mod Accepting
 pub mod ReadTests
 pub mod Loaded

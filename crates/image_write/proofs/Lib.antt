@@ -1,4 +1,4 @@
--- What is put bucket by bucket, and how long an image is.
+-- What is put bucket by bucket, and the parts of an image.
 mod Runs
-mod Counts
+mod Parts
 mod Replies

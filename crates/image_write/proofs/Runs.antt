@@ -1,5 +1,4 @@
--- What the buckets have, put one after the other, is what all of them have: their sizes, and their tags and records at once; a bucket of a table that
--- passed has as many slots as its built size.
+-- What the buckets have, put one after the other, is what all of them have: their sizes, and their tags and records at once.
 use Prim.Native.Nat.{ℕ, zero, suc, _+_, _*_, _≤_, _<_}
 use mathlib.Core.Path.{_≡_, refl, sym, ap, ap₂, _∙_}
 use mathlib.Core.List.{List, [], _∷_, _++_, map, map-append, flatten}
@@ -7,14 +6,14 @@ use native.Mathlib.Nat.{lt-of-not-le, mul-suc}
 use native.Mathlib.Numerals.{add-one}
 use native.Mathlib.Omega.{arith}
 use native.Mathlib.Decide.{decLe}
-use lib.ListN.{length, drop, length-append, length-take, length-drop}
+use lib.ListN.{length, length-append}
 use lib.Seq.{sets}
 use Rattle.lists.specs.Lists.{countFrom}
 use Rattle.metric_rules.specs.Row.{Row}
-use Rattle.table_rules.specs.Geometry.{bucketsOf, sizesRow, firstSlot}
-use Rattle.table_rules.specs.Table.{Table, orderOf, builtOf, slotsOf}
+use Rattle.table_rules.specs.Geometry.{bucketsOf, sizesRow}
+use Rattle.table_rules.specs.Table.{Table, orderOf, slotsOf}
 use Rattle.table_rules.specs.Passed.{Passed}
-use Rattle.table_rules.proofs.Passing.{sizes-inside, built-inside}
+use Rattle.table_rules.proofs.Passing.{sizes-inside}
 use Rattle.image_rules.specs.Bytes.{writtenForm, recordBytes}
 use Rattle.image_rules.specs.Write.{tagsOf, recordsOf, allSlots}
 use Rattle.image_rules.proofs.Counting.{flatten-append, flatten-more}
@@ -61,11 +60,6 @@ blocks-by-list b s (k ∷ ks) =
     ap flatten (map-append b (s k) (flatten (map s ks)))
     ∙ flatten-append (map b (s k)) (map b (flatten (map s ks)))
     ∙ ap (λ (r : List ℕ). flatten (map b (s k)) ++ r) (blocks-by-list b s ks)
-
-pub slots-length : {t : Table} → Passed t → (k : ℕ) → k ≤ orderOf t → length (slotsOf t k) ≡ builtOf t k
-unfolding slotsOf
-slots-length {t} p k h =
-    omega (arith, built-inside p k h, length-take (builtOf t k) (drop (firstSlot (orderOf t) k) t), length-drop (firstSlot (orderOf t) k) t)
 
 -- where a bucket's sizes row is
 module _ {t : Table} {order k : ℕ} (e : order ≡ orderOf t) (p : Passed t) (h : k ≤ order) where

@@ -2,11 +2,10 @@
 // the caller. Each contract is its call of crates/call_rules/specs/Calls, the one that the demands' theorems speak of.
 ghost use mathlib.Core.Path.{_≡_};
 ghost use lib.ListN.{length};
-ghost use Rattle.call_rules.specs.Calls.{beginReply, tableBegun, changeReply, tableChanged, workChanged, askReply, areasAnswered, replyTo, areasAfter};
-ghost use Rattle.call_rules.specs.Calls.Begin.{fresh, load};
+ghost use Rattle.call_rules.specs.Calls.{beginReply, tableBegun, changeReply, tableChanged, workChanged, askReply, areasAnswered, Write, writtenReply, bytesWritten};
+ghost use Rattle.call_rules.specs.Calls.Begin.{fresh, load, restore};
 ghost use Rattle.call_rules.specs.Calls.Change.{add, remove, readList};
 ghost use Rattle.call_rules.specs.Calls.Ask.{lookUp, range, nearest};
-ghost use Rattle.call_rules.specs.Calls.Call.{write};
 use image_rules::Written;
 use list_rules::ListRead;
 use metric_rules::Profile;
@@ -104,8 +103,8 @@ pub extern "C" fn vpindex_nearest(
 // The image of the table, its length in the reply; bytes after it are unchanged.
 #[no_mangle]
 pub extern "C" fn vpindex_write(table: &[Row], image: &mut [u8]) -> Written
-    ensures reply { λ r. ⌜ r ≡ replyTo write (now (table .entry)) (now (image .entry)) ⌝ }
-    ensures image { λ _. ⌜ now (image .exit) ≡ areasAfter write (now (table .entry)) (now (image .entry)) ⌝ }
+    ensures reply { λ r. ⌜ r ≡ writtenReply Write.image (now (table .entry)) (now (image .entry)) ⌝ }
+    ensures image { λ _. ⌜ now (image .exit) ≡ bytesWritten Write.image (now (table .entry)) (now (image .entry)) ⌝ }
 {
     image_write::write(table, image)
 }
@@ -123,4 +122,22 @@ pub extern "C" fn vpindex_read_list(
     ensures work { λ _. ⌜ now (work .exit) ≡ workChanged (readList (now (list .entry)) day) (now (table .entry)) (now (work .entry)) ⌝ }
 {
     list_read::read_list(table, work, list, day as u32)
+}
+
+// A snapshot of the table saved under a name, its image's length in the reply; other parts, and the bytes after the snapshot, are unchanged.
+#[no_mangle]
+pub extern "C" fn vpindex_save(table: &[Row], states: &mut [u8], name: u32) -> Written
+    ensures reply { λ r. ⌜ r ≡ writtenReply (Write.save name) (now (table .entry)) (now (states .entry)) ⌝ }
+    ensures states { λ _. ⌜ now (states .exit) ≡ bytesWritten (Write.save name) (now (table .entry)) (now (states .entry)) ⌝ }
+{
+    state_save::save(table, states, name)
+}
+
+// The table that was saved under a name. The reply is the refusal: 34, 35, 7, then those of a load, or 0.
+#[no_mangle]
+pub extern "C" fn vpindex_restore(table: &mut [Row], states: &[u8], name: u32) -> u32
+    ensures reply { λ r. ⌜ r ≡ beginReply (restore (now (states .entry)) name) (length (now (table .entry))) ⌝ }
+    ensures table { λ _. ⌜ now (table .exit) ≡ tableBegun (restore (now (states .entry)) name) (now (table .entry)) ⌝ }
+{
+    state_restore::restore(table, states, name)
 }

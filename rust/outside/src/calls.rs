@@ -16,7 +16,7 @@ pub struct Areas {
     pub work: Vec<Row>,
     /// Entries of the result area.
     pub result: Vec<Entry>,
-    /// Bytes: an image, written by write and read by load, or a herd list.
+    /// Bytes: an image, written by write and read by load, a herd list, or the states.
     pub bytes: Vec<u8>,
 }
 
@@ -33,6 +33,8 @@ pub enum Call {
     Nearest { query: Profile, k: u32, first_day: u16 },
     Write,
     ReadList { day: u16 },
+    Save { name: u32 },
+    Restore { name: u32 },
 }
 
 /// What a call returned; fields that it has not are zero.
@@ -88,6 +90,8 @@ pub fn by_reference(call: &Call, areas: &mut Areas) -> Reply {
             let ListRead { refusal, line, added, distances } = plain::read_list(table, work, bytes, day);
             Reply { refusal, line, added, distances, ..Reply::default() }
         }
+        Call::Save { name } => accepted(plain::save(table, bytes, name), |length| Reply { length, ..Reply::default() }),
+        Call::Restore { name } => accepted(plain::restore(table, bytes, name), nothing),
     }
 }
 
@@ -131,6 +135,11 @@ pub fn by_archive(call: &Call, table: &mut [Row], work: &mut [Row], result: &mut
             let ffi::ListRead { refusal, line, added, distances } = ffi::read_list(table, work, bytes, day);
             Reply { refusal, line, added, distances, ..Reply::default() }
         }
+        Call::Save { name } => {
+            let ffi::Written { refusal, length } = ffi::save(table, bytes, name);
+            Reply { refusal, length, ..Reply::default() }
+        }
+        Call::Restore { name } => Reply { refusal: ffi::restore(table, bytes, name), ..Reply::default() },
     }
 }
 

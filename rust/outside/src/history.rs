@@ -10,11 +10,11 @@ use reference::tree::Hit;
 
 use crate::calls::{Areas, Call, Reply, compare};
 use crate::foreign::any_row;
-use crate::lists::{Tally, change, keep, lent, next};
+use crate::lists::{Tally, change, keep, keep_states, lent, next};
 use crate::random::{MAX_DAY, Random};
 
-/// Adds, removals and the distances that they reported, since the last fresh or load. A load's live items count as
-/// added, its dead ones as removed.
+/// Adds, removals and the distances that they reported, since the last fresh, load or restore. The live items of an
+/// image count as added, its dead ones as removed.
 #[derive(Clone, Copy, Debug, Default)]
 pub struct Sums {
     /// A.
@@ -43,7 +43,9 @@ impl Sums {
         };
         match call {
             Call::Fresh { .. } => *self = Sums::default(),
-            Call::Load => *self = Sums::of(&Table::open(table, |_| true).expect("a loaded table passes")),
+            Call::Load | Call::Restore { .. } => {
+                *self = Sums::of(&Table::open(table, |_| true).expect("a loaded table passes"))
+            }
             Call::Add { .. } => self.adds += 1,
             Call::Remove { .. } => self.removals += 1,
             Call::ReadList { .. } => self.adds += reply.added as u64,
@@ -61,6 +63,7 @@ impl Sums {
 pub struct History {
     random: Random,
     left: Vec<Row>,
+    states: Vec<u8>,
     book: Book,
     sums: Sums,
     /// What was met.
@@ -76,16 +79,16 @@ impl History {
         let space = random.space(metric);
         let left = random.fill(reference::table::table_rows(order), any_row);
         let (book, sums, tally) = (Book::default(), Sums::default(), Tally::default());
-        let mut history = History { random, left, book, sums, tally, share: 0 };
+        let mut history = History { random, left, states: vec![], book, sums, tally, share: 0 };
         let areas = Areas { table: history.left.clone(), ..Areas::default() };
         assert_eq!(history.call(&Call::Fresh { order, space }, areas).refusal, 0);
         history
     }
 
-    /// One call more, any of the nine.
+    /// One call more, any of the eleven.
     pub fn step(&mut self) {
         let mut areas = lent(&mut self.random, &self.left, self.book.order);
-        let call = next(&mut self.random, &mut areas, self.book.order, self.book.space);
+        let call = next(&mut self.random, &mut areas, self.book.order, self.book.space, &self.states);
         self.call(&call, areas);
     }
 
@@ -103,12 +106,13 @@ impl History {
         self.check_shown(call, &areas.bytes, lengths, &reply, hits);
         self.sums.note(call, &reply, &areas.table);
         self.tally.note(call, &reply);
+        keep_states(&mut self.states, call, areas.bytes);
         keep(&mut self.left, areas.table);
         self.check_state();
         reply
     }
 
-    // Table and book are alike in the refusal (writing excepted), look up's profile and day, the number found and the
+    // Table and book are alike in the refusal (writing and saving excepted), look up's profile and day, the number found and the
     // entries, and of a herd list in the line and the number added.
     fn check_shown(
         &mut self,
@@ -124,6 +128,7 @@ impl History {
         let expected = match *call {
             Call::Fresh { order, space } => book.fresh(rows, order, space).map(nothing),
             Call::Load => book.load(rows, bytes).map(nothing),
+            Call::Restore { name } => book.restore(rows, bytes, name).map(nothing),
             Call::Add { tag, profile, day } => {
                 book.add(rows, work, Item { tag, profile, day: day as u32 }).map(nothing)
             }
@@ -131,7 +136,7 @@ impl History {
             Call::LookUp { tag } => book.look_up(rows, tag).map(|item| (Item { tag: 0, ..item }, vec![])),
             Call::Range { query, radius, first_day } => book.range(rows, room, &query, radius, first_day).map(found),
             Call::Nearest { query, k, first_day } => book.nearest(rows, room, &query, k, first_day).map(found),
-            Call::Write => return,
+            Call::Write | Call::Save { .. } => return,
             Call::ReadList { day } => {
                 let expected = book.read_list(rows, work, bytes, day);
                 let got = ListRead { refusal: reply.refusal, line: reply.line, added: reply.added, distances: 0 };

@@ -8,5 +8,6 @@ pub mod images;
 pub mod item_lists;
 pub mod lists;
 pub mod random;
+pub mod snapshots;
 pub mod sound;
 pub mod stack;

@@ -10,7 +10,7 @@ use reference::table::{Table, capacity, first_row, table_rows};
 use crate::calls::{Areas, Call, Reply, compare};
 use crate::foreign::{any_row, rows_of};
 use crate::random::Random;
-use crate::{foreign, images, item_lists, sound};
+use crate::{foreign, images, item_lists, snapshots, sound};
 
 /// How often each call was refused by each number, 0 being accepted, how many removals built a tree, and how many
 /// readings of a herd list were refused with lines added before.
@@ -25,7 +25,7 @@ pub struct Tally {
 }
 
 /// The numbers that each call can be refused by, and 0.
-pub const NUMBERS: [(&str, &[u32]); 9] = [
+pub const NUMBERS: [(&str, &[u32]); 11] = [
     ("fresh", &[0, 3, 4, 23, 32]),
     ("load", &[0, 3, 4, 7, 8, 23, 24, 32, 33]),
     ("add", &[0, 1, 2, 20, 22, 23, 24, 33]),
@@ -35,6 +35,8 @@ pub const NUMBERS: [(&str, &[u32]); 9] = [
     ("nearest", &[0, 2, 5, 6, 23, 24]),
     ("write", &[0, 6, 23, 24]),
     ("read list", &[0, 1, 2, 20, 22, 23, 24, 30, 31, 33]),
+    ("save", &[0, 6, 23, 24, 34]),
+    ("restore", &[0, 3, 4, 7, 8, 23, 24, 32, 33, 34, 35]),
 ];
 
 impl Tally {
@@ -71,6 +73,8 @@ fn name(call: &Call) -> &'static str {
         Call::Nearest { .. } => "nearest",
         Call::Write => "write",
         Call::ReadList { .. } => "read list",
+        Call::Save { .. } => "save",
+        Call::Restore { .. } => "restore",
     }
 }
 
@@ -78,6 +82,7 @@ fn name(call: &Call) -> &'static str {
 pub fn list(random: &mut Random, order: u32, metric: u32, calls: usize) -> Tally {
     let space = random.space(metric);
     let mut left = start(random, order, space);
+    let mut states = vec![];
     let mut tally = Tally::default();
     for _ in 0..calls {
         let mut areas = lent(random, &left, order);
@@ -85,9 +90,10 @@ pub fn list(random: &mut Random, order: u32, metric: u32, calls: usize) -> Tally
             let at = random.below(areas.table.len());
             areas.table[at][random.below(ROW_WORDS)] = random.reach();
         }
-        let call = next(random, &mut areas, order, space);
+        let call = next(random, &mut areas, order, space, &states);
         let reply = compare(&call, &mut areas, random);
         tally.note(&call, &reply);
+        keep_states(&mut states, &call, areas.bytes);
         keep(&mut left, areas.table);
         if reply.refusal >= SHORT_AREA && random.one_in(3) {
             left = start(random, order, space);
@@ -101,6 +107,13 @@ pub fn keep(left: &mut Vec<Row>, area: Vec<Row>) {
     left.splice(..area.len().min(left.len()), area);
 }
 
+/// The states after a call: those that were saved into last.
+pub fn keep_states(states: &mut Vec<u8>, call: &Call, bytes: Vec<u8>) {
+    if matches!(call, Call::Save { .. }) {
+        *states = bytes;
+    }
+}
+
 fn start(random: &mut Random, order: u32, space: Space) -> Vec<Row> {
     match random.below(12) {
         0 => random.fill(table_rows(order), any_row),
@@ -112,8 +125,8 @@ fn start(random: &mut Random, order: u32, space: Space) -> Vec<Row> {
     }
 }
 
-// A length about that needed: mostly enough, now and then too short or none.
-fn length(random: &mut Random, needed: usize) -> usize {
+/// A length about that needed: mostly enough, now and then too short or none.
+pub fn length(random: &mut Random, needed: usize) -> usize {
     match random.below(40) {
         0 => random.below(needed + 1),
         1 => needed.saturating_sub(1),
@@ -136,9 +149,9 @@ pub fn lent(random: &mut Random, left: &[Row], order: u32) -> Areas {
     }
 }
 
-/// The next call, with the image or the list that it reads or the bytes that it writes to.
-pub fn next(random: &mut Random, areas: &mut Areas, order: u32, space: Space) -> Call {
-    match random.below(36) {
+/// The next call, with the image, the list or the states that it reads or the bytes that it writes to.
+pub fn next(random: &mut Random, areas: &mut Areas, order: u32, space: Space, states: &[u8]) -> Call {
+    match random.below(43) {
         0 => fresh(random, order, space.metric),
         1..4 => load(random, areas, order, space),
         4 | 5 => write(random, areas, order),
@@ -150,6 +163,8 @@ pub fn next(random: &mut Random, areas: &mut Areas, order: u32, space: Space) ->
             Call::Range { query, radius: random.reach(), first_day }
         }
         27..31 => read_list(random, areas, order),
+        31 | 32 => save(random, areas, states),
+        33..38 => restore(random, areas, order, space, states),
         _ => {
             let (query, first_day) = (query(random, areas, order), random.first_day());
             Call::Nearest { query, k: count(random, order), first_day }
@@ -183,14 +198,18 @@ fn fresh(random: &mut Random, order: u32, metric: u32) -> Call {
 
 // Sometimes the table is a sound or a foreign one afterwards, whatever it was: a load of an image gives the first.
 fn load(random: &mut Random, areas: &mut Areas, order: u32, space: Space) -> Call {
+    areas.bytes = image(random, areas, order, space);
+    Call::Load
+}
+
+fn image(random: &mut Random, areas: &Areas, order: u32, space: Space) -> Vec<u8> {
     let space = if random.one_in(2) { random.space(space.metric) } else { space };
-    areas.bytes = match (random.below(4), Table::open(&areas.table, |_| true)) {
+    match (random.below(4), Table::open(&areas.table, |_| true)) {
         (0, Ok(table)) => bytes(&table),
         (1, Ok(table)) => images::cut(random, bytes(&table)),
         (2, _) => few_bytes(random),
         _ => images::image(random, order, space),
-    };
-    Call::Load
+    }
 }
 
 fn few_bytes(random: &mut Random) -> Vec<u8> {
@@ -198,11 +217,39 @@ fn few_bytes(random: &mut Random) -> Vec<u8> {
     let mut bytes = random.fill(length, |random| random.below(4) as u8);
     let front = [random.pick(&[0, 0, 1, 2, 3, 13, 255]), random.below(4) as u8, random.below(4) as u8, 0];
     bytes.iter_mut().zip(front).for_each(|(byte, other)| *byte = other);
+    // a weight, where the form has them
+    if bytes.len() >= 8 && random.one_in(2) {
+        bytes[4 + random.below(4)] = random.pick(&[100, 101, 255]);
+    }
     bytes
 }
 
+// The bytes of the table's image, if it has one.
+fn image_bytes(areas: &Areas) -> usize {
+    Table::open(&areas.table, |_| true).map_or(8, |table| bytes(&table).len())
+}
+
+// Mostly into the states that were saved into before.
+fn save(random: &mut Random, areas: &mut Areas, states: &[u8]) -> Call {
+    let is_new = states.is_empty() || random.one_in(4);
+    areas.bytes = if is_new { snapshots::area(random, image_bytes(areas)) } else { states.to_vec() };
+    Call::Save { name: snapshots::name(random) }
+}
+
+// From these states, or from such as hold an image of some kind.
+fn restore(random: &mut Random, areas: &mut Areas, order: u32, space: Space, states: &[u8]) -> Call {
+    let name = snapshots::name(random);
+    areas.bytes = if random.one_in(3) {
+        snapshots::elsewhere(random, states, name)
+    } else {
+        let image = image(random, areas, order, space);
+        snapshots::holding(random, &image, name)
+    };
+    Call::Restore { name }
+}
+
 fn write(random: &mut Random, areas: &mut Areas, order: u32) -> Call {
-    let needed = Table::open(&areas.table, |_| true).map_or(8, |table| bytes(&table).len());
+    let needed = image_bytes(areas);
     let room = if random.one_in(4) { length(random, 8 * capacity(order)) } else { length(random, needed) };
     areas.bytes = random.fill(room, |random| random.word() as u8);
     Call::Write

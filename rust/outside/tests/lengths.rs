@@ -3,8 +3,8 @@
 use outside::calls::{Areas, Call, compare};
 use outside::foreign::{self, any_row, rows_of};
 use outside::random::Random;
-use outside::{item_lists, sound};
-use reference::image::of_form;
+use outside::{images, item_lists, snapshots, sound};
+use reference::image::{bytes, of_form};
 use reference::item::{Row, Space};
 use reference::table::{Table, capacity, table_rows};
 
@@ -51,6 +51,8 @@ fn calls(random: &mut Random, rows: &[Row], order: u32, space: Space) -> Vec<Cal
         Call::Nearest { query, k: u32::MAX, first_day: random.first_day() },
         Call::Write,
         Call::ReadList { day: random.day() },
+        Call::Save { name: snapshots::name(random) },
+        Call::Restore { name: snapshots::name(random) },
     ]
 }
 
@@ -69,6 +71,10 @@ fn every_length(random: &mut Random, rows: &[Row], order: u32, space: Space) -> 
                 let mut areas = lent(random, rows, of(at, n));
                 if matches!(call, Call::ReadList { .. }) {
                     areas.bytes = item_lists::list(random, order, 4);
+                }
+                if let Call::Save { name } | Call::Restore { name } = call {
+                    let image = Table::open(rows, |_| true).map_or_else(|_| vec![], |table| bytes(&table));
+                    areas.bytes = snapshots::holding(random, &image, name);
                 }
                 compare(&call, &mut areas, random);
                 count += 1;

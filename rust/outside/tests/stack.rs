@@ -1,5 +1,8 @@
-//! Each call at order 12 in a thread with a 256 KiB stack, and how much of it the call used: load at most 72 KiB, where
-//! its array of 4,096 entries is, and every other at most 4 KiB.
+//! Each call at order 12 in a thread with a 256 KiB stack, and how much of it the call used: load and restore at most
+//! 72 KiB, where the array of 4,096 entries is, and every other at most 4 KiB. Save uses no more than write does, and
+//! restore no more than load, but for a small frame of their own.
+
+use std::collections::HashMap;
 
 use outside::calls::{Areas, Call, by_archive};
 use outside::item_lists;
@@ -10,6 +13,9 @@ use reference::table::{Bucket, Table, capacity, put_table, table_rows};
 use reference::tree::layout;
 
 const ORDER: u32 = 12;
+
+// The frame that save and restore may have of their own.
+const FRAME: usize = 64;
 
 // Buckets of these built and live sizes; the dead slots are the last ones.
 fn table(random: &mut Random, space: Space, sizes: &[(usize, u32, u32)]) -> Table {
@@ -41,6 +47,12 @@ fn areas(table: &Table) -> Areas {
         result: vec![[0; 2]; capacity(ORDER)],
         bytes: reference::image::bytes(table),
     }
+}
+
+// With the image in the last part, and as much room in every other.
+fn states(image: &[u8]) -> Vec<u8> {
+    let snapshot = [&(image.len() as u32).to_le_bytes(), image].concat();
+    [vec![0; 7 * snapshot.len()], snapshot].concat()
 }
 
 // The call must be accepted.
@@ -77,15 +89,25 @@ fn every_call_in_a_small_stack() {
             ("nearest", Call::Nearest { query, k: u32::MAX, first_day: 0 }, &full),
             ("write", Call::Write, &full),
             ("read list", Call::ReadList { day: 1 }, &one_short),
+            ("save", Call::Save { name: 8 }, &full),
+            ("restore", Call::Restore { name: 8 }, &full),
         ];
+        let mut seen = HashMap::new();
         for (name, call, table) in calls {
             let mut areas = areas(table);
             if matches!(call, Call::ReadList { .. }) {
                 areas.bytes = item_lists::of(&[item_lists::line(tag, query.measures)]);
             }
-            let most = if call == Call::Load { 72 * 1024 } else { 4 * 1024 };
+            if let Call::Save { .. } | Call::Restore { .. } = call {
+                areas.bytes = states(&areas.bytes);
+            }
+            let most = if let Call::Load | Call::Restore { .. } = call { 72 * 1024 } else { 4 * 1024 };
             let used = measure(&format!("{name}, metric {metric}"), call, areas);
             assert!(used <= most, "{name}, metric {metric}: {used} bytes of stack, more than {most}");
+            seen.insert(name, used);
+        }
+        for (name, part) in [("save", "write"), ("restore", "load")] {
+            assert!(seen[name] <= seen[part] + FRAME, "{name}, metric {metric}, uses more stack than {part}");
         }
     }
 }

@@ -9,6 +9,7 @@ use crate::list::{self, ListRead};
 use crate::refusal::{
     ALREADY_LIVE, BAD_METRIC, BAD_ORDER, FULL, NO_COUNT, NO_ROOM, NOT_LIVE, Refused, SHORT_AREA, ensure,
 };
+use crate::states;
 use crate::table::{Bucket, capacity, table_rows};
 use crate::tree::Hit;
 
@@ -40,6 +41,11 @@ impl Book {
         let live = read.buckets.iter().flat_map(Bucket::live_items);
         *self = Book { order: read.order, space: read.space, items: live.map(Slot::item).collect() };
         Ok(())
+    }
+
+    /// Those of the image in the part of a name.
+    pub fn restore(&mut self, rows: usize, area: &[u8], name: u32) -> Result<(), Refused> {
+        self.load(rows, states::image_in(area, name)?)
     }
 
     fn check_areas(&self, rows: usize, work: usize) -> Result<(), Refused> {

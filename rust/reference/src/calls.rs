@@ -1,4 +1,4 @@
-//! The nine calls, on lent areas.
+//! The eleven calls, on lent areas.
 
 use crate::image;
 use crate::item::{
@@ -9,6 +9,7 @@ use crate::list::{self, ListRead};
 use crate::refusal::{
     ALREADY_LIVE, BAD_METRIC, BAD_ORDER, FULL, NO_COUNT, NO_ROOM, NOT_LIVE, Refused, SHORT_AREA, ensure,
 };
+use crate::states;
 use crate::table::{Bucket, Table, capacity, first_row, put_bucket, put_sizes, put_table, table_rows};
 use crate::tree::{Search, Wanted, cost, layout};
 
@@ -163,4 +164,17 @@ pub fn write(rows: &[Row], area: &mut [u8]) -> Result<u32, Refused> {
     ensure(area.len() >= bytes.len(), NO_ROOM)?;
     area[..bytes.len()].copy_from_slice(&bytes);
     Ok(bytes.len() as u32)
+}
+
+/// Saves the table under a name and gives the image's length.
+pub fn save(rows: &[Row], area: &mut [u8], name: u32) -> Result<u32, Refused> {
+    let part = states::part_of(area.len(), name)?;
+    let bytes = image::bytes(&Table::open(rows, |_| true)?);
+    states::put_image(&mut area[part], &bytes)?;
+    Ok(bytes.len() as u32)
+}
+
+/// The table that was saved under a name.
+pub fn restore(table: &mut [Row], area: &[u8], name: u32) -> Result<(), Refused> {
+    load(table, states::image_in(area, name)?)
 }

@@ -34,6 +34,10 @@ pub const BAD_LIST_LINE: u32 = 31;
 pub const BAD_WEIGHT: u32 = 32;
 /// Day 0.
 pub const BAD_DAY: u32 = 33;
+/// A name outside 1 to 8.
+pub const BAD_NAME: u32 = 34;
+/// Nothing was saved under the name.
+pub const NOT_SAVED: u32 = 35;
 
 /// A refusal is an error by its number.
 pub type Refused = u32;

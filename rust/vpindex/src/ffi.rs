@@ -122,6 +122,20 @@ mod raw {
             list_bytes: usize,
             day: u16,
         ) -> ListRead;
+        pub fn vpindex_save(
+            table: *const Row,
+            table_rows: usize,
+            states: *mut u8,
+            states_bytes: usize,
+            name: u32,
+        ) -> Written;
+        pub fn vpindex_restore(
+            table: *mut Row,
+            table_rows: usize,
+            states: *const u8,
+            states_bytes: usize,
+            name: u32,
+        ) -> u32;
     }
 }
 
@@ -165,4 +179,12 @@ pub fn write(table: &[Row], image: &mut [u8]) -> Written {
 pub fn read_list(table: &mut [Row], work: &mut [Row], list: &[u8], day: u16) -> ListRead {
     let (rows, working, bytes) = (table.len(), work.len(), list.len());
     unsafe { raw::vpindex_read_list(table.as_mut_ptr(), rows, work.as_mut_ptr(), working, list.as_ptr(), bytes, day) }
+}
+
+pub fn save(table: &[Row], states: &mut [u8], name: u32) -> Written {
+    unsafe { raw::vpindex_save(table.as_ptr(), table.len(), states.as_mut_ptr(), states.len(), name) }
+}
+
+pub fn restore(table: &mut [Row], states: &[u8], name: u32) -> u32 {
+    unsafe { raw::vpindex_restore(table.as_mut_ptr(), table.len(), states.as_ptr(), states.len(), name) }
 }

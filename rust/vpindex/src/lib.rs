@@ -35,11 +35,13 @@ pub mod ffi;
 mod hits;
 mod list;
 mod refusal;
+mod states;
 mod table;
 mod values;
 
 pub use hits::{Hit, Hits};
 pub use list::{ListRead, ListRefusal};
 pub use refusal::Refusal;
+pub use states::States;
 pub use table::{Added, LookedUp, Table};
-pub use values::{Day, Metric, Order, Profile, Tag, Weights};
+pub use values::{Day, Metric, Name, Order, Profile, Tag, Weights};

@@ -17,9 +17,9 @@ pub enum Refusal {
     BadMetric,
     /// The nearest 0 items were asked for.
     NoCount,
-    /// The result area is shorter than the reply.
+    /// The result area is shorter than the reply, or the states have no room for the snapshot.
     NoRoom,
-    /// The image's length is wrong.
+    /// The image's length is wrong, or past the part of the states that it is in.
     BadLength,
     /// The image's fields or trees break a rule.
     BadImage,
@@ -41,6 +41,10 @@ pub enum Refusal {
     BadWeight,
     /// The day is 0.
     BadDay,
+    /// The name is not 1 to 8.
+    BadName,
+    /// Nothing was saved under the name.
+    NotSaved,
     /// A refusal by a number that this crate does not know: the archive is newer.
     Other(u32),
 }
@@ -48,7 +52,7 @@ pub enum Refusal {
 use Refusal::*;
 
 impl Refusal {
-    const KNOWN: [Refusal; 17] = [
+    const KNOWN: [Refusal; 19] = [
         BadTag,
         BadMeasure,
         BadOrder,
@@ -66,6 +70,8 @@ impl Refusal {
         BadListLine,
         BadWeight,
         BadDay,
+        BadName,
+        NotSaved,
     ];
 
     /// The number by which the archive's calls say it.
@@ -89,8 +95,8 @@ impl Refusal {
             BadOrder => (3, "the order is above 12"),
             BadMetric => (4, "there is no metric of this number"),
             NoCount => (5, "the nearest 0 items were asked for"),
-            NoRoom => (6, "the result area is shorter than the reply"),
-            BadLength => (7, "the image's length is wrong"),
+            NoRoom => (6, "the result area is shorter than the reply, or the states have no room for the snapshot"),
+            BadLength => (7, "the image's length is wrong, or past the part of the states that it is in"),
             BadImage => (8, "the image's fields or trees break a rule"),
             AlreadyLive => (20, "the tag is in the table already"),
             NotLive => (21, "the tag is not in the table"),
@@ -105,6 +111,8 @@ impl Refusal {
             ),
             BadWeight => (32, "a weight is above 100"),
             BadDay => (33, "the day is 0"),
+            BadName => (34, "the name is not 1 to 8"),
+            NotSaved => (35, "nothing was saved under the name"),
             Other(number) => (number, "a refusal that this crate does not know"),
         }
     }
@@ -130,14 +138,14 @@ mod tests {
     #[test]
     fn numbers() {
         assert_eq!(Refusal::check(0), Ok(()));
-        for number in (1..=8).chain(20..=24).chain(30..=33) {
+        for number in (1..=8).chain(20..=24).chain(30..=35) {
             let refusal = Refusal::check(number).expect_err("not 0");
             assert_eq!(refusal.number(), number);
             assert_ne!(refusal, Other(number));
         }
-        for number in [9, 19, 25, 29, 34, u32::MAX] {
+        for number in [9, 19, 25, 29, 36, u32::MAX] {
             assert_eq!(Refusal::check(number), Err(Other(number)));
         }
-        assert_eq!(Other(34).to_string(), "a refusal that this crate does not know: 34");
+        assert_eq!(Other(36).to_string(), "a refusal that this crate does not know: 36");
     }
 }

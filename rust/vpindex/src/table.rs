@@ -1,7 +1,7 @@
 //! The table, with the areas that its calls are lent.
 
 use crate::list::{self, ListRead, ListRefusal};
-use crate::{Day, Hits, Metric, Order, Profile, Refusal, Tag, Weights, ffi};
+use crate::{Day, Hits, Metric, Name, Order, Profile, Refusal, States, Tag, Weights, ffi};
 
 /// What an add did.
 #[derive(Clone, Copy, Debug, PartialEq, Eq)]
@@ -85,10 +85,23 @@ impl Table {
     /// [`Refusal::BadWeight`], [`Refusal::BadTable`], [`Refusal::BadDay`] and [`Refusal::BadImage`] say what is wrong
     /// with it.
     pub fn load(image: &[u8]) -> Result<Table, Refusal> {
-        // an order that is not valid is refused before the area's length is looked at
-        let order = image.first().and_then(|&byte| Order::new(byte as u32).ok()).unwrap_or(Order::MIN);
+        Table::begun(image.first(), |rows| ffi::load(rows, image))
+    }
+
+    /// The table that was saved under the name by [`Table::save`].
+    ///
+    /// [`Refusal::NotSaved`] if nothing was. States that were kept elsewhere meanwhile may be damaged; then it is
+    /// [`Refusal::BadLength`] or what [`Table::load`] says of the image.
+    pub fn restore(states: &States, name: Name) -> Result<Table, Refusal> {
+        Table::begun(states.first_of_image(name), |rows| ffi::restore(rows, states.as_bytes(), name.get()))
+    }
+
+    // By a call that writes every row that the order needs, which the image's first byte says. An order that is not
+    // valid is refused before the area's length is looked at.
+    fn begun(first: Option<&u8>, call: impl FnOnce(&mut [ffi::Row]) -> u32) -> Result<Table, Refusal> {
+        let order = first.and_then(|&byte| Order::new(byte as u32).ok()).unwrap_or(Order::MIN);
         let mut table = Table::blank(Header { order, metric: Metric::SumOfDifferences, weights: Weights::ONE });
-        Refusal::check(ffi::load(&mut table.rows, image))?;
+        Refusal::check(call(&mut table.rows))?;
         table.header = Header::of(&table.rows[0])?;
         Ok(table)
     }
@@ -188,8 +201,28 @@ impl Table {
     }
 
     fn image_bytes(&self) -> usize {
-        let built: usize = self.sizes().map(|size| size[0] as usize).sum();
-        8 + 4 * self.sizes().len() + 50 * built
+        self.order().image_bytes(self.sizes().map(|size| size[0] as usize).sum())
+    }
+
+    /// Saves the table as it is under a name, in place of what was saved there before; [`Table::restore`] gives it
+    /// back. [`Refusal::NoRoom`] if the states were made for a lower order.
+    ///
+    /// ```
+    /// use vpindex::{Day, Metric, Name, Order, Profile, States, Table, Tag};
+    ///
+    /// let order = Order::new(4)?;
+    /// let mut table = Table::new(order, Metric::SumOfDifferences);
+    /// table.add(Tag::new(36, 1)?, &Profile::new([41_250, 12_900, 18_500, 95], [0, 0])?, Day::MIN)?;
+    ///
+    /// let (mut states, morning) = (States::new(order), Name::new(1)?);
+    /// table.save(&mut states, morning)?;
+    /// table.remove(Tag::new(36, 1)?)?;
+    /// assert!(table.is_empty() && states.is_saved(morning));
+    /// assert_eq!(Table::restore(&states, morning)?.len(), 1);
+    /// # Ok::<(), vpindex::Refusal>(())
+    /// ```
+    pub fn save(&self, states: &mut States, name: Name) -> Result<(), Refusal> {
+        Refusal::check(ffi::save(&self.rows, states.bytes_mut(), name.get()).refusal)
     }
 
     // the size rows of the buckets: built, live

@@ -190,6 +190,16 @@ impl Order {
     pub(crate) fn table_rows(self) -> usize {
         self.0 as usize + 1 + (2 << self.0)
     }
+
+    // of an image with so many built slots
+    pub(crate) fn image_bytes(self, built: usize) -> usize {
+        8 + 4 * (self.0 as usize + 1) + 50 * built
+    }
+
+    // every slot of every bucket built
+    pub(crate) fn most_image_bytes(self) -> usize {
+        self.image_bytes((2 << self.0) - 1)
+    }
 }
 
 /// By which rule two profiles have a distance.
@@ -223,5 +233,29 @@ impl TryFrom<u32> for Metric {
             2 => Ok(Metric::LargestDifference),
             _ => Err(Refusal::BadMetric),
         }
+    }
+}
+
+/// What a snapshot is saved under: a number, 1 to 8.
+#[derive(Clone, Copy, Debug, PartialEq, Eq, PartialOrd, Ord, Hash)]
+pub struct Name(u32);
+
+impl Name {
+    /// How many names there are.
+    pub const COUNT: usize = 8;
+
+    /// 1 to 8; else [`Refusal::BadName`].
+    pub fn new(name: u32) -> Result<Name, Refusal> {
+        if (1..=Name::COUNT as u32).contains(&name) { Ok(Name(name)) } else { Err(Refusal::BadName) }
+    }
+
+    /// All names in their order.
+    pub fn all() -> impl Iterator<Item = Name> {
+        (1..=Name::COUNT as u32).map(Name)
+    }
+
+    /// Its number.
+    pub fn get(self) -> u32 {
+        self.0
     }
 }

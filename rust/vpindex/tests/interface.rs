@@ -1,6 +1,6 @@
 //! What a Rust caller meets: values that are checked when they are made, and refusals.
 
-use vpindex::{Day, ListRead, ListRefusal, Metric, Order, Profile, Refusal, Table, Tag, Weights};
+use vpindex::{Day, ListRead, ListRefusal, Metric, Name, Order, Profile, Refusal, States, Table, Tag, Weights};
 
 #[test]
 fn tags() {
@@ -245,4 +245,68 @@ fn a_refusal_says_what_was_wrong() {
     assert_eq!((Refusal::BadTag.number(), Refusal::BadTable.number(), Refusal::BadListLine.number()), (1, 24, 31));
     assert_eq!((Refusal::BadWeight.number(), Refusal::BadWeight.to_string().as_str()), (32, "a weight is above 100"));
     assert_eq!((Refusal::BadDay.number(), Refusal::BadDay.to_string().as_str()), (33, "the day is 0"));
+}
+
+#[test]
+fn names() {
+    for number in [0, 9, 256, u32::MAX] {
+        assert_eq!(Name::new(number), Err(Refusal::BadName));
+    }
+    assert!(Name::all().map(Name::get).eq(1..=8));
+    assert!(Name::all().all(|name| Name::new(name.get()) == Ok(name)));
+}
+
+// Saved under two names and restored in either order, from states that were kept as bytes; and a snapshot that is too
+// long leaves the one before.
+#[test]
+fn named_states() {
+    let name = |number| Name::new(number).expect("a name");
+    let (order, profile) = (Order::new(3).expect("valid"), Profile::default());
+    let tag = |national| Tag::new(36, national).expect("valid");
+    let mut table = Table::new(order, Metric::DifferingBits);
+    let mut states = States::new(order);
+    assert_eq!(states.saved().count(), 0);
+    assert_eq!(Table::restore(&states, name(4)).err(), Some(Refusal::NotSaved));
+    assert_eq!(table.save(&mut states, name(1)), Ok(()));
+    table.add(tag(1), &profile, Day::MIN).expect("room");
+    table.add(tag(2), &profile, Day::MIN).expect("room");
+    table.remove(tag(1)).expect("there");
+    assert_eq!(table.save(&mut states, name(8)), Ok(()));
+    assert!(states.saved().eq([name(1), name(8)]) && !states.is_saved(name(2)));
+
+    let kept: Vec<u8> = states.into();
+    let mut states = States::from(kept);
+    let restored = Table::restore(&states, name(8)).expect("saved");
+    assert_eq!((restored.image(), restored.len()), (table.image(), 1));
+    assert!(Table::restore(&states, name(1)).expect("saved").is_empty());
+
+    let mut full = Table::new(Order::new(5).expect("valid"), Metric::SumOfDifferences);
+    for national in 0..32 {
+        full.add(tag(national), &profile, Day::MIN).expect("room");
+    }
+    assert_eq!(full.save(&mut states, name(1)), Err(Refusal::NoRoom));
+    assert!(Table::restore(&states, name(1)).expect("still saved").is_empty());
+}
+
+// Bytes that are not as a save leaves them.
+#[test]
+fn states_refused() {
+    let name = Name::new(2).expect("a name");
+    let refused = |bytes: &[u8]| Table::restore(&States::from(bytes.to_vec()), name).err();
+    assert_eq!(refused(&[]), Some(Refusal::NotSaved));
+    assert_eq!(refused(&[255; 31]), Some(Refusal::NotSaved));
+    assert_eq!(refused(&[255; 32]), Some(Refusal::BadLength));
+    let mut states = States::new(Order::MIN);
+    Table::new(Order::MIN, Metric::DifferingBits).save(&mut states, name).expect("room");
+    let damaged = |at: usize, byte: u8| {
+        let mut bytes = states.as_bytes().to_vec();
+        let start = bytes.len() / 8;
+        bytes[start + at] = byte;
+        refused(&bytes)
+    };
+    assert_eq!(damaged(1, 0), None);
+    assert_eq!(damaged(0, 1), Some(Refusal::BadLength));
+    assert_eq!(damaged(3, 1), Some(Refusal::BadLength));
+    assert_eq!(damaged(4, 13), Some(Refusal::BadOrder));
+    assert_eq!(damaged(5, 3), Some(Refusal::BadMetric));
 }

@@ -5,7 +5,7 @@ use native.Mathlib.Omega.{arith}
 use borrow.Author.Needs.{needs}
 use Rattle.image_rules.specs.Bytes.{writtenForm, imageLength}
 use Rattle.image_rules.proofs.Lengths.{length-image}
-use Rattle.image_write.proofs.Counts.{slots-most}
+use Rattle.image_rules.proofs.Bounds.{slots-most}
 use Rattle.image_write.proofs.image_length.Statement.{statement}
 use Rattle.image_write.proofs.image_length.Tie as tie
 

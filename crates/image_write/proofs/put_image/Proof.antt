@@ -11,9 +11,10 @@ use Rattle.table_rules.specs.Geometry.{headerRow}
 use Rattle.table_rules.specs.Table.{rowAt, orderOf, tableSpace, builtOf, liveOf}
 use Rattle.image_rules.specs.Bytes.{writtenForm, tagFields, headerBytes, tagBytes, sizesEnd}
 use Rattle.image_rules.specs.Write.{sizesOf, tagsOf, recordsOf, allSlots}
+use Rattle.image_rules.proofs.Bounds.{slots-most}
 use Rattle.image_put.proofs.Stores.{length-tags}
 use Rattle.image_write.proofs.Runs.{sizes-in}
-use Rattle.image_write.proofs.Counts.{slots-most, headerPart, sizesPart, length-parts, parts-put}
+use Rattle.image_write.proofs.Parts.{headerPart, sizesPart, length-parts, parts-put}
 use Rattle.image_write.proofs.put_image.Statement.{statement}
 use Rattle.image_write.proofs.put_image.Tie as tie
 

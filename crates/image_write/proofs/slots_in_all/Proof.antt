@@ -8,7 +8,7 @@ use Rattle.lists.specs.Lists.{total, countFrom}
 use Rattle.table_rules.specs.Table.{orderOf, builtOf}
 use Rattle.lists.proofs.Totals.{total-more}
 use Rattle.image_write.proofs.Runs.{sizes-in}
-use Rattle.image_write.proofs.Counts.{count-slots}
+use Rattle.image_rules.proofs.Bounds.{count-slots}
 use Rattle.image_write.proofs.slots_in_all.Statement.{statement}
 use Rattle.image_write.proofs.slots_in_all.Tie as tie
 

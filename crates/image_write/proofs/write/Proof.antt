@@ -2,13 +2,10 @@
 use mathlib.Core.Path.{_≡_, _∙_, refl, sym}
 use native.Mathlib.Omega.{arith}
 use borrow.Author.Needs.{needs}
-use Rattle.lists.specs.Lists.{total}
 use Rattle.table_rules.specs.Checks.{readRefusal}
 use Rattle.table_rules.proofs.Passing.{read-passed}
-use Rattle.image_rules.specs.Bytes.{writtenForm, startFields, weightFields, headerFields, tagFields, dayFields, recordFields, headerBytes, tagBytes, recordBytes, sizeBytes, pairBytes, sizesEnd, imageLength}
-use Rattle.image_rules.proofs.Lengths.{length-image}
+use Rattle.image_rules.proofs.Bounds.{image-fits}
 use Rattle.image_write.proofs.Runs.{sizes-in}
-use Rattle.image_write.proofs.Counts.{slots-most}
 use Rattle.image_write.proofs.Replies.{stopped, too-short, written}
 use Rattle.image_write.proofs.write.Statement.{statement}
 use Rattle.image_write.proofs.write.Tie as tie
@@ -51,12 +48,10 @@ abbrev tested-at : tie.After-put-image → tie.Else1
 tested-at c = c .before .before .before .before .before
 
 cast-length : tie.Need-cast-t11
-unfolding imageLength sizesEnd headerBytes headerFields startFields weightFields writtenForm total pairBytes sizeBytes tagBytes recordBytes tagFields recordFields dayFields
 cast-length c =
     let tested = tested-at (c .before .before) in
-    let t = start-of tested .args .table .now in
-    let p = read-passed t (unrefused tested) in
-    omega (arith, c .before .before .before .before .before .image-length .ensures, length-image t, slots-most p, p .framed .order)
+    let passed = read-passed (start-of tested .args .table .now) (unrefused tested) in
+    omega (arith, c .before .before .before .before .before .image-length .ensures, image-fits passed)
 
 returns-3 : tie.Need-returns-3
 returns-3 c =

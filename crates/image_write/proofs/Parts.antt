@@ -1,38 +1,16 @@
--- How many slots and bytes there are: a table that passed has few slots, so that its image's length fits 32 bits; and where each part of it begins.
-use Prim.Native.Nat.{ℕ, suc, _+_, _≤_, _<_}
+-- Where each part of an image begins, and that the parts put one after the other are the image.
+use Prim.Native.Nat.{ℕ, _+_}
 use mathlib.Core.Path.{_≡_, ap, _∙_}
-use mathlib.Core.List.{List, [], _∷_, _++_, map}
+use mathlib.Core.List.{List, _∷_, _++_}
 use native.Mathlib.Omega.{arith}
 use lib.ListN.{length, length-append}
-use lib.Pow.{pow-mono}
 use lib.Seq.{sets}
-use Rattle.lists.specs.Lists.{total, countFrom}
-use Rattle.table_rules.specs.Geometry.{room, bucketsOf}
-use Rattle.table_rules.specs.Table.{Table, orderOf, tableSpace, builtOf, liveOf, slotsOf}
-use Rattle.table_rules.specs.Passed.{Passed}
-use Rattle.table_rules.proofs.ByNumber.{map-count, length-flatten}
-use Rattle.table_rules.proofs.Passing.{bucket-within}
+use Rattle.table_rules.specs.Table.{Table, orderOf, tableSpace, builtOf, liveOf}
 use Rattle.image_rules.specs.Bytes.{writtenForm, headerFields, headerBytes, sizesEnd}
 use Rattle.image_rules.specs.Write.{headerBytesOf, sizesOf, tagsOf, recordsOf, allSlots, imageAs, imageOf}
 use Rattle.image_rules.proofs.Bytes.{length-fields}
 use Rattle.image_rules.proofs.Lengths.{length-sizes}
-use Rattle.image_rules.proofs.Counting.{total-most}
 use Rattle.tree_rules.proofs.Stores.{sets-more}
-use Rattle.image_write.proofs.Runs.{slots-length}
-
--- the slots of all buckets are as many as the built sizes add up to
-pub count-slots : {t : Table} → Passed t → length (allSlots t) ≡ total (map (builtOf t) (countFrom 0 (suc (orderOf t))))
-unfolding allSlots bucketsOf
-count-slots {t} p =
-    length-flatten (slotsOf t) (countFrom 0 (suc (orderOf t)))
-    ∙ ap total (map-count (λ j. length (slotsOf t j)) (builtOf t) 0 (suc (orderOf t)) (λ j l m. slots-length p j (omega arith)))
-
-pub slots-most : {t : Table} → Passed t → length (allSlots t) ≤ 53248
-unfolding room
-slots-most {t} p =
-    let each : (k : ℕ) → k < suc (orderOf t) → builtOf t k ≤ 4096 =
-    λ k l. omega (arith, bucket-within p k (omega arith) .1, pow-mono {i = k} {j = 12} (omega (arith, p .framed .order))) in
-    omega (arith, count-slots p, total-most (builtOf t) 4096 (suc (orderOf t)) each, p .framed .order)
 
 -- the four parts of an image
 module _ (t : Table) where

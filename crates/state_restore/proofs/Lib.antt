@@ -1,0 +1,2 @@
+-- What the tests of a part say.
+mod Parts

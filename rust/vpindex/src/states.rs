@@ -1,0 +1,88 @@
+//! Snapshots of tables under names.
+
+use crate::{Name, Order};
+
+// The bytes of the length that a snapshot begins with.
+const LENGTH: usize = 4;
+
+/// Snapshots of tables, one under each [`Name`]: [`Table::save`](crate::Table::save) puts one there, and
+/// [`Table::restore`](crate::Table::restore) makes a table of it. The bytes can be kept elsewhere and come back by
+/// [`States::from`].
+#[derive(Clone, Debug, PartialEq, Eq)]
+pub struct States(Vec<u8>);
+
+impl States {
+    /// Nothing saved, with room under every name for any table of this order or a lower one. That is some 400 KiB a
+    /// name at order 12.
+    pub fn new(order: Order) -> States {
+        States(vec![0; Name::COUNT * (LENGTH + order.most_image_bytes())])
+    }
+
+    /// Whether something was saved under the name.
+    pub fn is_saved(&self, name: Name) -> bool {
+        self.split(name).is_some_and(|(length, _)| u32::from_le_bytes(*length) != 0)
+    }
+
+    /// The names under which something was saved, in their order.
+    pub fn saved(&self) -> impl Iterator<Item = Name> + '_ {
+        Name::all().filter(|&name| self.is_saved(name))
+    }
+
+    /// As the calls of the archive lay them out.
+    pub fn as_bytes(&self) -> &[u8] {
+        &self.0
+    }
+
+    pub(crate) fn bytes_mut(&mut self) -> &mut [u8] {
+        &mut self.0
+    }
+
+    // Where the image begins, whatever the length says.
+    pub(crate) fn first_of_image(&self, name: Name) -> Option<&u8> {
+        self.split(name)?.1.first()
+    }
+
+    // The part of a name as the length of the image and what follows it; none if the part is too short for a length.
+    fn split(&self, name: Name) -> Option<(&[u8; LENGTH], &[u8])> {
+        let part = self.0.len() / Name::COUNT;
+        let end = name.get() as usize * part;
+        self.0[end - part..end].split_first_chunk()
+    }
+}
+
+/// Of bytes that [`States::as_bytes`] gave, or any others: what is not a snapshot is refused when it is restored.
+impl From<Vec<u8>> for States {
+    fn from(bytes: Vec<u8>) -> States {
+        States(bytes)
+    }
+}
+
+impl From<States> for Vec<u8> {
+    fn from(states: States) -> Vec<u8> {
+        states.0
+    }
+}
+
+#[cfg(test)]
+mod tests {
+    use super::*;
+
+    fn saved(bytes: &[u8]) -> Vec<u32> {
+        States::from(bytes.to_vec()).saved().map(Name::get).collect()
+    }
+
+    // Parts of an eighth of the bytes, rounded down, in the order of the names; each with a length that is not 0.
+    #[test]
+    fn names_in_parts() {
+        assert_eq!(saved(&[]), []);
+        assert_eq!(saved(&[255; 31]), []);
+        assert_eq!(saved(&[255; 32]), [1, 2, 3, 4, 5, 6, 7, 8]);
+        for (at, name) in [(0, Some(1)), (3, Some(1)), (4, None), (5, Some(2)), (8, Some(2)), (38, Some(8)), (40, None)]
+        {
+            let mut bytes = [0; 47];
+            bytes[at] = 1;
+            assert_eq!(saved(&bytes), name.into_iter().collect::<Vec<u32>>(), "byte {at} of 47");
+        }
+        assert_eq!(States::new(Order::MAX).saved().count(), 0);
+    }
+}
