@@ -14,8 +14,8 @@
  *   - it is aligned as its type wants;
  *   - areas lent to the same call do not overlap;
  *   - no other thread uses an area while a call has it, except that several may read the same table;
- *   - the stack has room: seen, not a bound, is about 70 KB for vpindex_load and vpindex_restore at order 12, under 4
- *     KB for the others.
+ *   - the stack has room: seen, not a bound, is about 70 KB for vpindex_load and vpindex_restore at order 12, about 17
+ *     KB for vpindex_dues and under 6 KB for the others.
  */
 #ifndef VPINDEX_H
 #define VPINDEX_H
@@ -44,6 +44,7 @@ extern "C" {
 #define VPINDEX_MAX_MEASURE 1000000      /* a measure is -1,000,000 to 1,000,000 hundredths */
 #define VPINDEX_MAX_DAY 65535            /* a day is 1 to 65,535, counted from a date that the caller chooses */
 #define VPINDEX_ANY_DAY 0                /* the first day of a search that leaves no item out */
+#define VPINDEX_MAX_LISTED 4096          /* the most tags of a list that vpindex_dues takes */
 #define VPINDEX_MIN_TAG VPINDEX_TAG(1, 0)
 #define VPINDEX_MAX_NATIONAL UINT64_C(274877906943)  /* the largest national number: 38 bits, as ISO 11784 stores it */
 #define VPINDEX_MAX_TAG VPINDEX_TAG(999, VPINDEX_MAX_NATIONAL)
@@ -93,12 +94,13 @@ extern "C" {
 #define VPINDEX_BAD_ORDER 3              /* order above 12 */
 #define VPINDEX_BAD_METRIC 4             /* metric above 2 */
 #define VPINDEX_NO_COUNT 5               /* nearest with k = 0 */
-#define VPINDEX_NO_ROOM 6                /* the result, the image or the snapshot is longer than its area or part */
+#define VPINDEX_NO_ROOM 6                /* the result, dues, image or snapshot is longer than its area or part */
 #define VPINDEX_BAD_LENGTH 7             /* the image's length is wrong, or past the part that it is restored from */
 #define VPINDEX_BAD_IMAGE 8              /* an image of no known form, or its fields or trees break a rule */
 #define VPINDEX_BAD_WEIGHT 32            /* a weight above 100 */
 #define VPINDEX_BAD_DAY 33               /* an item's day is 0 */
 #define VPINDEX_BAD_NAME 34              /* a name outside 1 to 8 */
+#define VPINDEX_NO_DUES 39               /* a listed item weighs below 0, or more than VPINDEX_MAX_LISTED tags */
 
 /* by the state */
 #define VPINDEX_ALREADY_LIVE 20          /* the tag is in the table */
@@ -162,8 +164,14 @@ typedef struct {
     uint32_t distances;                  /* distances worked out by their builds, all together */
 } vpindex_list_read;
 
+typedef struct {
+    uint32_t refusal;
+    uint64_t total;                      /* in cents, the sum of what each pays */
+} vpindex_dues_reply;
+
 /* ---- Calls -------------------------------------------------------------------------------------------------------
- * Lengths are in elements: rows, entries, bytes. Rows and bytes past what a call needs keep their content. */
+ * Lengths are in elements: rows, entries, bytes, numbers. Rows, bytes and numbers past what a call needs keep their
+ * content. */
 
 /* Makes the table empty, of this order and metric; it may have held anything. By metrics 0 and 2 the difference of
  * each measure is multiplied by its weight; metric 1 has no use for the weights, which are kept all the same. A
@@ -252,6 +260,16 @@ vpindex_written vpindex_save(VPINDEX_READ uint32_t (*table)[VPINDEX_ROW_WORDS], 
  * these calls changed, SHORT_AREA alone can be returned. */
 uint32_t vpindex_restore(uint32_t (*table)[VPINDEX_ROW_WORDS], size_t table_rows, const uint8_t *states,
                          size_t states_bytes, uint32_t name);
+
+/* Gives what the items with these tags pay at the gate, in cents: the dues area gets a number for each tag, in their
+ * order, and numbers past them keep their content. An item pays one rate on its whole weight, its first measure as
+ * kilos: up to 400.00 kg, 2 cents a kilo; up to 600.00 kg, 3 cents; above, 4 cents; to the nearest cent, half up. The
+ * total is the sum of these. A tag that is listed twice pays twice, and no tags cost 0. A refused call leaves the dues
+ * area as it was.
+ * Refusals: SHORT_AREA (no rows), BAD_TABLE (order, metric), SHORT_AREA, BAD_TABLE (weights, sizes); then, each of the
+ * whole list before the next, NOT_LIVE, NO_DUES, NO_ROOM (dues area too short). The form of a tag is not asked. */
+vpindex_dues_reply vpindex_dues(VPINDEX_READ uint32_t (*table)[VPINDEX_ROW_WORDS], size_t table_rows,
+                                const uint64_t *tags, size_t tag_count, uint32_t *dues, size_t dues_numbers);
 
 #ifdef __cplusplus
 }

@@ -24,6 +24,8 @@ use Rattle.state_rules.specs.Save.{saveReply, statesAfterSave}
 use Rattle.state_rules.specs.Restore.{restoreRefusal, tableAfterRestore}
 use Rattle.list_rules.specs.declared.ListRead.{ListRead}
 use Rattle.list_rules.specs.ReadList.{readListReply, tableAfterReadList, workAfterReadList}
+use Rattle.dues_rules.specs.declared.Dues.{Dues}
+use Rattle.dues_rules.specs.Listed.{duesReply, duesAfter}
 
 -- RULES 7, 12.3, 19.6: the calls that begin a table. They read nothing of what lay there but its length; a load's image and the states that a restore reads are
 -- arguments
@@ -73,31 +75,37 @@ workChanged (add tag profile day) t work = workAfterAdd t work tag profile day
 workChanged (remove tag) t work = workAfterRemove t work tag
 workChanged (readList list day) t work = workAfterReadList t work list day
 
--- RULES 10, 11: the calls that only ask. They leave the table as it is. Each is lent areas of its own to answer in
+-- RULES 10, 11, 20: the calls that only ask. They leave the table as it is. Each is lent areas of its own to answer in; the list of tags whose dues are asked is an
+-- argument
 pub data Ask : Type 0 where
   lookUp : (tag : ℕ) → Ask
   range : (query : Profile) (radius : ℕ) (firstDay : ℕ) → Ask
   nearest : (query : Profile) (k : ℕ) (firstDay : ℕ) → Ask
+  dues : (tags : List ℕ) → Ask
 
 abbrev pub AskAreas : Ask → Type 0
 AskAreas (lookUp tag) = Unit {0}
 AskAreas (range query radius firstDay) = List Entry
 AskAreas (nearest query k firstDay) = List Entry
+AskAreas (dues tags) = List ℕ
 
 abbrev pub AskReply : Ask → Type 0
 AskReply (lookUp tag) = LookedUp
 AskReply (range query radius firstDay) = Searched
 AskReply (nearest query k firstDay) = Searched
+AskReply (dues tags) = Dues
 
 abbrev pub askReply : (q : Ask) → Table → AskAreas q → AskReply q
 askReply (lookUp tag) t none = lookUpReply t tag
 askReply (range query radius firstDay) t result = rangeReply t result query radius firstDay
 askReply (nearest query k firstDay) t result = nearestReply t result query k firstDay
+askReply (dues tags) t area = duesReply t tags area
 
 abbrev pub areasAnswered : (q : Ask) → Table → AskAreas q → AskAreas q
 areasAnswered (lookUp tag) t none = none
 areasAnswered (range query radius firstDay) t result = resultAfterRange t result query radius firstDay
 areasAnswered (nearest query k firstDay) t result = resultAfterNearest t result query k firstDay
+areasAnswered (dues tags) t area = duesAfter t tags area
 
 -- RULES 12.2, 19.4: the calls that write a table. They leave it as it is. Each is lent bytes to write in: an area for the image, or the states
 pub data Write : Type 0 where

@@ -1,4 +1,4 @@
--- Demand 3's comparison, tried on one list, on one with weights and on one with named states: at every call, refused ones and short areas among them, table and model show what was worked out by hand,
+-- Demand 3's comparison, tried on one list, on one with weights, on one with named states and on one with dues: at every call, refused ones and short areas among them, table and model show what was worked out by hand,
 -- and after it the sums and the model's items are those worked out by hand. Each side is a run that antt computes.
 use Prim.Native.Nat.{ℕ, _+_, _*_}
 use mathlib.Core.Path.{_≡_, refl}
@@ -10,12 +10,12 @@ use Rattle.text_rules.specs.Text.{lineFeed}
 use Rattle.table_rules.specs.LookUp.{noProfile}
 use Rattle.state_rules.specs.Parts.{snapshotOf}
 use Rattle.call_rules.specs.Calls.{Call}
-use Rattle.history.specs.Trace.{Step, Shown, zeroed, shows, overlaid, leftBy, beginShown, changeShown, askShown, shown, noSums, plus, imageSums, starting, begunSums, ifAccepted, counted, sumsAfter, stateAfter, shownAt, stateAfterAll, trace}
-use Rattle.history.specs.Trace.Payload.{bare, aWeighing, someEntries, aListRead}
-use Rattle.history.specs.Model.{itemOf, withTag, isIn, with, without, weighedIn, scanned, modelRange, modelNearest, canRead, canChange, tagRefusal, itemRefusal, addRefusalOf, removeRefusalOf, fits, questionRefusal, askRefusal, found, answerTo, showsUnless, afterUnless, stopsAt, oneMoreAdded, linesAnswered, listAnswered, imageModel, modelBegun, beginAnswer, changeAnswer, answer, answerAt, modelAfterAll, modelTrace}
+use Rattle.history.specs.Trace.{Step, Shown, zeroed, shows, overlaid, leftBy, beginShown, changeShown, duesIn, askShown, shown, noSums, plus, imageSums, starting, begunSums, ifAccepted, counted, sumsAfter, stateAfter, shownAt, stateAfterAll, trace}
+use Rattle.history.specs.Trace.Payload.{bare, aWeighing, someEntries, aListRead, someDues}
+use Rattle.history.specs.Model.{itemOf, withTag, isIn, with, without, weighedIn, scanned, modelRange, modelNearest, weightOf, weightsIn, canRead, canChange, tagRefusal, itemRefusal, addRefusalOf, removeRefusalOf, fits, questionRefusal, askRefusal, found, paid, answerTo, showsUnless, afterUnless, stopsAt, oneMoreAdded, linesAnswered, listAnswered, imageModel, modelBegun, beginAnswer, changeAnswer, answer, answerAt, modelAfterAll, modelTrace}
 use Rattle.history.specs.History.{before, blankModel}
 use Rattle.history.proofs.Computing.{performed}
-use Rattle.history.proofs.Running.{fresh, load, restore, write, save, add, remove, readList, lookUp, range, nearest, weighing, by, tag, valued, measured, areasFor, scratch, adding, removing, listOf, itemLine}
+use Rattle.history.proofs.Running.{fresh, load, restore, write, save, add, remove, readList, lookUp, range, nearest, dues, weighing, by, tag, valued, measured, areasFor, scratch, adding, removing, listOf, itemLine}
 use Rattle.history.proofs.Imaged.{oneAs, oneImage, deadImage, unweightedImage}
 
 -- calls in roomy areas, each lent its own; and one in areas of these lengths
@@ -123,13 +123,13 @@ expected =
 
 tableShows : trace (before scratch) steps ≡ expected
 unfolding
-    performed steps expected before overlaid leftBy beginShown changeShown askShown shown noSums plus imageSums starting begunSums ifAccepted counted sumsAfter stateAfter shownAt trace scratch
+    performed steps expected before overlaid leftBy beginShown changeShown duesIn askShown shown noSums plus imageSums starting begunSums ifAccepted counted sumsAfter stateAfter shownAt trace scratch
 tableShows = refl
 
 modelShows : modelTrace blankModel steps ≡ expected
 unfolding
-    performed steps expected zeroed beginShown itemOf withTag isIn with without weighedIn scanned modelRange modelNearest canRead canChange tagRefusal
-    itemRefusal addRefusalOf removeRefusalOf fits questionRefusal askRefusal found answerTo showsUnless afterUnless stopsAt oneMoreAdded
+    performed steps expected zeroed beginShown itemOf withTag isIn with without weighedIn scanned modelRange modelNearest weightOf weightsIn canRead canChange tagRefusal
+    itemRefusal addRefusalOf removeRefusalOf fits questionRefusal askRefusal found paid answerTo showsUnless afterUnless stopsAt oneMoreAdded
     linesAnswered listAnswered imageModel modelBegun beginAnswer changeAnswer answer answerAt modelTrace blankModel
 modelShows = refl
 
@@ -231,3 +231,41 @@ savedModel = refl
 savedSums : stateAfterAll (before scratch) savedSteps .sums ≡ record { adds = 3; removals = 1; distances = 0 }
 unfolding tableShows savedSteps stateAfterAll
 savedSums = refl
+
+-- items of 0.25, 500.50, -0.01 and 10,000.00 kg, and lists of their tags: none; some in another order, one of them twice; one that weighs below 0, with and without a
+-- tag that is not live; areas of one number, of two and of a table that is too short; and a tag that was struck out
+duesSteps : List Step
+unfolding roomy lentOnly tag valued measured
+duesSteps =
+    roomy
+    (fresh 2 (by 0)
+    ∷ add (tag 1) (valued 25) 1
+    ∷ add (tag 2) (valued 50_050) 1
+    ∷ add (tag 3) (measured (negsuc 0) (pos 0) (pos 0) (pos 0)) 1
+    ∷ add (tag 4) (valued 1_000_000) 1
+    ∷ dues []
+    ∷ dues (tag 4 ∷ tag 1 ∷ tag 2 ∷ tag 1 ∷ [])
+    ∷ dues (tag 3 ∷ tag 1 ∷ [])
+    ∷ dues (tag 3 ∷ tag 9 ∷ [])
+    ∷ [])
+    ++ (lentOnly 11 1 (dues (tag 1 ∷ tag 2 ∷ [])) ∷ lentOnly 11 2 (dues (tag 1 ∷ tag 2 ∷ [])) ∷ lentOnly 10 2 (dues (tag 9 ∷ [])) ∷ [])
+    ++ roomy (remove (tag 1) ∷ dues (tag 2 ∷ tag 1 ∷ []) ∷ dues (tag 2 ∷ []) ∷ [])
+
+noDuesFor : ℕ → Shown
+noDuesFor n = shows n (someDues 0 [])
+
+duesShow : List Shown
+unfolding changed noDuesFor
+duesShow =
+    map changed (0 ∷ 0 ∷ 0 ∷ 0 ∷ 0 ∷ [])
+    ++ (shows 0 (someDues 0 []) ∷ shows 0 (someDues 41_504 (40_000 ∷ 1 ∷ 1_502 ∷ 1 ∷ [])) ∷ map noDuesFor (39 ∷ 21 ∷ 6 ∷ []))
+    ++ (shows 0 (someDues 1_503 (1 ∷ 1_502 ∷ [])) ∷ noDuesFor 23 ∷ [])
+    ++ (changed 0 ∷ noDuesFor 21 ∷ shows 0 (someDues 1_502 (1_502 ∷ [])) ∷ [])
+
+duesTable : trace (before scratch) duesSteps ≡ duesShow
+unfolding tableShows duesSteps duesShow
+duesTable = refl
+
+duesModel : modelTrace blankModel duesSteps ≡ duesShow
+unfolding modelShows duesSteps duesShow
+duesModel = refl

@@ -29,6 +29,8 @@ use Rattle.text_rules.specs.Text.{onto, parted, partAt, partsIn, digitOf, isDig
 use Rattle.text_rules.specs.Fields.{isNegative, unsigned, isMeasure, hundredths, measureIn}
 use Rattle.list_rules.specs.Lines.{listHeader, hasHeader, isItemLine, itemTag, itemProfile, lineOf, linesFrom, linesOf, itemLines}
 use Rattle.list_rules.specs.ReadList.{stopped, oneMore, reading, listReading, readListReply, tableAfterReadList, workAfterReadList}
+use Rattle.dues_rules.specs.Board.{board, within, rateBy, duesAt, duesBy}
+use Rattle.dues_rules.specs.Listed.{weightAt, isFound, isWeight, pays, weightsRefusal, totalOf, weightsReply, areaAfter, duesRefusal, duesReply, duesAfter}
 use Rattle.call_rules.specs.Calls.{Call, Areas, Reply, replyTo, tableAfter, areasAfter}
 
 pub record Performed (c : Call) : Type 0 where
@@ -57,5 +59,6 @@ unfolding
     distinct fieldsPass bucketPasses daysPass liveRows slotsPass loadRefusal loadedTable tableAfterLoad validName partBytes partStart partOf snapshotOf behindLength savedLength savedImage
     saveRefusal saveReply statesAfterSave holdsSnapshot partRefusal restoreRefusal tableAfterRestore onto parted partAt partsIn digitOf isDigit
     isNumeral numeralAfter numeral isNegative unsigned isMeasure hundredths measureIn listHeader hasHeader isItemLine itemTag itemProfile lineOf
-    linesFrom linesOf itemLines stopped oneMore reading listReading readListReply tableAfterReadList workAfterReadList
+    linesFrom linesOf itemLines stopped oneMore reading listReading readListReply tableAfterReadList workAfterReadList board within rateBy duesAt duesBy
+    weightAt isFound isWeight pays weightsRefusal totalOf weightsReply areaAfter duesRefusal duesReply duesAfter
 performed c t areas = record { reply = replyTo c t areas; table = tableAfter c t areas; areas = areasAfter c t areas }

@@ -1,8 +1,10 @@
 -- A sound table whose live items are the model's: range and nearest answer as the model's scan, the row that a tag finds is the model's item, and as
--- many are live. A scan does not depend on the order of its list; of one tag there is one item.
+-- many are live. A scan does not depend on the order of its list; of one tag there is one item, so what is found for a list of tags weighs the same.
 use Prim.Native.Nat.{ℕ, _≤_}
-use mathlib.Core.Path.{_≡_, sym, _∙_, ap, subst}
+use mathlib.Core.Path.{_≡_, refl, sym, _∙_, ap, subst}
 use mathlib.Core.List.{List, map, map-map, List·Permᴰ}
+use mathlib.Core.Option.{Option, none, some}
+use lib.IntN.{ℤ}
 use lib.Dec.{eqb, leb}
 use lib.ListN.{length, length-map}
 use borrow.Author.Tests.{eqb-true}
@@ -10,7 +12,7 @@ use Rattle.lists.specs.Lists.{every, select, total, All}
 use Rattle.lists.proofs.Lists.{all-weaken, perm-length, perm-map, map-where}
 use Rattle.lists.proofs.Tests.{and-second, every-all}
 use Rattle.metric_rules.specs.declared.Profile.{Profile}
-use Rattle.metric_rules.specs.Row.{tagOf}
+use Rattle.metric_rules.specs.Row.{tagOf, profileOf, measure}
 use Rattle.metric_rules.specs.declared.Space.{Space}
 use Rattle.metric_rules.specs.Distance.{distance}
 use Rattle.search_rules.specs.Range.{Entry, entry, ordered, entryOf, toQuery}
@@ -21,9 +23,10 @@ use Rattle.table_rules.proofs.ByNumber.{length-flatten}
 use Rattle.table_rules.specs.Table.{Table, orderOf, tableSpace, liveOf, liveTotal, slotsOf, liveSlots}
 use Rattle.table_rules.specs.Checks.{marksPass}
 use Rattle.table_rules.specs.Rebuild.{liveItems}
-use Rattle.table_rules.specs.LookUp.{find}
+use Rattle.table_rules.specs.LookUp.{Place, find}
 use Rattle.table_rules.specs.Search.{rangeAnswer, nearestAnswer}
-use Rattle.history.specs.Model.{Item, itemOf, Model, withTag, scanned, modelRange, modelNearest}
+use Rattle.dues_rules.specs.Listed.{weightAt, weightsAt}
+use Rattle.history.specs.Model.{Item, itemOf, Model, withTag, scanned, modelRange, modelNearest, weightOf, weightsIn}
 use Rattle.history.specs.Represents.{itemsIn}
 use Rattle.history.proofs.Invariant.{Invariant}
 use Rattle.history.proofs.RefinesLists.{select-perm, select-map, select-once, perm-of-one}
@@ -41,6 +44,13 @@ pub record Matches (t : Table) (m : Model) : Type 0 where
 -- an item's entry, by what distances depend on
 itemEntry : Space → Profile → Item → Entry
 itemEntry space q i = entry (i .tag) (distance space (i .profile) q)
+
+-- what a found row weighs is what its item does
+row-weight : (o : Option Place)
+    → _≡_ {A = Option ℤ} (elim o [ some place ↦ some (measure (profileOf (place .row)) 0) | none ↦ none ]) (weightOf (map itemOf (rowFound o)))
+unfolding weightOf itemOf
+row-weight none = refl
+row-weight (some place) = refl
 
 module _ {t : Table} {m : Model} (matches : Matches t m) where
   -- an item's day is its row's, so the rows weighed since and the items weighed since are the same
@@ -88,6 +98,14 @@ module _ {t : Table} {m : Model} (matches : Matches t m) where
   -- what the table finds is what the model has
   pub found-items : (tag : ℕ) → map itemOf (rowFound (find t tag)) ≡ withTag tag (m .items)
   found-items tag = ap (map itemOf) (find-row t tag (matches .invariant .once)) ∙ tagged-items tag
+
+  weight-alike : (tag : ℕ) → weightAt t tag ≡ weightOf (withTag tag (m .items))
+  unfolding weightAt
+  weight-alike tag = row-weight (find t tag) ∙ ap weightOf (found-items tag)
+
+  pub weights-alike : (tags : List ℕ) → weightsAt t tags ≡ weightsIn m tags
+  unfolding weightsIn
+  weights-alike tags = λ i. map (λ tag. weight-alike tag i) tags
 
   pub live-total : liveTotal t ≡ length (m .items)
   unfolding liveTotal itemsIn liveItems liveSlots marksPass

@@ -6,6 +6,7 @@ use mathlib.Core.Logic.{_⊎_, inl, inr}
 use mathlib.Core.Bool.{Bool, true, false, _&&_, false≢true}
 use mathlib.Core.List.{List, [], _∷_, map}
 use mathlib.Core.Option.{Option, none, some}
+use lib.IntN.{ℤ}
 use lib.Dec.{leb, eqb}
 use lib.ListN.{length}
 use native.Mathlib.Omega.{arith}
@@ -24,11 +25,12 @@ use Rattle.table_rules.specs.Add.{addRefusal}
 use Rattle.table_rules.specs.Remove.{removeRefusal}
 use Rattle.table_rules.specs.LookUp.{Place, find, isLiveTag, liveTagRefusal, lookUpRefusal}
 use Rattle.table_rules.specs.Search.{fitRefusal, rangeRefusal, nearestRefusal}
-use Rattle.call_rules.specs.Calls.Ask.{lookUp, range, nearest}
+use Rattle.dues_rules.specs.Listed.{weightsAt, weightsRefusal, duesRefusal}
+use Rattle.call_rules.specs.Calls.Ask.{lookUp, range, nearest, dues}
 use Rattle.history.specs.Model.{Item, itemOf, Model, withTag, isIn, canRead, canChange, tagRefusal, itemRefusal, addRefusalOf, removeRefusalOf, fits, questionRefusal, askRefusal}
 use Rattle.history.proofs.Invariant.{Invariant}
 use Rattle.history.proofs.RefinesFinding.{rowFound}
-use Rattle.history.proofs.RefinesItems.{Matches, range-alike, nearest-alike, found-items, live-total}
+use Rattle.history.proofs.RefinesItems.{Matches, range-alike, nearest-alike, found-items, weights-alike, live-total}
 
 -- a table too short for the model's order: of its rows only the header counts, if there is one
 pub record Short (t : Table) (m : Model) : Type 0 where
@@ -191,3 +193,9 @@ module _ (m : Model) (t : Table) where
     nearest-refusal q k firstDay result =
         stopped (readRefusal t) _ _ _ (read-refusal lendable)
         (λ e. ap (λ (es : List Entry). unless (validMeasures q) badMeasure (when (eqb k 0) noCount (unless (leb (length es) (length result)) noRoom 0))) (nearest-alike (readable lendable e) q k firstDay))
+
+    pub dues-refusal : (tags area : List ℕ) → duesRefusal t tags area ≡ askRefusal m (dues tags) (length t) (length area)
+    unfolding duesRefusal askRefusal questionRefusal
+    dues-refusal tags area =
+        stopped (readRefusal t) _ _ _ (read-refusal lendable)
+        (λ e. ap (λ (weights : List (Option ℤ)). weightsRefusal weights (length area)) (weights-alike (readable lendable e) tags))

@@ -1,14 +1,16 @@
--- At every call a table that matches the model, or is too short for its order, shows what the model shows: refusal, profile and day, number found, entries, and a herd
--- list's line and number added. Each call by its refusal, which is the model's; an accepted look up has found the item, an accepted search shows its entries and no
--- zeros, and a herd list goes as the model's.
+-- At every call a table that matches the model, or is too short for its order, shows what the model shows: refusal, profile and day, number found, entries, a herd
+-- list's line and number added, dues and their total. Each call by its refusal, which is the model's; an accepted look up has found the item, an accepted search shows
+-- its entries and no zeros, accepted dues are of the model's own weights, and a herd list goes as the model's.
 use Prim.Native.Nat.{ℕ, zero, suc, _-_}
 use mathlib.Core.Path.{_≡_, refl, sym, _∙_, ap, ap₂}
 use mathlib.Core.Bool.{Bool, true, false}
 use mathlib.Core.List.{List, [], _∷_, map}
 use mathlib.Core.Option.{Option, none, some}
-use lib.ListN.{length, take, replicate}
-use lib.Seq.{take-append-seam}
+use lib.IntN.{ℤ}
+use lib.ListN.{length, take, drop, replicate}
+use lib.Seq.{take-at, take-append-seam}
 use native.Mathlib.Omega.{arith}
+use Rattle.lists.specs.Lists.{total}
 use Rattle.metric_rules.specs.Row.{Row, profileOf, dayOf}
 use Rattle.metric_rules.specs.Validity.{validTag}
 use Rattle.search_rules.specs.Range.{Entry}
@@ -22,17 +24,20 @@ use Rattle.table_rules.specs.Remove.{removeRefusal, removeReply}
 use Rattle.table_rules.specs.LookUp.{Place, find, noProfile, notFound, lookUpReply}
 use Rattle.table_rules.specs.Search.{Answer, rangeAnswer, nearestAnswer, rangeRefusal, nearestRefusal, searchReply, zeroEntry, resultAfter, rangeReply, resultAfterRange, nearestReply, resultAfterNearest}
 use Rattle.list_rules.specs.ReadList.{readListReply}
+use Rattle.dues_rules.specs.declared.Dues.{Dues}
+use Rattle.dues_rules.specs.Listed.{weightsAt, duesOf, totalOf, duesRefusal, duesReply, duesAfter}
+use Rattle.dues_rules.proofs.Replies.{paid-each, refused, accepted}
 use Rattle.call_rules.specs.Calls.{Change, changeReply, Ask, AskAreas, askReply, areasAnswered, Call, Areas, replyTo, areasAfter}
 use Rattle.call_rules.specs.Calls.Change.{add, remove, readList}
-use Rattle.call_rules.specs.Calls.Ask.{lookUp, range, nearest}
+use Rattle.call_rules.specs.Calls.Ask.{lookUp, range, nearest, dues}
 use Rattle.call_rules.specs.Calls.Call.{begin, change, ask, write}
-use Rattle.history.specs.Trace.{zeroed, shows, changeShown, askShown, shown}
-use Rattle.history.specs.Trace.Payload.{bare, aWeighing, someEntries, aListRead}
-use Rattle.history.specs.Model.{Item, itemOf, Model, AskLengths, askLengths, lengthsOf, withTag, isIn, weighedIn, modelRange, modelNearest, canRead, tagRefusal, questionRefusal, askRefusal, found, answerTo, showsUnless, beginAnswer, changeAnswer, answer}
+use Rattle.history.specs.Trace.{Shown, zeroed, shows, changeShown, duesIn, askShown, shown}
+use Rattle.history.specs.Trace.Payload.{bare, aWeighing, someEntries, aListRead, someDues}
+use Rattle.history.specs.Model.{Item, itemOf, Model, AskLengths, askLengths, lengthsOf, withTag, isIn, weighedIn, modelRange, modelNearest, weightsIn, canRead, tagRefusal, questionRefusal, askRefusal, found, paid, answerTo, showsUnless, beginAnswer, changeAnswer, answer}
 use Rattle.history.specs.History.{IsChange, IsCall}
 use Rattle.history.proofs.RefinesFinding.{rowFound}
-use Rattle.history.proofs.RefinesItems.{Matches, range-alike, nearest-alike, found-items}
-use Rattle.history.proofs.RefinesRefusals.{Lendable, readable, long-accepts, add-refusal, remove-refusal, look-up-refusal, range-refusal, nearest-refusal}
+use Rattle.history.proofs.RefinesItems.{Matches, range-alike, nearest-alike, found-items, weights-alike}
+use Rattle.history.proofs.RefinesRefusals.{Lendable, readable, long-accepts, add-refusal, remove-refusal, look-up-refusal, range-refusal, nearest-refusal, dues-refusal}
 use Rattle.history.proofs.RefinesReading.{reads, reads-alike}
 
 -- a search shows its entries where it is accepted
@@ -72,6 +77,24 @@ tag-there m tag e = go (validTag tag) (withTag tag (m .items)) e
     go false is e f = omega arith
     go true [] e f = omega arith
     go true (i ∷ is) e f = omega (arith, ap length f)
+
+-- dues show their total and what each tag pays where they are accepted
+abbrev duesShown : List ℕ → Dues → List ℕ → Shown
+duesShown tags reply area = shows (reply .refusal) (someDues (reply .total) (duesIn (reply .refusal) tags area))
+
+shows-dues : (t : Table) (tags area each : List ℕ) (n : ℕ) → duesRefusal t tags area ≡ n → (n ≡ 0 → duesOf (weightsAt t tags) ≡ each)
+    → duesShown tags (duesReply t tags area) (duesAfter t tags area) ≡ showsUnless n (paid each)
+unfolding duesIn zeroed showsUnless paid totalOf
+shows-dues t tags area each zero e alike =
+    let here = duesOf (weightsAt t tags) in
+    let written = accepted t tags area e in
+    ap₂ (duesShown tags) (sym (written .0)) (sym (written .1))
+    ∙ ap (λ (l : List ℕ). shows 0 (someDues (total here) l))
+    (take-at here (drop (length tags) area) (length tags) (paid-each t tags))
+    ∙ ap (λ (l : List ℕ). shows 0 (someDues (total l) l)) (alike refl)
+shows-dues t tags area each (suc n) e alike =
+    let left = refused t tags area (suc n) e (λ z. omega arith) in
+    ap₂ (duesShown tags) (sym (left .0)) (sym (left .1))
 
 -- a reply has its refusal's number
 pub add-number : (n bucket distances : ℕ)
@@ -134,6 +157,9 @@ module _ (m : Model) (t : Table) (lendable : Lendable t m) where
   ask-shown (nearest q k firstDay) result =
       found-shown (nearest q k firstDay) (length result) (nearestRefusal t result q k firstDay) result (nearestAnswer t q k firstDay) (modelNearest m q k firstDay) (nearest-refusal m t lendable q k firstDay result)
       (λ ok. nearest-alike ok q k firstDay)
+  ask-shown (dues tags) area =
+      shows-dues t tags area (duesOf (weightsIn m tags)) (askRefusal m (dues tags) (length t) (length area)) (dues-refusal m t lendable tags area)
+      (λ e. ap (λ (weights : List (Option ℤ)). duesOf weights) (weights-alike (accepted-ask (dues tags) (length area) e) tags))
 
   -- what each call shows; a call that begins a table reads nothing of it but its length
   pub shown-alike : (c : Call) → IsCall c → (areas : Areas c) → shown c (replyTo c t areas) (areasAfter c t areas) ≡ answer m c (length t) (lengthsOf c areas) .shows

@@ -1,9 +1,9 @@
 -- Every refusal number of RULES 14.1 at least once, with what the areas then hold: a refusal replies its number and zeros and leaves every area as it
 -- was, but 6 on range and nearest leaves the result area all zero. Each is a run that antt computes.
-use Prim.Native.Nat.{ℕ, _+_, _^_}
+use Prim.Native.Nat.{ℕ, _+_, _-_, _^_}
 use mathlib.Core.Path.{_≡_, refl}
 use mathlib.Core.List.{List, [], _∷_, _++_, map}
-use lib.IntN.{pos, negsuc}
+use lib.IntN.{ℤ, pos, negsuc}
 use lib.ListN.{set, take, replicate}
 use Rattle.metric_rules.specs.declared.Profile.{Profile}
 use Rattle.metric_rules.specs.Row.{rowWidth, zeroRow, rowOf, withMark}
@@ -12,7 +12,7 @@ use Rattle.table_rules.specs.Table.{Table, rowAt, pairRow, putSizes}
 use Rattle.table_rules.specs.LookUp.{notFound, lookUpReply}
 use Rattle.call_rules.specs.Calls.{Call, Areas}
 use Rattle.history.proofs.Computing.{performed}
-use Rattle.history.proofs.Running.{fresh, load, restore, write, save, add, remove, readList, lookUp, range, nearest, weighing, by, tag, valued, areasFor, areaRows, replyNumbers, listOf, itemLine, table}
+use Rattle.history.proofs.Running.{fresh, load, restore, write, save, add, remove, readList, lookUp, range, nearest, dues, weighing, by, tag, valued, areasFor, areaRows, replyNumbers, listOf, itemLine, table}
 
 -- the table of the four items, written out, so that no try works it out again; and that it is theirs
 laid : Table
@@ -74,6 +74,9 @@ noSearch n = n ∷ 0 ∷ 0 ∷ []
 noImage : ℕ → List ℕ
 noImage n = n ∷ 0 ∷ []
 
+noDues : ℕ → List ℕ
+noDues n = n ∷ 0 ∷ []
+
 -- a herd list refused at a line with nothing added
 noList : ℕ → ℕ → List ℕ
 noList n line = n ∷ line ∷ 0 ∷ 0 ∷ []
@@ -98,12 +101,17 @@ misMarked : Table
 unfolding withMark rowAt firstSlot laid
 misMarked = let at = firstSlot 2 2 + 1 in set laid at (withMark 2 (rowAt laid at))
 
+-- and with item 1 of so many hundredths of a kilo in the first slot of bucket 2
+weighing1 : ℤ → Table
+unfolding firstSlot rowOf tag laid
+weighing1 weight = set laid (firstSlot 2 2) (rowOf (tag 1) (record { measures = weight ∷ negsuc 0 ∷ negsuc 0 ∷ negsuc 0 ∷ []; code = 0 ∷ 0 ∷ [] }) 3 0 1)
+
 -- an image of order 0 and metric 0 in form 1 or 2, with weights 1 and one live item of these bytes
 oneRecord : ℕ → List ℕ → List ℕ
 oneRecord form bytes = (0 ∷ 0 ∷ form ∷ 0 ∷ 1 ∷ 1 ∷ 1 ∷ 1 ∷ 1 ∷ 0 ∷ 1 ∷ 0 ∷ []) ++ bytes
 
 tries : List Try
-unfolding on laid tag valued below headed weighted sized misMarked oneRecord listOf itemLine
+unfolding on laid tag valued below headed weighted sized misMarked weighing1 oneRecord listOf itemLine
 tries =
     on laid (add (10 ^ 12) (valued 1_000_001) 1)
     ∷ on laid (add 999_999_999_999 (valued 1_000_001) 0)
@@ -179,11 +187,21 @@ tries =
     ∷ on [] (restore (set (replicate 32 0) 28 1) 8)
     ∷ on [] (restore (replicate 24 0 ++ (4 ∷ 0 ∷ 0 ∷ 0 ∷ 13 ∷ 0 ∷ 0 ∷ 0 ∷ []) ++ replicate 39 0) 4)
     ∷ on laid (restore (replicate 24 0 ++ (4 ∷ 0 ∷ 0 ∷ 0 ∷ 0 ∷ 0 ∷ 0 ∷ 0 ∷ []) ++ replicate 39 0) 4)
+    ∷ on [] (dues (0 ∷ []))
+    ∷ on (headed 2 3) (dues (0 ∷ []))
+    ∷ on (take 10 laid) (dues (0 ∷ []))
+    ∷ on (weighted 1 101) (dues (0 ∷ []))
+    ∷ on laid (dues (tag 1 ∷ 0 ∷ []))
+    ∷ on misMarked (dues (tag 2 ∷ []))
+    ∷ record { call = dues (tag 1 ∷ tag 5 ∷ []); table = weighing1 (negsuc 0); areas = 4 ∷ [] }
+    ∷ record { call = dues (tag 2 ∷ tag 1 ∷ []); table = weighing1 (negsuc 0); areas = 4 ∷ [] }
+    ∷ on (weighing1 (negsuc (2 ^ 31 - 1))) (dues (tag 1 ∷ []))
+    ∷ record { call = dues (tag 1 ∷ tag 2 ∷ []); table = weighing1 (pos 0); areas = 4 ∷ [] }
     ∷ []
 
 -- in the order of the tries: the first number that applies
 expected : List (List ℕ)
-unfolding number noAdd noRemove noProfile noSearch noImage noList
+unfolding number noAdd noRemove noProfile noSearch noImage noList noDues
 expected =
     noAdd 2
     ∷ noAdd 1
@@ -259,6 +277,16 @@ expected =
     ∷ number 7
     ∷ number 3
     ∷ number 7
+    ∷ noDues 23
+    ∷ noDues 24
+    ∷ noDues 23
+    ∷ noDues 24
+    ∷ noDues 21
+    ∷ noDues 21
+    ∷ noDues 21
+    ∷ noDues 39
+    ∷ noDues 39
+    ∷ noDues 6
     ∷ []
 
 unchanged : outcomes tries ≡ refusals expected tries
@@ -283,3 +311,13 @@ zeroed :
     ≡ emptied ∷ emptied ∷ []
 unfolding outcomes valued emptied
 zeroed = refl
+
+-- dues of a list with a tag twice, by a foreign measure of 32 bits, 0 and the largest: the area past the list keeps its content
+paying :
+    outcomes
+    (on (weighing1 (pos (2 ^ 31 - 1))) (dues (tag 1 ∷ tag 4 ∷ tag 1 ∷ [])) ∷ on (weighing1 (pos 0)) (dues (tag 1 ∷ [])) ∷ [])
+    ≡ record { reply = 0 ∷ 171_798_692 ∷ []; table = weighing1 (pos (2 ^ 31 - 1)); areas = (85_899_346 ∷ 0 ∷ 85_899_346 ∷ replicate 6 4) ∷ [] }
+    ∷ record { reply = 0 ∷ 0 ∷ []; table = weighing1 (pos 0); areas = (0 ∷ replicate 8 4) ∷ [] }
+    ∷ []
+unfolding outcomes on weighing1
+paying = refl

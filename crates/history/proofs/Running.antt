@@ -67,7 +67,10 @@ range q r firstDay = ask (Ask.range q r firstDay)
 abbrev pub nearest : Profile → ℕ → ℕ → Call
 nearest q k firstDay = ask (Ask.nearest q k firstDay)
 
--- a table area for order 3; and areas of n rows, entries or bytes for a call. All hold other content before
+abbrev pub dues : List ℕ → Call
+dues tags = ask (Ask.dues tags)
+
+-- a table area for order 3; and areas of n rows, entries, bytes or numbers for a call. All hold other content before
 unfoldable pub scratch : Table
 scratch = replicate 21 (replicate rowWidth 6)
 
@@ -75,6 +78,7 @@ unfoldable pub askAreas : ℕ → (q : Ask) → AskAreas q
 askAreas n (Ask.lookUp t) = tt
 askAreas n (Ask.range q r firstDay) = replicate n (8 ∷ 8 ∷ [])
 askAreas n (Ask.nearest q k firstDay) = replicate n (8 ∷ 8 ∷ [])
+askAreas n (Ask.dues tags) = replicate n 4
 
 unfoldable pub areasFor : ℕ → (c : Call) → Areas c
 unfolding askAreas
@@ -88,6 +92,7 @@ unfoldable pub askRows : (q : Ask) → AskAreas q → List (List ℕ)
 askRows (Ask.lookUp t) none = []
 askRows (Ask.range q r firstDay) result = result
 askRows (Ask.nearest q k firstDay) result = result
+askRows (Ask.dues tags) area = area ∷ []
 
 unfoldable pub areaRows : (c : Call) → Areas c → List (List ℕ)
 unfolding askRows
@@ -112,6 +117,7 @@ unfolding flatten
 askNumbers (Ask.lookUp t) l none = l .refusal ∷ l .bucket ∷ l .day ∷ []
 askNumbers (Ask.range q r firstDay) s result = s .refusal ∷ s .found ∷ s .distances ∷ flatten (take (s .found) result)
 askNumbers (Ask.nearest q k firstDay) s result = s .refusal ∷ s .found ∷ s .distances ∷ flatten (take (s .found) result)
+askNumbers (Ask.dues tags) d area = d .refusal ∷ d .total ∷ []
 
 unfoldable pub replyNumbers : (c : Call) → Reply c → Areas c → List ℕ
 unfolding beginNumbers changeNumbers askNumbers

@@ -3,11 +3,13 @@
 use Prim.Native.Nat.{ℕ, zero, suc}
 use mathlib.Core.Bool.{Bool, true, false, not, _&&_}
 use mathlib.Core.List.{List, [], _∷_, map}
+use mathlib.Core.Option.{Option}
+use lib.IntN.{ℤ}
 use lib.ListN.{length, take}
 use lib.Dec.{leb, eqb}
-use Rattle.lists.specs.Lists.{select}
+use Rattle.lists.specs.Lists.{select, total}
 use Rattle.metric_rules.specs.declared.Profile.{Profile}
-use Rattle.metric_rules.specs.Row.{Row, tagOf, profileOf, dayOf}
+use Rattle.metric_rules.specs.Row.{Row, tagOf, profileOf, dayOf, measure}
 use Rattle.metric_rules.specs.Validity.{validTag, validMeasures, validDay}
 use Rattle.metric_rules.specs.declared.Space.{Space}
 use Rattle.metric_rules.specs.Distance.{distance}
@@ -21,13 +23,14 @@ use Rattle.state_rules.specs.Parts.{partOf, savedImage}
 use Rattle.list_rules.specs.Lines.{ListLine, hasHeader, itemLines}
 use Rattle.list_rules.specs.Lines.ListLine.{anItem, malformed}
 use Rattle.list_rules.specs.ReadList.{badListHeader, badListLine}
+use Rattle.dues_rules.specs.Listed.{weightsRefusal, duesOf}
 use Rattle.call_rules.specs.Calls.{Begin, beginReply, Change, Ask, AskAreas, Call, Areas}
 use Rattle.call_rules.specs.Calls.Begin.{fresh, load, restore}
 use Rattle.call_rules.specs.Calls.Change.{add, remove, readList}
-use Rattle.call_rules.specs.Calls.Ask.{lookUp, range, nearest}
+use Rattle.call_rules.specs.Calls.Ask.{lookUp, range, nearest, dues}
 use Rattle.call_rules.specs.Calls.Call.{begin, change, ask, write}
 use Rattle.history.specs.Trace.{Step, Payload, Shown, zeroed, shows, beginShown}
-use Rattle.history.specs.Trace.Payload.{bare, aWeighing, someEntries, aListRead}
+use Rattle.history.specs.Trace.Payload.{bare, aWeighing, someEntries, aListRead, someDues}
 
 -- RULES 2.7: an item as handed over; and the item of a slot's row
 pub record Item : Type 0 where
@@ -49,11 +52,13 @@ abbrev pub AskLengths : Ask → Type 0
 AskLengths (lookUp tag) = Unit {0}
 AskLengths (range q r firstDay) = ℕ
 AskLengths (nearest q k firstDay) = ℕ
+AskLengths (dues tags) = ℕ
 
 abbrev pub askLengths : (q : Ask) → AskAreas q → AskLengths q
 askLengths (lookUp tag) none = tt
 askLengths (range q r firstDay) result = length result
 askLengths (nearest q k firstDay) result = length result
+askLengths (dues tags) area = length area
 
 abbrev pub Lengths : Call → Type 0
 Lengths (begin b) = Unit {0}
@@ -95,6 +100,14 @@ modelRange m q r firstDay = ordered (select (λ e. leb (entryDistance e) r) (sca
 unfoldable pub modelNearest : Model → Profile → ℕ → ℕ → List Entry
 modelNearest m q k firstDay = take k (ordered (scanned m q firstDay))
 
+-- RULES 16.6: what the item with a tag weighs, its first measure, and the same of a list of tags; none where no item has the tag
+unfoldable pub weightOf : List Item → Option ℤ
+weightOf [] = Option.none
+weightOf (i ∷ is) = Option.some (measure (i .profile) 0)
+
+unfoldable pub weightsIn : Model → List ℕ → List (Option ℤ)
+weightsIn m tags = map (λ tag. weightOf (withTag tag (m .items))) tags
+
 -- a table area of so many rows, and in add and remove a work area, are long enough; else 23
 unfoldable pub canRead : Model → ℕ → Bool
 canRead m rows = leb (tableRows (m .order)) rows
@@ -127,7 +140,7 @@ removeRefusalOf m rows work tag = unless (canChange m rows work) shortArea (tagR
 unfoldable pub fits : ℕ → List Entry → ℕ
 fits area entries = unless (leb (length entries) area) noRoom 0
 
--- the questions, after 23: look up 1, 21; range 2, 6; nearest 2, 5, 6
+-- the questions, after 23: look up 1, 21; range 2, 6; nearest 2, 5, 6; dues 21, 39, 6, by the weights of its own items
 unfoldable pub questionRefusal : Model → (q : Ask) → AskLengths q → ℕ
 questionRefusal m (lookUp tag) none = tagRefusal m tag
 questionRefusal m (range q r firstDay) area =
@@ -137,6 +150,7 @@ questionRefusal m (nearest q k firstDay) area =
     unless (validMeasures q) badMeasure
     (when (eqb k 0) noCount
     (fits area (modelNearest m q k firstDay)))
+questionRefusal m (dues tags) area = weightsRefusal (weightsIn m tags) area
 
 unfoldable pub askRefusal : Model → (q : Ask) → ℕ → AskLengths q → ℕ
 askRefusal m q rows n = unless (canRead m rows) shortArea (questionRefusal m q n)
@@ -145,10 +159,14 @@ askRefusal m q rows n = unless (canRead m rows) shortArea (questionRefusal m q n
 unfoldable pub found : List Entry → Payload
 found entries = someEntries (length entries) entries
 
+unfoldable pub paid : List ℕ → Payload
+paid each = someDues (total each) each
+
 unfoldable pub answerTo : Model → Ask → Payload
 answerTo m (lookUp tag) = weighedIn (withTag tag (m .items))
 answerTo m (range q r firstDay) = found (modelRange m q r firstDay)
 answerTo m (nearest q k firstDay) = found (modelNearest m q k firstDay)
+answerTo m (dues tags) = paid (duesOf (weightsIn m tags))
 
 unfoldable pub showsUnless : ℕ → Payload → Shown
 showsUnless zero payload = shows 0 payload

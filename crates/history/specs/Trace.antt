@@ -12,7 +12,7 @@ use Rattle.state_rules.specs.Parts.{partOf, savedImage}
 use Rattle.call_rules.specs.Calls.{Begin, BeginReply, Change, ChangeReply, Ask, AskAreas, AskReply, Call, Areas, Reply, replyTo, tableAfter, areasAfter}
 use Rattle.call_rules.specs.Calls.Begin.{fresh, load, restore}
 use Rattle.call_rules.specs.Calls.Change.{add, remove, readList}
-use Rattle.call_rules.specs.Calls.Ask.{lookUp, range, nearest}
+use Rattle.call_rules.specs.Calls.Ask.{lookUp, range, nearest, dues}
 use Rattle.call_rules.specs.Calls.Call.{begin, change, ask, write}
 
 -- RULES 17.2, one call of a list: each may be lent other areas of any length and content
@@ -29,12 +29,14 @@ overlaid left area = take (length area) left ++ drop (length left) area
 unfoldable pub leftBy : Table → Table → Table
 leftBy left area = area ++ drop (length area) left
 
--- RULES 17.6: what a call shows besides its refusal, by kind: look up's profile and day, the number found and the entries, a herd list's line and the number added
+-- RULES 17.6: what a call shows besides its refusal, by kind: look up's profile and day, the number found and the entries, a herd list's line and the number added,
+-- the total of some dues and what each tag pays
 pub data Payload : Type 0 where
   bare : Payload
   aWeighing : Profile → (day : ℕ) → Payload
   someEntries : (found : ℕ) → List Entry → Payload
   aListRead : (line added : ℕ) → Payload
+  someDues : (total : ℕ) → List ℕ → Payload
 
 -- the zeros that a refusal has in its place
 unfoldable pub zeroed : Payload → Payload
@@ -42,6 +44,7 @@ zeroed bare = bare
 zeroed (aWeighing p day) = aWeighing noProfile 0
 zeroed (someEntries found entries) = someEntries 0 []
 zeroed (aListRead line added) = aListRead 0 0
+zeroed (someDues total each) = someDues 0 []
 
 -- RULES 17.6: what table and model are alike in at a call
 pub record Shown : Type 0 where
@@ -62,10 +65,16 @@ changeShown (add tag p day) a = shows (a .refusal) bare
 changeShown (remove tag) r = shows (r .refusal) bare
 changeShown (readList list day) r = shows (r .refusal) (aListRead (r .line) (r .added))
 
+-- RULES 20.5, 20.6: what each tag pays, as an accepted call wrote it. A refused one wrote nothing
+unfoldable pub duesIn : ℕ → List ℕ → List ℕ → List ℕ
+duesIn zero tags area = take (length tags) area
+duesIn (suc n) tags area = []
+
 unfoldable pub askShown : (q : Ask) → AskReply q → AskAreas q → Shown
 askShown (lookUp tag) l none = shows (l .refusal) (aWeighing (l .profile) (l .day))
 askShown (range q r firstDay) s result = shows (s .refusal) (someEntries (s .found) (take (s .found) result))
 askShown (nearest q k firstDay) s result = shows (s .refusal) (someEntries (s .found) (take (s .found) result))
+askShown (dues tags) d area = shows (d .refusal) (someDues (d .total) (duesIn (d .refusal) tags area))
 
 -- RULES 17.6: the refusal of a call that writes is excepted
 unfoldable pub shown : (c : Call) → Reply c → Areas c → Shown

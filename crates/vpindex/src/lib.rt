@@ -2,10 +2,11 @@
 // the caller. Each contract is its call of crates/call_rules/specs/Calls, the one that the demands' theorems speak of.
 ghost use mathlib.Core.Path.{_≡_};
 ghost use lib.ListN.{length};
-ghost use Rattle.call_rules.specs.Calls.{beginReply, tableBegun, changeReply, tableChanged, workChanged, askReply, areasAnswered, Write, writtenReply, bytesWritten};
+ghost use Rattle.call_rules.specs.Calls.{Ask, beginReply, tableBegun, changeReply, tableChanged, workChanged, askReply, areasAnswered, Write, writtenReply, bytesWritten};
 ghost use Rattle.call_rules.specs.Calls.Begin.{fresh, load, restore};
 ghost use Rattle.call_rules.specs.Calls.Change.{add, remove, readList};
 ghost use Rattle.call_rules.specs.Calls.Ask.{lookUp, range, nearest};
+use dues_rules::Dues;
 use image_rules::Written;
 use list_rules::ListRead;
 use metric_rules::Profile;
@@ -140,4 +141,13 @@ pub extern "C" fn vpindex_restore(table: &mut [Row], states: &[u8], name: u32) -
     ensures table { λ _. ⌜ now (table .exit) ≡ tableBegun (restore (now (states .entry)) name) (now (table .entry)) ⌝ }
 {
     state_restore::restore(table, states, name)
+}
+
+// What the items with these tags pay at the gate, each number in the order of the list and their total in the reply; numbers after them are unchanged.
+#[no_mangle]
+pub extern "C" fn vpindex_dues(table: &[Row], tags: &[u64], dues: &mut [u32]) -> Dues
+    ensures reply { λ r. ⌜ r ≡ askReply (Ask.dues (now (tags .entry))) (now (table .entry)) (now (dues .entry)) ⌝ }
+    ensures dues { λ _. ⌜ now (dues .exit) ≡ areasAnswered (Ask.dues (now (tags .entry))) (now (table .entry)) (now (dues .entry)) ⌝ }
+{
+    table_dues::dues(table, tags, dues)
 }

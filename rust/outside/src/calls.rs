@@ -18,6 +18,28 @@ pub struct Areas {
     pub result: Vec<Entry>,
     /// Bytes: an image, written by write and read by load, a herd list, or the states.
     pub bytes: Vec<u8>,
+    /// A list of tags, which dues reads.
+    pub tags: Vec<u64>,
+    /// Numbers of the dues area.
+    pub dues: Vec<u32>,
+}
+
+/// The same as slices.
+pub struct Lent<'a> {
+    table: &'a mut [Row],
+    work: &'a mut [Row],
+    result: &'a mut [Entry],
+    bytes: &'a mut [u8],
+    tags: &'a [u64],
+    dues: &'a mut [u32],
+}
+
+impl Areas {
+    /// All of them, lent.
+    pub fn lent(&mut self) -> Lent<'_> {
+        let Areas { table, work, result, bytes, tags, dues } = self;
+        Lent { table, work, result, bytes, tags, dues }
+    }
 }
 
 /// A call with its arguments, the areas aside.
@@ -35,6 +57,7 @@ pub enum Call {
     ReadList { day: u16 },
     Save { name: u32 },
     Restore { name: u32 },
+    Dues,
 }
 
 /// What a call returned; fields that it has not are zero.
@@ -50,6 +73,7 @@ pub struct Reply {
     pub distances: u32,
     pub profile: Profile,
     pub day: u32,
+    pub total: u64,
 }
 
 fn accepted<T>(result: Result<T, u32>, reply: impl Fn(T) -> Reply) -> Reply {
@@ -65,7 +89,7 @@ fn searched((found, distances): plain::Searched) -> Reply {
 
 /// The call by the reference.
 pub fn by_reference(call: &Call, areas: &mut Areas) -> Reply {
-    let Areas { table, work, result, bytes } = areas;
+    let Areas { table, work, result, bytes, tags, dues } = areas;
     let nothing = |()| Reply::default();
     match *call {
         Call::Fresh { order, space } => accepted(plain::fresh(table, order, space), nothing),
@@ -92,6 +116,7 @@ pub fn by_reference(call: &Call, areas: &mut Areas) -> Reply {
         }
         Call::Save { name } => accepted(plain::save(table, bytes, name), |length| Reply { length, ..Reply::default() }),
         Call::Restore { name } => accepted(plain::restore(table, bytes, name), nothing),
+        Call::Dues => accepted(plain::dues(table, tags, dues), |total| Reply { total, ..Reply::default() }),
     }
 }
 
@@ -109,7 +134,8 @@ fn hits(reply: ffi::Searched) -> Reply {
 }
 
 /// The call by the archive, on areas as they are.
-pub fn by_archive(call: &Call, table: &mut [Row], work: &mut [Row], result: &mut [Entry], bytes: &mut [u8]) -> Reply {
+pub fn by_archive(call: &Call, areas: Lent<'_>) -> Reply {
+    let Lent { table, work, result, bytes, tags, dues } = areas;
     match *call {
         Call::Fresh { order, space } => {
             let weights = ffi::Weights { each: space.weights };
@@ -140,6 +166,10 @@ pub fn by_archive(call: &Call, table: &mut [Row], work: &mut [Row], result: &mut
             Reply { refusal, length, ..Reply::default() }
         }
         Call::Restore { name } => Reply { refusal: ffi::restore(table, bytes, name), ..Reply::default() },
+        Call::Dues => {
+            let ffi::Dues { refusal, total } = ffi::dues(table, tags, dues);
+            Reply { refusal, total, ..Reply::default() }
+        }
     }
 }
 
@@ -177,13 +207,24 @@ pub fn by_archive_guarded(call: &Call, areas: &mut Areas, random: &mut Random) -
     let mut work = Guarded::new(areas.work.as_flattened(), random, |word| word as u32);
     let mut result = Guarded::new(areas.result.as_flattened(), random, |word| word);
     let mut bytes = Guarded::new(&areas.bytes, random, |word| word as u8);
-    let (rows, working) = (table.lent().as_chunks_mut().0, work.lent().as_chunks_mut().0);
-    let reply = by_archive(call, rows, working, result.lent().as_chunks_mut().0, bytes.lent());
+    let mut tags = Guarded::new(&areas.tags, random, |word| word);
+    let mut dues = Guarded::new(&areas.dues, random, |word| word as u32);
+    let lent = Lent {
+        table: table.lent().as_chunks_mut().0,
+        work: work.lent().as_chunks_mut().0,
+        result: result.lent().as_chunks_mut().0,
+        bytes: bytes.lent(),
+        tags: tags.lent(),
+        dues: dues.lent(),
+    };
+    let reply = by_archive(call, lent);
     *areas = Areas {
         table: table.back().as_chunks().0.to_vec(),
         work: work.back().as_chunks().0.to_vec(),
         result: result.back().as_chunks().0.to_vec(),
         bytes: bytes.back(),
+        tags: tags.back(),
+        dues: dues.back(),
     };
     reply
 }
@@ -199,6 +240,8 @@ pub fn compare(call: &Call, areas: &mut Areas, random: &mut Random) -> Reply {
     same("work area", call, &areas.work, &expected.work);
     same("result area", call, &areas.result, &expected.result);
     same("bytes", call, &areas.bytes, &expected.bytes);
+    same("tags", call, &areas.tags, &expected.tags);
+    same("dues area", call, &areas.dues, &expected.dues);
     reply
 }
 

@@ -32,6 +32,8 @@ impl Fixture {
             work: vec![[1; ROW_WORDS]; capacity(order)],
             result: vec![[1; 2]; capacity(order)],
             bytes: vec![1; 4096],
+            tags: vec![],
+            dues: vec![],
         };
         Fixture { areas, random: Random::new(11) }
     }

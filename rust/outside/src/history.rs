@@ -2,6 +2,7 @@
 //! all rebuilds. Each call is compared with the reference too.
 
 use reference::book::Book;
+use reference::dues::total;
 use reference::image::is_sound;
 use reference::item::{Item, Row, Slot};
 use reference::list::ListRead;
@@ -85,7 +86,7 @@ impl History {
         history
     }
 
-    /// One call more, any of the eleven.
+    /// One call more, any of the twelve.
     pub fn step(&mut self) {
         let mut areas = lent(&mut self.random, &self.left, self.book.order);
         let call = next(&mut self.random, &mut areas, self.book.order, self.book.space, &self.states);
@@ -103,7 +104,10 @@ impl History {
         let lengths = [areas.table.len(), areas.work.len(), areas.result.len()];
         let reply = compare(call, &mut areas, &mut self.random);
         let hits = areas.result.iter().take(reply.found as usize).map(|entry| (entry[1] as u32, entry[0])).collect();
-        self.check_shown(call, &areas.bytes, lengths, &reply, hits);
+        match call {
+            Call::Dues => self.check_dues(&areas, &reply),
+            _ => self.check_shown(call, &areas.bytes, lengths, &reply, hits),
+        }
         self.sums.note(call, &reply, &areas.table);
         self.tally.note(call, &reply);
         keep_states(&mut self.states, call, areas.bytes);
@@ -143,10 +147,20 @@ impl History {
                 assert_eq!(got, expected, "table, then book: {call:?}");
                 return;
             }
+            Call::Dues => unreachable!("held to the book by its own areas"),
         };
         let shown = Item { tag: 0, profile: reply.profile, day: reply.day };
         let got = if reply.refusal == 0 { Ok((shown, hits)) } else { Err(reply.refusal) };
         assert_eq!(got, expected, "table, then book: {call:?}");
+    }
+
+    // In the refusal, the dues and the total.
+    fn check_dues(&self, areas: &Areas, reply: &Reply) {
+        let expected = self.book.dues(areas.table.len(), areas.dues.len(), &areas.tags);
+        let dues = areas.dues.iter().copied().take(areas.tags.len()).collect();
+        let got = if reply.refusal == 0 { Ok(dues) } else { Err(reply.refusal) };
+        assert_eq!(got, expected, "table, then book: dues of {:?}", areas.tags);
+        assert_eq!(reply.total, expected.map_or(0, |dues| total(&dues)), "the total of {:?}", areas.tags);
     }
 
     // The book's items, each once, are those in the built slots of mark 0; the distances keep within the bound.

@@ -5,7 +5,7 @@ use std::collections::BTreeMap;
 use reference::image::bytes;
 use reference::item::{Profile, ROW_WORDS, Row, Slot, Space};
 use reference::refusal::SHORT_AREA;
-use reference::table::{Table, capacity, first_row, table_rows};
+use reference::table::{Bucket, Table, capacity, first_row, table_rows};
 
 use crate::calls::{Areas, Call, Reply, compare};
 use crate::foreign::{any_row, rows_of};
@@ -25,7 +25,7 @@ pub struct Tally {
 }
 
 /// The numbers that each call can be refused by, and 0.
-pub const NUMBERS: [(&str, &[u32]); 11] = [
+pub const NUMBERS: [(&str, &[u32]); 12] = [
     ("fresh", &[0, 3, 4, 23, 32]),
     ("load", &[0, 3, 4, 7, 8, 23, 24, 32, 33]),
     ("add", &[0, 1, 2, 20, 22, 23, 24, 33]),
@@ -37,6 +37,7 @@ pub const NUMBERS: [(&str, &[u32]); 11] = [
     ("read list", &[0, 1, 2, 20, 22, 23, 24, 30, 31, 33]),
     ("save", &[0, 6, 23, 24, 34]),
     ("restore", &[0, 3, 4, 7, 8, 23, 24, 32, 33, 34, 35]),
+    ("dues", &[0, 6, 21, 23, 24, 39]),
 ];
 
 impl Tally {
@@ -75,6 +76,7 @@ fn name(call: &Call) -> &'static str {
         Call::ReadList { .. } => "read list",
         Call::Save { .. } => "save",
         Call::Restore { .. } => "restore",
+        Call::Dues => "dues",
     }
 }
 
@@ -145,13 +147,13 @@ pub fn lent(random: &mut Random, left: &[Row], order: u32) -> Areas {
         table,
         work: random.fill(working, any_row),
         result: random.fill(room, |random| [random.word(), random.word()]),
-        bytes: vec![],
+        ..Areas::default()
     }
 }
 
-/// The next call, with the image, the list or the states that it reads or the bytes that it writes to.
+/// The next call, with the image, the list or the states that it reads or the bytes or dues that it writes to.
 pub fn next(random: &mut Random, areas: &mut Areas, order: u32, space: Space, states: &[u8]) -> Call {
-    match random.below(43) {
+    match random.below(46) {
         0 => fresh(random, order, space.metric),
         1..4 => load(random, areas, order, space),
         4 | 5 => write(random, areas, order),
@@ -165,6 +167,7 @@ pub fn next(random: &mut Random, areas: &mut Areas, order: u32, space: Space, st
         27..31 => read_list(random, areas, order),
         31 | 32 => save(random, areas, states),
         33..38 => restore(random, areas, order, space, states),
+        38..41 => dues(random, areas, order),
         _ => {
             let (query, first_day) = (query(random, areas, order), random.first_day());
             Call::Nearest { query, k: count(random, order), first_day }
@@ -186,6 +189,28 @@ fn read_list(random: &mut Random, areas: &mut Areas, order: u32) -> Call {
     let most = if order < 6 && random.one_in(3) { 2 * capacity(order) } else { 8 };
     areas.bytes = item_lists::list(random, order, most);
     Call::ReadList { day: if random.one_in(10) { 0 } else { random.day() } }
+}
+
+// Mostly of items that weigh not below 0, now and then too many.
+fn dues(random: &mut Random, areas: &mut Areas, order: u32) -> Call {
+    let most = if order < 7 && random.one_in(4) { 5000 } else { 2 * capacity(order).min(40) };
+    let (listed, faults) = (random.below(most + 1), random.one_in(3));
+    let payers = payers(&areas.table);
+    areas.tags = random.fill(listed, |random| match random.below(2 * listed) {
+        0 if faults => tag(random, areas, order),
+        _ if payers.is_empty() => tag(random, areas, order),
+        _ => random.pick(&payers),
+    });
+    let room = length(random, listed);
+    areas.dues = random.fill(room, |random| random.word() as u32);
+    Call::Dues
+}
+
+// The tags of the live slots whose weight is not below 0.
+fn payers(rows: &[Row]) -> Vec<u64> {
+    let Ok(table) = Table::open(rows, |_| true) else { return vec![] };
+    let live = table.buckets.iter().flat_map(Bucket::live_items);
+    live.filter(|slot| slot.profile.measures[0] >= 0).map(|slot| slot.tag).collect()
 }
 
 // Each argument by itself may be one that is refused.

@@ -12,6 +12,9 @@ pub const MAX_MEASURE: i32 = 1_000_000;
 /// The last day.
 pub const MAX_DAY: u16 = 65_535;
 
+// Weights about half a cent and at the ends of the bands that dues go by.
+const EDGE_WEIGHTS: [i32; 9] = [0, 24, 25, 39_999, 40_000, 40_001, 59_999, 60_000, 60_001];
+
 /// A generator (xorshift64*).
 #[derive(Clone, Debug)]
 pub struct Random(u64);
@@ -88,7 +91,10 @@ impl Random {
     }
 
     fn edge_profile(&mut self) -> Profile {
-        let measures = [0; 4].map(|_| self.pick(&[-MAX_MEASURE, 0, MAX_MEASURE]));
+        let mut measures = [0; 4].map(|_| self.pick(&[-MAX_MEASURE, 0, MAX_MEASURE]));
+        if self.one_in(2) {
+            measures[0] = self.pick(&EDGE_WEIGHTS);
+        }
         let code = [0; 2].map(|_| self.pick(&[0, u64::MAX, 1, 1 << 63]));
         Profile { measures, code }
     }

@@ -8,6 +8,9 @@ use reference::image::{bytes, of_form};
 use reference::item::{Row, Space};
 use reference::table::{Table, capacity, table_rows};
 
+// How many tags dues is given.
+const LISTED: usize = 5;
+
 // A table of some kind, every row of which is one that the order needs.
 fn tables(random: &mut Random, order: u32, space: Space) -> Vec<Vec<Row>> {
     let sound = [0; 2].map(|_| sound::table(random, order, space));
@@ -21,6 +24,7 @@ struct Lengths {
     work: usize,
     result: usize,
     bytes: usize,
+    dues: usize,
 }
 
 fn lent(random: &mut Random, rows: &[Row], lengths: Lengths) -> Areas {
@@ -31,6 +35,8 @@ fn lent(random: &mut Random, rows: &[Row], lengths: Lengths) -> Areas {
         work: random.fill(lengths.work, any_row),
         result: random.fill(lengths.result, |random| [random.word(), random.word()]),
         bytes: random.fill(lengths.bytes, |random| random.word() as u8),
+        tags: vec![],
+        dues: random.fill(lengths.dues, |random| random.word() as u32),
     }
 }
 
@@ -53,6 +59,7 @@ fn calls(random: &mut Random, rows: &[Row], order: u32, space: Space) -> Vec<Cal
         Call::ReadList { day: random.day() },
         Call::Save { name: snapshots::name(random) },
         Call::Restore { name: snapshots::name(random) },
+        Call::Dues,
     ]
 }
 
@@ -62,10 +69,17 @@ fn every_length(random: &mut Random, rows: &[Row], order: u32, space: Space) -> 
     let image = 8 + 4 * (order as usize + 1) + 50 * result;
     let of = |at: usize, n: usize| {
         let one = |i: usize, needed: usize| if i == at { n } else { needed };
-        Lengths { table: one(0, table), work: one(1, work), result: one(2, result), bytes: one(3, image) }
+        let [table, work, result, bytes, dues] = [table, work, result, image, LISTED];
+        Lengths {
+            table: one(0, table),
+            work: one(1, work),
+            result: one(2, result),
+            bytes: one(3, bytes),
+            dues: one(4, dues),
+        }
     };
     let mut count = 0;
-    for (at, needed) in [table, work, result, image].into_iter().enumerate() {
+    for (at, needed) in [table, work, result, image, LISTED].into_iter().enumerate() {
         for n in 0..=needed + 3 {
             for call in calls(random, rows, order, space).into_iter().filter(|call| is_lent(call, at)) {
                 let mut areas = lent(random, rows, of(at, n));
@@ -76,6 +90,9 @@ fn every_length(random: &mut Random, rows: &[Row], order: u32, space: Space) -> 
                     let image = Table::open(rows, |_| true).map_or_else(|_| vec![], |table| bytes(&table));
                     areas.bytes = snapshots::holding(random, &image, name);
                 }
+                if call == Call::Dues {
+                    areas.tags = live_tags(rows, LISTED);
+                }
                 compare(&call, &mut areas, random);
                 count += 1;
             }
@@ -84,12 +101,20 @@ fn every_length(random: &mut Random, rows: &[Row], order: u32, space: Space) -> 
     count
 }
 
-// Whether the call is lent this area: table, work, result, bytes.
+// So many tags of live items, the first ones again where there are fewer; none where there is none.
+fn live_tags(rows: &[Row], count: usize) -> Vec<u64> {
+    let Ok(table) = Table::open(rows, |_| true) else { return vec![] };
+    let live: Vec<u64> = table.buckets.iter().flat_map(|bucket| bucket.live_items().map(|slot| slot.tag)).collect();
+    live.into_iter().cycle().take(count).collect()
+}
+
+// Whether the call is lent this area: table, work, result, bytes, dues.
 fn is_lent(call: &Call, at: usize) -> bool {
     match call {
         Call::Add { .. } | Call::Remove { .. } | Call::ReadList { .. } => at <= 1,
         Call::Range { .. } | Call::Nearest { .. } => at == 0 || at == 2,
         Call::Load | Call::Write => at == 0 || at == 3,
+        Call::Dues => at == 0 || at == 4,
         _ => at == 0,
     }
 }

@@ -1,6 +1,7 @@
 //! RULES 16, the reference model: an order, a metric, four weights and a list of items, with neither buckets nor trees.
 //! It is fed a call's arguments and the lengths of the lent areas, never an answer or what the table holds.
 
+use crate::dues;
 use crate::image;
 use crate::item::{
     Item, MAX_METRIC, MAX_ORDER, Profile, Slot, Space, check_day, check_measures, check_tag, check_weights, distance,
@@ -91,6 +92,12 @@ impl Book {
         self.check_table(rows)?;
         check_tag(tag)?;
         self.find(tag).map(|at| self.items[at]).ok_or(NOT_LIVE)
+    }
+
+    /// What each listed tag pays.
+    pub fn dues(&self, rows: usize, room: usize, tags: &[u64]) -> Result<Vec<u32>, Refused> {
+        self.check_table(rows)?;
+        dues::dues(tags, room, |tag| self.find(tag).map(|at| self.items[at].profile.measures[0]))
     }
 
     // Every item that is not of a day before the first, by distance, then tag.

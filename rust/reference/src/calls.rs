@@ -1,5 +1,6 @@
-//! The eleven calls, on lent areas.
+//! The twelve calls, on lent areas.
 
+use crate::dues;
 use crate::image;
 use crate::item::{
     Entry, Item, MAX_METRIC, MAX_ORDER, Profile, ROW_WORDS, Row, Slot, Space, check_day, check_measures, check_tag,
@@ -117,6 +118,15 @@ pub fn look_up(rows: &[Row], tag: u64) -> Result<(u32, Item), Refused> {
     check_tag(tag)?;
     let (k, slot) = table.find(tag).ok_or(NOT_LIVE)?;
     Ok((k as u32, table.buckets[k].slots[slot].item()))
+}
+
+/// Writes what each listed tag pays and gives the total.
+pub fn dues(rows: &[Row], tags: &[u64], area: &mut [u32]) -> Result<u64, Refused> {
+    let table = Table::open(rows, |_| true)?;
+    let weight = |tag| table.find(tag).map(|(k, slot)| table.buckets[k].slots[slot].profile.measures[0]);
+    let dues = dues::dues(tags, area.len(), weight)?;
+    area[..dues.len()].copy_from_slice(&dues);
+    Ok(dues::total(&dues))
 }
 
 /// All within the radius that are not of a day before the first.

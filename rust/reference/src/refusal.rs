@@ -38,6 +38,8 @@ pub const BAD_DAY: u32 = 33;
 pub const BAD_NAME: u32 = 34;
 /// Nothing was saved under the name.
 pub const NOT_SAVED: u32 = 35;
+/// A listed item weighs below 0, or the list is too long.
+pub const NO_DUES: u32 = 39;
 
 /// A refusal is an error by its number.
 pub type Refused = u32;

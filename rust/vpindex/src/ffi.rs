@@ -71,6 +71,13 @@ pub struct ListRead {
     pub distances: u32,
 }
 
+#[repr(C)]
+#[derive(Clone, Copy, Debug, PartialEq, Eq)]
+pub struct Dues {
+    pub refusal: u32,
+    pub total: u64,
+}
+
 mod raw {
     use super::*;
 
@@ -136,6 +143,14 @@ mod raw {
             states_bytes: usize,
             name: u32,
         ) -> u32;
+        pub fn vpindex_dues(
+            table: *const Row,
+            table_rows: usize,
+            tags: *const u64,
+            tag_count: usize,
+            dues: *mut u32,
+            dues_numbers: usize,
+        ) -> Dues;
     }
 }
 
@@ -187,4 +202,9 @@ pub fn save(table: &[Row], states: &mut [u8], name: u32) -> Written {
 
 pub fn restore(table: &mut [Row], states: &[u8], name: u32) -> u32 {
     unsafe { raw::vpindex_restore(table.as_mut_ptr(), table.len(), states.as_ptr(), states.len(), name) }
+}
+
+pub fn dues(table: &[Row], tags: &[u64], dues: &mut [u32]) -> Dues {
+    let (rows, listed, numbers) = (table.len(), tags.len(), dues.len());
+    unsafe { raw::vpindex_dues(table.as_ptr(), rows, tags.as_ptr(), listed, dues.as_mut_ptr(), numbers) }
 }

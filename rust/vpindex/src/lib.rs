@@ -30,6 +30,7 @@
 #[doc = include_str!("../../../README.md")]
 struct Readme;
 
+mod dues;
 #[doc(hidden)]
 pub mod ffi;
 mod hits;
@@ -39,6 +40,7 @@ mod states;
 mod table;
 mod values;
 
+pub use dues::{Cents, Dues};
 pub use hits::{Hit, Hits};
 pub use list::{ListRead, ListRefusal};
 pub use refusal::Refusal;

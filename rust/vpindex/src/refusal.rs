@@ -17,7 +17,7 @@ pub enum Refusal {
     BadMetric,
     /// The nearest 0 items were asked for.
     NoCount,
-    /// The result area is shorter than the reply, or the states have no room for the snapshot.
+    /// The result or dues area is shorter than the reply, or the states have no room for the snapshot.
     NoRoom,
     /// The image's length is wrong, or past the part of the states that it is in.
     BadLength,
@@ -25,7 +25,7 @@ pub enum Refusal {
     BadImage,
     /// The tag is in the table.
     AlreadyLive,
-    /// The tag is not in the table.
+    /// The tag, or a listed one, is not in the table.
     NotLive,
     /// The table holds as many items as its order allows.
     Full,
@@ -45,6 +45,8 @@ pub enum Refusal {
     BadName,
     /// Nothing was saved under the name.
     NotSaved,
+    /// A listed item weighs below 0, or the list has more than 4,096 tags.
+    NoDues,
     /// A refusal by a number that this crate does not know: the archive is newer.
     Other(u32),
 }
@@ -52,7 +54,7 @@ pub enum Refusal {
 use Refusal::*;
 
 impl Refusal {
-    const KNOWN: [Refusal; 19] = [
+    const KNOWN: [Refusal; 20] = [
         BadTag,
         BadMeasure,
         BadOrder,
@@ -72,6 +74,7 @@ impl Refusal {
         BadDay,
         BadName,
         NotSaved,
+        NoDues,
     ];
 
     /// The number by which the archive's calls say it.
@@ -95,7 +98,7 @@ impl Refusal {
             BadOrder => (3, "the order is above 12"),
             BadMetric => (4, "there is no metric of this number"),
             NoCount => (5, "the nearest 0 items were asked for"),
-            NoRoom => (6, "the result area is shorter than the reply, or the states have no room for the snapshot"),
+            NoRoom => (6, "the result or dues area is too short for the reply, or the states for the snapshot"),
             BadLength => (7, "the image's length is wrong, or past the part of the states that it is in"),
             BadImage => (8, "the image's fields or trees break a rule"),
             AlreadyLive => (20, "the tag is in the table already"),
@@ -113,6 +116,7 @@ impl Refusal {
             BadDay => (33, "the day is 0"),
             BadName => (34, "the name is not 1 to 8"),
             NotSaved => (35, "nothing was saved under the name"),
+            NoDues => (39, "a listed item weighs below 0, or the list has more than 4,096 tags"),
             Other(number) => (number, "a refusal that this crate does not know"),
         }
     }
@@ -138,12 +142,12 @@ mod tests {
     #[test]
     fn numbers() {
         assert_eq!(Refusal::check(0), Ok(()));
-        for number in (1..=8).chain(20..=24).chain(30..=35) {
+        for number in (1..=8).chain(20..=24).chain(30..=35).chain([39]) {
             let refusal = Refusal::check(number).expect_err("not 0");
             assert_eq!(refusal.number(), number);
             assert_ne!(refusal, Other(number));
         }
-        for number in [9, 19, 25, 29, 36, u32::MAX] {
+        for number in [9, 19, 25, 29, 36, 38, 40, u32::MAX] {
             assert_eq!(Refusal::check(number), Err(Other(number)));
         }
         assert_eq!(Other(36).to_string(), "a refusal that this crate does not know: 36");

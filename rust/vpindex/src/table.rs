@@ -1,7 +1,7 @@
 //! The table, with the areas that its calls are lent.
 
 use crate::list::{self, ListRead, ListRefusal};
-use crate::{Day, Hits, Metric, Name, Order, Profile, Refusal, States, Tag, Weights, ffi};
+use crate::{Cents, Day, Dues, Hits, Metric, Name, Order, Profile, Refusal, States, Tag, Weights, ffi};
 
 /// What an add did.
 #[derive(Clone, Copy, Debug, PartialEq, Eq)]
@@ -25,8 +25,8 @@ pub struct LookedUp {
 
 /// Items that can be asked for by likeness.
 ///
-/// A table allocates when it is made, and [`Table::image`] what it returns; no other call allocates. The areas of
-/// one of order T are 52·(3·2^T + T + 1) + 16·2^T bytes, some 689 KiB at order 12.
+/// A table allocates when it is made, and [`Table::image`] and [`Table::dues`] what they return; no other call
+/// allocates. The areas of one of order T are 52·(3·2^T + T + 1) + 16·2^T bytes, some 689 KiB at order 12.
 #[derive(Clone, Debug)]
 pub struct Table {
     header: Header,
@@ -185,6 +185,35 @@ impl Table {
         let reply = ffi::nearest(&self.rows, &mut self.result, query.raw(), count, Day::raw_first(first_day));
         Refusal::check(reply.refusal)?;
         Ok(self.hits(reply))
+    }
+
+    /// What these items pay at the gate: each one rate on its whole weight, its first measure as kilos, to the nearest
+    /// cent. Up to 400.00 kg it is 2 cents a kilo, up to 600.00 kg 3, above 4. A tag that is listed twice pays twice.
+    ///
+    /// ```
+    /// use vpindex::{Day, Metric, Order, Profile, Table, Tag};
+    ///
+    /// let mut table = Table::new(Order::new(4)?, Metric::SumOfDifferences);
+    /// let tags = [Tag::new(36, 1)?, Tag::new(36, 2)?];
+    /// table.add(tags[0], &Profile::new([41_250, 12_900, 18_500, 95], [0, 0])?, Day::MIN)?;
+    /// table.add(tags[1], &Profile::new([40_000, 12_700, 18_100, 90], [0, 0])?, Day::MIN)?;
+    ///
+    /// // 412.50 kg at 3 cents a kilo, 400.00 kg at 2
+    /// let dues = table.dues(&tags)?;
+    /// assert_eq!(dues.each.iter().map(|cents| cents.to_string()).collect::<Vec<_>>(), ["12.38", "8.00"]);
+    /// assert_eq!(dues.total.to_string(), "20.38");
+    /// # Ok::<(), vpindex::Refusal>(())
+    /// ```
+    ///
+    /// [`Refusal::NotLive`] if one of them is not there, else [`Refusal::NoDues`] if one weighs below 0 or the list has
+    /// more than 4,096 tags.
+    pub fn dues(&self, tags: &[Tag]) -> Result<Dues, Refusal> {
+        let listed: Vec<u64> = tags.iter().copied().map(u64::from).collect();
+        let mut each = vec![0; listed.len()];
+        let reply = ffi::dues(&self.rows, &listed, &mut each);
+        Refusal::check(reply.refusal)?;
+        let each = each.into_iter().map(|cents| Cents::of(cents.into())).collect();
+        Ok(Dues { each, total: Cents::of(reply.total) })
     }
 
     // of an accepted search
