@@ -119,7 +119,8 @@ int main(void) {
     remove_twice(104);
 
     vpindex_written written = vpindex_write(table, rows, image, sizeof image);
-    if (written.refusal != VPINDEX_ACCEPTED || vpindex_load(loaded, rows, image, written.length) != VPINDEX_ACCEPTED) {
+    if (written.refusal != VPINDEX_ACCEPTED
+        || vpindex_load(loaded, rows, image, written.length).refusal != VPINDEX_ACCEPTED) {
         return 1;
     }
     printf("image: %" PRIu32 " bytes\n", written.length);

@@ -82,9 +82,10 @@ extern "C" {
 
 /* ---- Refusals ----------------------------------------------------------------------------------------------------
  * A refused call returns the number of its refusal, with zeros in every other field of the reply, and changes no area.
- * There are two exceptions: VPINDEX_NO_ROOM from vpindex_range or vpindex_nearest leaves the result area all zero, and
- * vpindex_read_list keeps what it added before the line that it refuses, and says so. Where several conditions hold,
- * the first in the order given at the call is returned. */
+ * There are three exceptions: VPINDEX_NO_ROOM from vpindex_range or vpindex_nearest leaves the result area all zero,
+ * vpindex_read_list keeps what it added before the line that it refuses, and says so, and by the three numbers of a
+ * tree vpindex_load and vpindex_restore name the slot. Where several conditions hold, the first in the order given at
+ * the call is returned. */
 
 #define VPINDEX_ACCEPTED 0
 
@@ -96,11 +97,16 @@ extern "C" {
 #define VPINDEX_NO_COUNT 5               /* nearest with k = 0 */
 #define VPINDEX_NO_ROOM 6                /* the result, dues, image or snapshot is longer than its area or part */
 #define VPINDEX_BAD_LENGTH 7             /* the image's length is wrong, or past the part that it is restored from */
-#define VPINDEX_BAD_IMAGE 8              /* an image of no known form, or its fields or trees break a rule */
+#define VPINDEX_BAD_IMAGE 8              /* an image of no known form, or a field of some slot breaks a rule */
 #define VPINDEX_BAD_WEIGHT 32            /* a weight above 100 */
 #define VPINDEX_BAD_DAY 33               /* an item's day is 0 */
 #define VPINDEX_BAD_NAME 34              /* a name outside 1 to 8 */
 #define VPINDEX_NO_DUES 39               /* a listed item weighs below 0, or more than VPINDEX_MAX_LISTED tags */
+
+/* by a tree of an image, with the slot */
+#define VPINDEX_DUPLICATE_TAG 36         /* an earlier slot of the bucket has the tag, or a live tag an earlier live one */
+#define VPINDEX_MISPLACED_ITEM 37        /* the slot's item is not the one that the tree's layout puts there */
+#define VPINDEX_BAD_THRESHOLD 38         /* the slot's threshold is not the layout's */
 
 /* by the state */
 #define VPINDEX_ALREADY_LIVE 20          /* the tag is in the table */
@@ -158,6 +164,12 @@ typedef struct {
 } vpindex_written;
 
 typedef struct {
+    uint32_t refusal;
+    uint32_t slot;                       /* by VPINDEX_DUPLICATE_TAG, VPINDEX_MISPLACED_ITEM and VPINDEX_BAD_THRESHOLD the
+                                            slot, counted from 0 over all slots of the image; by all others 0 */
+} vpindex_loaded;
+
+typedef struct {
     uint32_t refusal;                    /* of the line that was refused, 0 where none was */
     uint32_t line;                       /* its number, the header being line 1; 0 where none was refused */
     uint32_t added;                      /* items added, by the lines before it */
@@ -185,12 +197,13 @@ uint32_t vpindex_fresh(uint32_t (*table)[VPINDEX_ROW_WORDS], size_t table_rows, 
  * the first row is written, so a refused load changes nothing. Bytes 2 and 3 of an image are the number of its form.
  * Form 2 has the four weights next, a byte each, and a day at the end of each record. Form 1, from before there were
  * days, loads with day 1 in every item; form 0, from before there were weights, with day 1 and weights 1.
- * Returns 0 or a refusal: BAD_LENGTH (under 4 bytes), BAD_ORDER, BAD_METRIC, BAD_IMAGE (form above 2), in forms 1 and 2
- * BAD_LENGTH (weights cut short) and BAD_WEIGHT, BAD_LENGTH (sizes cut short), BAD_TABLE (sizes), BAD_LENGTH (not the
- * length that the sizes give), SHORT_AREA, in form 2 BAD_DAY (in any record, a removed item's too), BAD_IMAGE (tags,
- * measures, marks or trees). */
-uint32_t vpindex_load(uint32_t (*table)[VPINDEX_ROW_WORDS], size_t table_rows, const uint8_t *image,
-                      size_t image_bytes);
+ * Refusals: BAD_LENGTH (under 4 bytes), BAD_ORDER, BAD_METRIC, BAD_IMAGE (form above 2), in forms 1 and 2 BAD_LENGTH
+ * (weights cut short) and BAD_WEIGHT, BAD_LENGTH (sizes cut short), BAD_TABLE (sizes), BAD_LENGTH (not the length that
+ * the sizes give), SHORT_AREA, in form 2 BAD_DAY (in any record, a removed item's too), BAD_IMAGE (tags, measures, marks
+ * and their number, of any slot). Then slot by slot, by bucket from 0 up and as they stand in it, in each slot
+ * DUPLICATE_TAG, MISPLACED_ITEM, BAD_THRESHOLD: the lowest slot that one applies to is named. */
+vpindex_loaded vpindex_load(uint32_t (*table)[VPINDEX_ROW_WORDS], size_t table_rows, const uint8_t *image,
+                            size_t image_bytes);
 
 /* Adds an item that was weighed on this day. The work area's first VPINDEX_WORK_ROWS(order) rows are zero after an
  * accepted call.
@@ -255,11 +268,11 @@ vpindex_written vpindex_save(VPINDEX_READ uint32_t (*table)[VPINDEX_ROW_WORDS], 
 
 /* Makes the table the one that was saved under the name, dead slots too; it may have held anything. The states are only
  * read, so a name can be restored again and again.
- * Returns 0 or a refusal: BAD_NAME, NOT_SAVED (a length of 0, or a part under 4 bytes), BAD_LENGTH (a length past the
- * rest of the part), then those of vpindex_load for the image. Of a part that vpindex_save left, and a table that only
- * these calls changed, SHORT_AREA alone can be returned. */
-uint32_t vpindex_restore(uint32_t (*table)[VPINDEX_ROW_WORDS], size_t table_rows, const uint8_t *states,
-                         size_t states_bytes, uint32_t name);
+ * Refusals: BAD_NAME, NOT_SAVED (a length of 0, or a part under 4 bytes), BAD_LENGTH (a length past the rest of the
+ * part), then those of vpindex_load for the image, with their slot. Of a part that vpindex_save left, and a table that
+ * only these calls changed, SHORT_AREA alone can be returned. */
+vpindex_loaded vpindex_restore(uint32_t (*table)[VPINDEX_ROW_WORDS], size_t table_rows, const uint8_t *states,
+                               size_t states_bytes, uint32_t name);
 
 /* Gives what the items with these tags pay at the gate, in cents: the dues area gets a number for each tag, in their
  * order, and numbers past them keep their content. An item pays one rate on its whole weight, its first measure as

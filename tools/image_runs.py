@@ -85,17 +85,35 @@ def layout(space, slots):
     return [(first, threshold)] + layout(space, left) + layout(space, right)
 
 
-def distinct(tags):
-    return len(set(tags)) == len(tags)
+def fields_stand(live, slots):
+    return all(s.is_valid() for s in slots) and sum(s.mark == LIVE for s in slots) == live
 
 
-def bucket_stands(space, live, slots):
-    return (
-        all(s.is_valid() for s in slots)
-        and sum(s.mark == LIVE for s in slots) == live
-        and distinct([s.tag for s in slots])
-        and layout(space, slots) == [(s, s.threshold) for s in slots]
-    )
+def item(slot):
+    return slot.tag, slot.measures, slot.code, slot.day
+
+
+def slot_refusal(before, bucket, found, laid, threshold):
+    """Of one slot, with all before it and those of its own bucket, beside what the layout puts there."""
+    earlier = [s for s in bucket if s.place < found.place]
+    live = [s for s in before + earlier if s.mark == LIVE and found.mark == LIVE]
+    if found.tag in [s.tag for s in earlier + live]:
+        return 36
+    if item(found) != item(laid):
+        return 37
+    return 0 if found.threshold == threshold else 38
+
+
+def trees_refusal(space, buckets):
+    """The lowest slot that is refused, and by what; 0 and 0 where none is."""
+    before = []
+    for bucket in buckets:
+        for found, (laid, threshold) in zip(bucket, layout(space, bucket)):
+            refusal = slot_refusal(before, bucket, found, laid, threshold)
+            if refusal:
+                return refusal, found.place
+        before = before + bucket
+    return 0, 0
 
 
 def size_stands(k, built, live):
@@ -121,8 +139,8 @@ def buckets_of(sizes, slots):
         at += built
 
 
-def load(rows, image):
-    """The refusal of an image that is loaded into a table of so many rows, 0 where it is accepted."""
+def fields_refusal(rows, image):
+    """The refusal before the trees are looked at of an image that is loaded into a table of so many rows, with its space and buckets where there is none."""
     if len(image) < 4:
         return 7
     order, metric = image[0], image[1]
@@ -154,14 +172,22 @@ def load(rows, image):
     if not all(s.day for s in slots):
         return 33
     buckets = list(buckets_of(sizes, slots))
-    stand = all(bucket_stands(Space(metric, weights), live, slots) for (_, live), slots in zip(sizes, buckets))
-    return 0 if stand and distinct([s.tag for b in buckets for s in b if s.mark == LIVE]) else 8
+    if not all(fields_stand(live, slots) for (_, live), slots in zip(sizes, buckets)):
+        return 8
+    return Space(metric, weights), buckets
+
+
+def load(rows, image):
+    """The refusal of an image that is loaded into a table of so many rows, 0 where it is accepted, and the slot that it is of, 0 where it is of none."""
+    before = fields_refusal(rows, image)
+    return (before, 0) if isinstance(before, int) else trees_refusal(*before)
 
 
 def reply(rows, image):
-    """The refusal; and of an accepted image that its bytes come back, since a table has one image of form 2 only, or those of its translation to form 2."""
-    refusal = load(rows, image)
-    return f" {refusal}" if refusal else " 0=" if image[2] == LAST_FORM else " 0+"
+    """Refusal and slot; and of an accepted image that its bytes come back, since a table has one image of form 2 only, or those of its translation to form 2."""
+    refusal, slot = load(rows, image)
+    told = f" {refusal}:{slot}" if slot else f" {refusal}"
+    return told if refusal else " 0=" if image[2] == LAST_FORM else " 0+"
 
 
 def flipped(image, at, bit):

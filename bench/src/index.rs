@@ -113,6 +113,6 @@ impl Index for Archive {
     }
 
     fn load(&mut self, image: &[u8]) {
-        assert_eq!(ffi::load(&mut self.table, image), 0);
+        assert_eq!(ffi::load(&mut self.table, image).refusal, 0);
     }
 }

@@ -19,9 +19,10 @@ use Rattle.table_rules.specs.LookUp.{lookUpReply}
 use Rattle.table_rules.specs.Search.{rangeReply, resultAfterRange, nearestReply, resultAfterNearest}
 use Rattle.image_rules.specs.declared.Written.{Written}
 use Rattle.image_rules.specs.Write.{writeReply, imageAfterWrite}
-use Rattle.image_rules.specs.Load.{loadRefusal, tableAfterLoad}
+use Rattle.image_rules.specs.declared.Loaded.{Loaded}
+use Rattle.image_rules.specs.Load.{loadReply, tableAfterLoad}
 use Rattle.state_rules.specs.Save.{saveReply, statesAfterSave}
-use Rattle.state_rules.specs.Restore.{restoreRefusal, tableAfterRestore}
+use Rattle.state_rules.specs.Restore.{restoreReply, tableAfterRestore}
 use Rattle.list_rules.specs.declared.ListRead.{ListRead}
 use Rattle.list_rules.specs.ReadList.{readListReply, tableAfterReadList, workAfterReadList}
 use Rattle.dues_rules.specs.declared.Dues.{Dues}
@@ -36,13 +37,13 @@ pub data Begin : Type 0 where
 
 abbrev pub BeginReply : Begin → Type 0
 BeginReply (fresh order space) = ℕ
-BeginReply (load image) = ℕ
-BeginReply (restore states name) = ℕ
+BeginReply (load image) = Loaded
+BeginReply (restore states name) = Loaded
 
 abbrev pub beginReply : (b : Begin) → ℕ → BeginReply b
 beginReply (fresh order space) rows = freshRefusal rows order space
-beginReply (load image) rows = loadRefusal rows image
-beginReply (restore states name) rows = restoreRefusal rows states name
+beginReply (load image) rows = loadReply rows image
+beginReply (restore states name) rows = restoreReply rows states name
 
 abbrev pub tableBegun : Begin → Table → Table
 tableBegun (fresh order space) t = tableAfterFresh order space t

@@ -4,14 +4,14 @@ use Prim.Native.Nat.{ℕ, _+_, _*_}
 use mathlib.Core.Path.{_≡_, refl}
 use mathlib.Core.List.{List, [], _∷_, _++_, map}
 use lib.IntN.{pos, negsuc}
-use lib.ListN.{length, replicate}
+use lib.ListN.{length, set, replicate}
 use Rattle.search_rules.specs.Range.{Entry}
 use Rattle.text_rules.specs.Text.{lineFeed}
 use Rattle.table_rules.specs.LookUp.{noProfile}
 use Rattle.state_rules.specs.Parts.{snapshotOf}
 use Rattle.call_rules.specs.Calls.{Call}
 use Rattle.history.specs.Trace.{Step, Shown, zeroed, shows, overlaid, leftBy, beginShown, changeShown, duesIn, askShown, shown, noSums, plus, imageSums, starting, begunSums, ifAccepted, counted, sumsAfter, stateAfter, shownAt, stateAfterAll, trace}
-use Rattle.history.specs.Trace.Payload.{bare, aWeighing, someEntries, aListRead, someDues}
+use Rattle.history.specs.Trace.Payload.{bare, aSlot, aWeighing, someEntries, aListRead, someDues}
 use Rattle.history.specs.Model.{itemOf, withTag, isIn, with, without, weighedIn, scanned, modelRange, modelNearest, weightOf, weightsIn, canRead, canChange, tagRefusal, itemRefusal, addRefusalOf, removeRefusalOf, fits, questionRefusal, askRefusal, found, paid, answerTo, showsUnless, afterUnless, stopsAt, oneMoreAdded, linesAnswered, listAnswered, imageModel, modelBegun, beginAnswer, changeAnswer, answer, answerAt, modelAfterAll, modelTrace}
 use Rattle.history.specs.History.{before, blankModel}
 use Rattle.history.proofs.Computing.{performed}
@@ -41,7 +41,7 @@ steps =
     ∷ [])
     ++ roomy (removing (1 ∷ 1 ∷ 2 ∷ 3 ∷ []) ++ (write ∷ range (valued 14) 99 0 ∷ fresh 13 (by 0) ∷ []))
     ++ roomy (load oneImage ∷ lookUp (tag 1) ∷ nearest (valued 10) 1 515 ∷ nearest (valued 10) 1 516 ∷ load (oneAs 1 []) ∷ lookUp (tag 1) ∷ [])
-    ++ roomy (load deadImage ∷ load [] ∷ [])
+    ++ roomy (load deadImage ∷ load [] ∷ load (set deadImage 210 1) ∷ [])
     ++ roomy (nearest (valued 13) 2 0 ∷ lookUp (tag 4) ∷ remove (tag 3) ∷ adding 7 (8 ∷ []) ++ (range (valued 0) 99 0 ∷ nearest (valued 90) 2 0 ∷ []))
     ++ roomy (remove (tag 1) ∷ readList (listOf (itemLine 5 35 ∷ itemLine 6 42 ∷ itemLine 2 14 ∷ itemLine 7 49 ∷ [])) 300 ∷ range (valued 0) 99 0 ∷ [])
     ++ (lentOnly 0 0 (readList [] 0)
@@ -57,6 +57,9 @@ steps =
 changed : ℕ → Shown
 changed n = shows n bare
 
+loadedAt : ℕ → ℕ → Shown
+loadedAt n slot = shows n (aSlot slot)
+
 noProfileFor : ℕ → Shown
 unfolding noProfile
 noProfileFor n = shows n (aWeighing noProfile 0)
@@ -71,7 +74,7 @@ finds : List Entry → Shown
 finds entries = shows 0 (someEntries (length entries) entries)
 
 expected : List Shown
-unfolding changed noProfileFor noneFor listed finds valued tag
+unfolding changed loadedAt noProfileFor noneFor listed finds valued tag
 expected =
     -- a full table at the fifth add, and a tag that is live
     map changed (0 ∷ 0 ∷ 0 ∷ 0 ∷ 0 ∷ 22 ∷ 20 ∷ [])
@@ -88,9 +91,9 @@ expected =
     ++ map changed (0 ∷ 21 ∷ 0 ∷ 0 ∷ 0 ∷ [])
     ++ (finds ((tag 4 ∷ 14 ∷ []) ∷ []) ∷ changed 3 ∷ [])
     -- a load in the place of the table: its item has its day, so it is found from that day on and not from the next; from form 1 it has day 1
-    ++ (changed 0 ∷ shows 0 (aWeighing (valued 10) 515) ∷ finds ((tag 1 ∷ 0 ∷ []) ∷ []) ∷ finds [] ∷ changed 0 ∷ shows 0 (aWeighing (valued 10) 1) ∷ [])
-    -- another load, and one refused
-    ++ map changed (0 ∷ 7 ∷ [])
+    ++ (loadedAt 0 0 ∷ shows 0 (aWeighing (valued 10) 515) ∷ finds ((tag 1 ∷ 0 ∷ []) ∷ []) ∷ finds [] ∷ loadedAt 0 0 ∷ shows 0 (aWeighing (valued 10) 1) ∷ [])
+    -- another load, and two refused, one of them at its last slot
+    ++ (loadedAt 0 0 ∷ loadedAt 7 0 ∷ loadedAt 38 3 ∷ [])
     ++ (finds ((tag 2 ∷ 0 ∷ []) ∷ (tag 3 ∷ 0 ∷ []) ∷ []) ∷ noProfileFor 21 ∷ map changed (0 ∷ 0 ∷ []))
     ++ (finds ((tag 1 ∷ 10 ∷ []) ∷ (tag 2 ∷ 13 ∷ []) ∷ (tag 8 ∷ 56 ∷ []) ∷ []) ∷ finds ((tag 8 ∷ 34 ∷ []) ∷ (tag 2 ∷ 77 ∷ []) ∷ []) ∷ [])
     -- a herd list whose line 4 has a live tag: the two lines before it are in, the one after it is not
@@ -166,14 +169,14 @@ weighedSteps =
 
 -- 2·3 + 5 + 0 + 100; nothing but the measure of weight 0 differs; the larger of 3·10 and 25; and 10, 13 and 13 as they are
 weighedShow : List Shown
-unfolding changed finds tag
+unfolding changed loadedAt finds tag
 weighedShow =
     map changed (0 ∷ 0 ∷ 0 ∷ 32 ∷ [])
     ++ (finds ((tag 1 ∷ 0 ∷ []) ∷ (tag 2 ∷ 111 ∷ []) ∷ [])
     ∷ finds ((tag 2 ∷ 0 ∷ []) ∷ [])
-    ∷ changed 0
+    ∷ loadedAt 0 0
     ∷ finds ((tag 1 ∷ 30 ∷ []) ∷ [])
-    ∷ changed 0
+    ∷ loadedAt 0 0
     ∷ finds ((tag 1 ∷ 10 ∷ []) ∷ (tag 2 ∷ 13 ∷ []) ∷ (tag 3 ∷ 13 ∷ []) ∷ [])
     ∷ [])
 
@@ -209,12 +212,13 @@ savedSteps =
     ++ roomy (restore thirdSaved 3 ∷ nearest (valued 13) 2 0 ∷ lookUp (tag 4) ∷ [])
 
 savedShow : List Shown
-unfolding changed noProfileFor finds tag
+unfolding changed loadedAt noProfileFor finds tag
 savedShow =
-    map changed (0 ∷ 0 ∷ 0 ∷ 0 ∷ 34 ∷ 35 ∷ 7 ∷ [])
+    map changed (0 ∷ 0 ∷ 0 ∷ 0 ∷ [])
+    ++ (loadedAt 34 0 ∷ loadedAt 35 0 ∷ loadedAt 7 0 ∷ [])
     ++ (finds ((tag 1 ∷ 0 ∷ []) ∷ (tag 9 ∷ 5 ∷ []) ∷ [])
-    ∷ changed 23
-    ∷ changed 0
+    ∷ loadedAt 23 0
+    ∷ loadedAt 0 0
     ∷ finds ((tag 2 ∷ 0 ∷ []) ∷ (tag 3 ∷ 0 ∷ []) ∷ [])
     ∷ noProfileFor 21
     ∷ [])

@@ -25,8 +25,9 @@ use Rattle.image_rules.specs.Load.{loadRefusal, liveRows, loadedTable, tableAft
 use Rattle.list_rules.specs.ReadList.{Reading, stopped, oneMore, readListReply, tableAfterReadList}
 use Rattle.image_rules.proofs.Accepting.{accepted}
 use Rattle.state_rules.specs.Parts.{partOf, savedImage}
+use Rattle.state_rules.specs.Restore.{restoreRefusal}
 use Rattle.state_rules.proofs.Restored.{restored, image-all}
-use Rattle.image_rules.proofs.Loaded.{length-bucket-in, loaded}
+use Rattle.image_rules.proofs.LoadedTable.{length-bucket-in, loaded}
 use Rattle.call_rules.specs.Calls.{Begin, beginReply, tableBegun, Change, changeReply, tableChanged, Call, Areas, replyTo, tableAfter}
 use Rattle.call_rules.specs.Calls.Begin.{fresh, load, restore}
 use Rattle.call_rules.specs.Calls.Change.{add, remove, readList}
@@ -103,7 +104,7 @@ load-paid left t image bytes e =
     subst (λ (n : ℕ). Paid (leftBy left (elim n as (λ _. Table) [ zero ↦ loadedTable image t | suc j ↦ t ])) (imageSums image)) (sym e) (loaded-paid left t image bytes e)
 
 pub begun-paid : (left t : Table) (b : Begin) → IsBegin b → beginShown b (beginReply b (length t)) .refusal ≡ 0 → Paid (leftBy left (tableBegun b t)) (starting b)
-unfolding beginShown tableAfterFresh starting
+unfolding beginShown tableAfterFresh starting loadRefusal restoreRefusal
 begun-paid left t (fresh order space) is e =
     subst (λ (n : ℕ). Paid (leftBy left (elim n as (λ _. Table) [ zero ↦ freshTable order space t | suc j ↦ t ])) (starting (fresh order space))) (sym e)
     (fresh-paid left t order space (is .1) e)

@@ -31,8 +31,9 @@ use Rattle.table_rules.proofs.Live.{allLive}
 use Rattle.image_rules.specs.Load.{loadRefusal, loadedTable, tableAfterLoad}
 use Rattle.image_rules.proofs.Accepting.{accepted}
 use Rattle.image_rules.proofs.ReadTests.{reads-live}
-use Rattle.image_rules.proofs.Loaded.{loaded, loaded-reads}
+use Rattle.image_rules.proofs.LoadedTable.{loaded, loaded-reads}
 use Rattle.state_rules.specs.Parts.{partOf, savedImage}
+use Rattle.state_rules.specs.Restore.{restoreRefusal}
 use Rattle.state_rules.proofs.Restored.{restored, restore-left, image-all}
 use Rattle.call_rules.specs.Calls.{Begin, beginReply, tableBegun}
 use Rattle.call_rules.specs.Calls.Begin.{fresh, load, restore}
@@ -173,7 +174,7 @@ after-load-matches image t bytes e =
     subst (λ (n : ℕ). Matches (elim n as (λ _. Table) [ zero ↦ loadedTable image t | suc j ↦ t ]) (imageModel image)) (sym e) (load-matches image t bytes e)
 
 pub begin-matches : (b : Begin) → IsBegin b → (t : Table) → beginShown b (beginReply b (length t)) .refusal ≡ 0 → Matches (tableBegun b t) (modelBegun b)
-unfolding beginShown modelBegun
+unfolding beginShown modelBegun loadRefusal restoreRefusal
 begin-matches (fresh order space) is t e = fresh-matches order space (is .1 .weights .four) t e
 begin-matches (load image) is t e = after-load-matches image t is e
 begin-matches (restore states name) is t e =
@@ -182,7 +183,7 @@ begin-matches (restore states name) is t e =
     subst (λ (u : Table). Matches u (imageModel image)) (sym (as-load .1)) (after-load-matches image t (image-all states name (λ b. b < 2 ^ 8) (is .0)) (as-load .0))
 
 pub begin-refused : (b : Begin) (t : Table) (n : ℕ) → beginShown b (beginReply b (length t)) .refusal ≡ suc n → tableBegun b t ≡ t
-unfolding beginShown tableAfterFresh tableAfterLoad
+unfolding beginShown tableAfterFresh tableAfterLoad loadRefusal restoreRefusal
 begin-refused (fresh order space) t n e = ap (λ (k : ℕ). elim k as (λ _. Table) [ zero ↦ freshTable order space t | suc j ↦ t ]) e
 begin-refused (load image) t n e = ap (λ (k : ℕ). elim k as (λ _. Table) [ zero ↦ loadedTable image t | suc j ↦ t ]) e
 begin-refused (restore states name) t n e = restore-left states name t n e

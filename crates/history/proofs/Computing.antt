@@ -1,7 +1,7 @@
 -- A call's outcome with every definition that it goes by opened, so that antt computes it. Proofs about the definitions open one at a time;
 -- the worked lines, which are runs, open them all, and this is the one place that lists them.
 use mathlib.Core.List.{flatten}
-use Rattle.lists.specs.Lists.{countFrom, total, last, select, every, alike, distinct, sameNumbers}
+use Rattle.lists.specs.Lists.{countFrom, total, last, select, every, alike, sameNumbers}
 use Rattle.metric_rules.specs.Row.{rowWidth, tagAt, measuresAt, codeAt, thresholdAt, markAt, dayAt, zeroRow, word, wide, words, tagOf, profileOf, thresholdOf, markOf, dayOf, isLive, mayReport, measure, codeWord, rowOf, withThreshold, withMark}
 use Rattle.metric_rules.specs.Validity.{nationals, countryOf, nationalOf, lastCountry, lastNational, validTag, measureLimit, validMeasure, validMeasures}
 use Rattle.metric_rules.specs.Distance.{mostDistance, saturated, gap, weight, weighted, measureDistance, differing, codeDistance, largest, worstDistance, distanceBy, distance, metricAt, weightsAt, weightsOf, spaceOf, weightsOne, lastMetric, validMetric, mostWeight, validWeights}
@@ -21,10 +21,11 @@ use Rattle.table_rules.specs.Search.{bucketsDown, rangeMet, rangeAnswer, neares
 use Rattle.image_rules.specs.Bytes.{bytesOf, numberOf, lastForm, validForm, writtenForm, startFields, weightFields, headerFields, tagFields, dayFields, recordFields, bytesOfFields, startBytes, headerBytes, tagBytes, recordBytes, sizeBytes, pairBytes, sizesEnd, tagWords, imageLength}
 use Rattle.image_rules.specs.Write.{headerBytesOf, sizesOf, tagsOf, recordsOf, allSlots, imageAs, imageOf, writeRefusal, writeReply, imageAfterWrite}
 use Rattle.image_rules.specs.Read.{numberAt, fieldsAt, startNumbers, orderIn, formIn, weightsAs, spaceIn, builtIn, liveIn, slotsBefore, slotsIn, dayAs, rowIn, bucketIn}
-use Rattle.image_rules.specs.Load.{fieldsPass, bucketPasses, daysPass, liveRows, slotsPass, loadRefusal, loadedTable, tableAfterLoad}
+use Rattle.image_rules.specs.Trees.{noneHas, tagIsNew, sameItem, placeRefusal, slotRefusal, refusalsFrom, bucketRefusals, slotRefusals, firstRefused, treesReply}
+use Rattle.image_rules.specs.Load.{fieldsPass, bucketFieldsPass, allFieldsPass, daysPass, liveRows, fieldsRefusal, treesIn, loadReply, loadRefusal, loadedTable, tableAfterLoad}
 use Rattle.state_rules.specs.Parts.{validName, partBytes, partStart, partOf, snapshotOf, behindLength, savedLength, savedImage}
 use Rattle.state_rules.specs.Save.{saveRefusal, saveReply, statesAfterSave}
-use Rattle.state_rules.specs.Restore.{holdsSnapshot, partRefusal, restoreRefusal, tableAfterRestore}
+use Rattle.state_rules.specs.Restore.{holdsSnapshot, partRefusal, nameRefusal, restoreReply, restoreRefusal, tableAfterRestore}
 use Rattle.text_rules.specs.Text.{onto, parted, partAt, partsIn, digitOf, isDigit, isNumeral, numeralAfter, numeral}
 use Rattle.text_rules.specs.Fields.{isNegative, unsigned, isMeasure, hundredths, measureIn}
 use Rattle.list_rules.specs.Lines.{listHeader, hasHeader, isItemLine, itemTag, itemProfile, lineOf, linesFrom, linesOf, itemLines}
@@ -56,8 +57,9 @@ unfolding
     resultAfterRange nearestReply resultAfterNearest bytesOf numberOf lastForm validForm writtenForm startFields weightFields headerFields tagFields dayFields recordFields bytesOfFields startBytes headerBytes tagBytes
     recordBytes sizeBytes pairBytes sizesEnd tagWords imageLength headerBytesOf sizesOf tagsOf recordsOf allSlots imageAs imageOf writeRefusal
     writeReply imageAfterWrite numberAt fieldsAt startNumbers orderIn formIn weightsAs spaceIn builtIn liveIn slotsBefore slotsIn dayAs rowIn bucketIn
-    distinct fieldsPass bucketPasses daysPass liveRows slotsPass loadRefusal loadedTable tableAfterLoad validName partBytes partStart partOf snapshotOf behindLength savedLength savedImage
-    saveRefusal saveReply statesAfterSave holdsSnapshot partRefusal restoreRefusal tableAfterRestore onto parted partAt partsIn digitOf isDigit
+    fieldsPass bucketFieldsPass allFieldsPass daysPass liveRows noneHas tagIsNew sameItem placeRefusal slotRefusal refusalsFrom bucketRefusals slotRefusals firstRefused treesReply treesIn
+    fieldsRefusal loadReply loadRefusal loadedTable tableAfterLoad validName partBytes partStart partOf snapshotOf behindLength savedLength savedImage
+    saveRefusal saveReply statesAfterSave holdsSnapshot partRefusal nameRefusal restoreReply restoreRefusal tableAfterRestore onto parted partAt partsIn digitOf isDigit
     isNumeral numeralAfter numeral isNegative unsigned isMeasure hundredths measureIn listHeader hasHeader isItemLine itemTag itemProfile lineOf
     linesFrom linesOf itemLines stopped oneMore reading listReading readListReply tableAfterReadList workAfterReadList board within rateBy duesAt duesBy
     weightAt isFound isWeight pays weightsRefusal totalOf weightsReply areaAfter duesRefusal duesReply duesAfter

@@ -141,7 +141,7 @@ spoiled =
     ∷ loadRefusal 10 deadImage
     ∷ []
 
-refused : spoiled ≡ 0 ∷ 8 ∷ 8 ∷ 8 ∷ 8 ∷ 8 ∷ 8 ∷ 7 ∷ 23 ∷ []
+refused : spoiled ≡ 0 ∷ 36 ∷ 37 ∷ 38 ∷ 8 ∷ 8 ∷ 8 ∷ 7 ∷ 23 ∷ []
 unfolding spoiled
 refused = refl
 

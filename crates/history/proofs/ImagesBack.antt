@@ -12,11 +12,12 @@ use Rattle.metric_rules.specs.Row.{Row}
 use Rattle.table_rules.specs.Geometry.{room, headerRow, sizesRow, firstSlot, tableRows}
 use Rattle.table_rules.specs.Table.{Table, rowAt, orderOf, builtOf, slotsOf, pairRow, headerOf}
 use Rattle.image_rules.specs.Write.{imageOf}
-use Rattle.image_rules.specs.Load.{loadRefusal, tableAfterLoad}
+use Rattle.image_rules.specs.declared.Loaded.{Loaded}
+use Rattle.image_rules.specs.Load.{loadReply, loadRefusal, tableAfterLoad}
 use Rattle.image_rules.proofs.ReadBack.{ReadsBack, reads-back}
 use Rattle.image_rules.proofs.Accepting.{accepts}
 use Rattle.image_rules.proofs.Lengths.{length-image-built, image-below}
-use Rattle.image_rules.proofs.Loaded.{load-reads, accepted-image}
+use Rattle.image_rules.proofs.LoadedTable.{load-reads, accepted-image}
 use Rattle.history.specs.Images.{imageSize, writing, imageWritten, LoadsBack}
 use Rattle.history.specs.Demands.{AcceptedGivesBack}
 use Rattle.history.proofs.Invariant.{Invariant}
@@ -73,8 +74,12 @@ module _ {t u : Table} {image : List ℕ} (invariant : Invariant t) (invariant�
 
 -- the image of a sound table is accepted into any area that is long enough, and loads as the table's rows
 module _ {t : Table} (invariant : Invariant t) (area : Table) (roomy : tableRows (orderOf t) ≤ length area) where
+  pub image-replied : loadReply (length area) (imageOf t) ≡ record { refusal = 0; slot = 0 }
+  image-replied = accepts (length area) (imageOf t) (invariant-accepted invariant (length area) roomy)
+
   pub image-accepted : loadRefusal (length area) (imageOf t) ≡ 0
-  image-accepted = accepts (length area) (imageOf t) (invariant-accepted invariant (length area) roomy)
+  unfolding loadRefusal
+  image-accepted = ap (λ (r : Loaded). r .refusal) image-replied
 
   pub image-rows : take (tableRows (orderOf t)) (tableAfterLoad (imageOf t) area) ≡ take (tableRows (orderOf t)) t
   image-rows =
@@ -97,12 +102,13 @@ module _ {t : Table} (invariant : Invariant t) (area other : Table) (image : Lis
   loads-back =
       record {
         replied = writing-reply invariant area rows image fits ∙ ap (λ (n : ℕ). record { refusal = 0; length = n }) (image-size invariant);
-        accepted = ap (loadRefusal (length other)) bytes-written ∙ image-accepted invariant other roomy;
+        accepted = ap (loadReply (length other)) bytes-written ∙ image-replied invariant other roomy;
         rows = ap (λ (bytes : List ℕ). take (tableRows (orderOf t)) (tableAfterLoad bytes other)) bytes-written ∙ image-rows invariant other roomy;
       }
 
 -- an accepted image is given back by writing the loaded table as a call
 pub accepted-gives-back : AcceptedGivesBack
+unfolding loadRefusal
 accepted-gives-back bytes other area image below form h rows long =
     let t = tableAfterLoad bytes other in
     let invariant : Invariant t = load-invariant bytes other below h in

@@ -18,7 +18,7 @@ use Rattle.table_rules.proofs.Live.{slots-length}
 use Rattle.image_rules.specs.Bytes.{lastForm, validForm, writtenForm, imageLength}
 use Rattle.image_rules.specs.Write.{imageOf}
 use Rattle.image_rules.specs.Read.{formIn, orderIn, slotsIn}
-use Rattle.image_rules.specs.Load.{bucketPasses}
+use Rattle.image_rules.proofs.SlotsPass.{bucketPasses}
 use Rattle.image_rules.proofs.EachBucket.{buckets-all}
 use Rattle.image_rules.proofs.ReadBack.{FitsImage, reads-back, form-back}
 use Rattle.image_rules.proofs.ReadTests.{reads-slots, reads-sizes, reads-days, reads-buckets}

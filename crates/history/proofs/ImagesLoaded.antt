@@ -26,14 +26,15 @@ use Rattle.table_rules.proofs.Owned.{all-own}
 use Rattle.table_rules.proofs.RowsFit.{zero-row-fits, pair-row-fits, header-fits}
 use Rattle.table_rules.proofs.Puts.{Holds, held-built, held-live, held-slots, held-zeros}
 use Rattle.image_rules.specs.Read.{orderIn, spaceIn, liveIn, bucketIn}
-use Rattle.image_rules.specs.Load.{fieldsPass, bucketPasses, loadRefusal, loadedTable, tableAfterLoad}
+use Rattle.image_rules.specs.Load.{fieldsPass, loadRefusal, loadedTable, tableAfterLoad}
+use Rattle.image_rules.proofs.SlotsPass.{bucketPasses}
 use Rattle.image_rules.proofs.Blocks.{all-at}
 use Rattle.image_rules.proofs.EachBucket.{buckets-all}
 use Rattle.image_rules.proofs.Lengths.{bucket-in-fits, bucket-days-fit, built-in-fits, live-in-fits}
 use Rattle.image_rules.proofs.Accepting.{Accepted, accepted}
 use Rattle.image_rules.proofs.ReadBack.{ReadsBack}
 use Rattle.image_rules.proofs.ReadTests.{reads-sizes, reads-days, reads-buckets}
-use Rattle.image_rules.proofs.Loaded.{length-bucket-in, Loaded, loaded, loaded-reads, table-after-load}
+use Rattle.image_rules.proofs.LoadedTable.{length-bucket-in, IsLoaded, loaded, loaded-reads, table-after-load}
 use Rattle.history.proofs.Invariant.{Weighed, Invariant}
 
 -- what load tests of a bucket, one by one
@@ -69,7 +70,7 @@ module _ (image : List ℕ) (area : Table) (bytes : All (λ b. b < 2 ^ 8) image)
   abbrev u : Table
   u = loadedTable image area
 
-  here : Loaded image area u
+  here : IsLoaded image area u
   here = loaded image area ok
 
   reads : ReadsBack u image

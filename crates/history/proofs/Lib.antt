@@ -8,6 +8,7 @@ pub mod Removals
 pub mod Searches
 pub mod Refused
 pub mod Imaged
+pub mod FirstFaults
 pub mod Nationals
 pub mod Alike
 mod Invariant

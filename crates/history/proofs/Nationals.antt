@@ -33,11 +33,11 @@ unfolding replies after scratch valued imageOf holding
 asked t =
     replies (after scratch (fresh 0 (by 0) ∷ [])) (add t (valued 1) 1 ∷ lookUp t ∷ remove t ∷ load (imageOf (holding t)) ∷ [])
 
-accepted : map (λ c. asked (last c)) countries ≡ map (λ c. (0 ∷ 0 ∷ 0 ∷ []) ∷ (0 ∷ 0 ∷ 1 ∷ []) ∷ (0 ∷ 0 ∷ []) ∷ (0 ∷ []) ∷ []) countries
+accepted : map (λ c. asked (last c)) countries ≡ map (λ c. (0 ∷ 0 ∷ 0 ∷ []) ∷ (0 ∷ 0 ∷ 1 ∷ []) ∷ (0 ∷ 0 ∷ []) ∷ (0 ∷ 0 ∷ []) ∷ []) countries
 unfolding countries asked last
 accepted = refl
 
-refused : map (λ c. asked (past c)) countries ≡ map (λ c. (1 ∷ 0 ∷ 0 ∷ []) ∷ (1 ∷ 0 ∷ 0 ∷ []) ∷ (1 ∷ 0 ∷ []) ∷ (8 ∷ []) ∷ []) countries
+refused : map (λ c. asked (past c)) countries ≡ map (λ c. (1 ∷ 0 ∷ 0 ∷ []) ∷ (1 ∷ 0 ∷ 0 ∷ []) ∷ (1 ∷ 0 ∷ []) ∷ (8 ∷ 0 ∷ []) ∷ []) countries
 unfolding countries asked past
 refused = refl
 

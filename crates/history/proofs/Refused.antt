@@ -1,5 +1,5 @@
--- Every refusal number of RULES 14.1 at least once, with what the areas then hold: a refusal replies its number and zeros and leaves every area as it
--- was, but 6 on range and nearest leaves the result area all zero. Each is a run that antt computes.
+-- Every refusal number of RULES 14.1 at least once, with what the areas then hold: a refusal replies its number and zeros, but for a load's slot, and leaves every area
+-- as it was, but 6 on range and nearest leaves the result area all zero. Each is a run that antt computes.
 use Prim.Native.Nat.{ℕ, _+_, _-_, _^_}
 use mathlib.Core.Path.{_≡_, refl}
 use mathlib.Core.List.{List, [], _∷_, _++_, map}
@@ -12,6 +12,7 @@ use Rattle.table_rules.specs.Table.{Table, rowAt, pairRow, putSizes}
 use Rattle.table_rules.specs.LookUp.{notFound, lookUpReply}
 use Rattle.call_rules.specs.Calls.{Call, Areas}
 use Rattle.history.proofs.Computing.{performed}
+use Rattle.history.proofs.Imaged.{deadImage}
 use Rattle.history.proofs.Running.{fresh, load, restore, write, save, add, remove, readList, lookUp, range, nearest, dues, weighing, by, tag, valued, areasFor, areaRows, replyNumbers, listOf, itemLine, table}
 
 -- the table of the four items, written out, so that no try works it out again; and that it is theirs
@@ -77,6 +78,10 @@ noImage n = n ∷ 0 ∷ []
 noDues : ℕ → List ℕ
 noDues n = n ∷ 0 ∷ []
 
+-- a load or a restore refused, at a slot or at none
+noLoad : ℕ → ℕ → List ℕ
+noLoad n slot = n ∷ slot ∷ []
+
 -- a herd list refused at a line with nothing added
 noList : ℕ → ℕ → List ℕ
 noList n line = n ∷ line ∷ 0 ∷ 0 ∷ []
@@ -111,7 +116,7 @@ oneRecord : ℕ → List ℕ → List ℕ
 oneRecord form bytes = (0 ∷ 0 ∷ form ∷ 0 ∷ 1 ∷ 1 ∷ 1 ∷ 1 ∷ 1 ∷ 0 ∷ 1 ∷ 0 ∷ []) ++ bytes
 
 tries : List Try
-unfolding on laid tag valued below headed weighted sized misMarked weighing1 oneRecord listOf itemLine
+unfolding on laid tag valued below headed weighted sized misMarked weighing1 oneRecord deadImage listOf itemLine
 tries =
     on laid (add (10 ^ 12) (valued 1_000_001) 1)
     ∷ on laid (add 999_999_999_999 (valued 1_000_001) 0)
@@ -146,6 +151,9 @@ tries =
     ∷ on [] (load (oneRecord 2 (replicate 50 0)))
     ∷ on laid (load (oneRecord 2 (replicate 50 0)))
     ∷ on laid (load (oneRecord 2 (replicate 49 0 ++ (1 ∷ []))))
+    ∷ on laid (load (set deadImage 28 3))
+    ∷ on laid (load (set (set deadImage 20 2) 28 1))
+    ∷ on laid (load (set deadImage 210 1))
     ∷ on laid (add (tag 4) (valued 0) 0)
     ∷ on laid (add (tag 4) (valued 0) 1)
     ∷ on laid (remove (tag 5))
@@ -187,6 +195,7 @@ tries =
     ∷ on [] (restore (set (replicate 32 0) 28 1) 8)
     ∷ on [] (restore (replicate 24 0 ++ (4 ∷ 0 ∷ 0 ∷ 0 ∷ 13 ∷ 0 ∷ 0 ∷ 0 ∷ []) ++ replicate 39 0) 4)
     ∷ on laid (restore (replicate 24 0 ++ (4 ∷ 0 ∷ 0 ∷ 0 ∷ 0 ∷ 0 ∷ 0 ∷ 0 ∷ []) ++ replicate 39 0) 4)
+    ∷ on laid (restore ((220 ∷ 0 ∷ 0 ∷ 0 ∷ []) ++ set deadImage 210 1 ++ replicate 1568 0) 1)
     ∷ on [] (dues (0 ∷ []))
     ∷ on (headed 2 3) (dues (0 ∷ []))
     ∷ on (take 10 laid) (dues (0 ∷ []))
@@ -201,7 +210,7 @@ tries =
 
 -- in the order of the tries: the first number that applies
 expected : List (List ℕ)
-unfolding number noAdd noRemove noProfile noSearch noImage noList noDues
+unfolding number noAdd noRemove noProfile noSearch noImage noLoad noList noDues
 expected =
     noAdd 2
     ∷ noAdd 1
@@ -216,26 +225,29 @@ expected =
     ∷ number 23
     ∷ noSearch 5
     ∷ noImage 6
-    ∷ number 7
-    ∷ number 3
-    ∷ number 4
-    ∷ number 8
-    ∷ number 8
-    ∷ number 7
-    ∷ number 7
-    ∷ number 32
-    ∷ number 32
-    ∷ number 7
-    ∷ number 7
-    ∷ number 24
-    ∷ number 7
-    ∷ number 23
-    ∷ number 8
-    ∷ number 8
-    ∷ number 7
-    ∷ number 23
-    ∷ number 33
-    ∷ number 8
+    ∷ noLoad 7 0
+    ∷ noLoad 3 0
+    ∷ noLoad 4 0
+    ∷ noLoad 8 0
+    ∷ noLoad 8 0
+    ∷ noLoad 7 0
+    ∷ noLoad 7 0
+    ∷ noLoad 32 0
+    ∷ noLoad 32 0
+    ∷ noLoad 7 0
+    ∷ noLoad 7 0
+    ∷ noLoad 24 0
+    ∷ noLoad 7 0
+    ∷ noLoad 23 0
+    ∷ noLoad 8 0
+    ∷ noLoad 8 0
+    ∷ noLoad 7 0
+    ∷ noLoad 23 0
+    ∷ noLoad 33 0
+    ∷ noLoad 8 0
+    ∷ noLoad 36 2
+    ∷ noLoad 37 0
+    ∷ noLoad 38 3
     ∷ noAdd 33
     ∷ noAdd 20
     ∷ noRemove 21
@@ -270,13 +282,14 @@ expected =
     ∷ noImage 23
     ∷ noImage 24
     ∷ noImage 6
-    ∷ number 34
-    ∷ number 34
-    ∷ number 35
-    ∷ number 35
-    ∷ number 7
-    ∷ number 3
-    ∷ number 7
+    ∷ noLoad 34 0
+    ∷ noLoad 34 0
+    ∷ noLoad 35 0
+    ∷ noLoad 35 0
+    ∷ noLoad 7 0
+    ∷ noLoad 3 0
+    ∷ noLoad 7 0
+    ∷ noLoad 38 3
     ∷ noDues 23
     ∷ noDues 24
     ∷ noDues 23

@@ -104,8 +104,8 @@ areaRows (Call.write w) bytes = bytes ∷ []
 -- a reply as numbers, with the entries that a search found
 unfoldable pub beginNumbers : (b : Begin) → BeginReply b → List ℕ
 beginNumbers (Begin.fresh order space) n = n ∷ []
-beginNumbers (Begin.load image) n = n ∷ []
-beginNumbers (Begin.restore states name) n = n ∷ []
+beginNumbers (Begin.load image) r = r .refusal ∷ r .slot ∷ []
+beginNumbers (Begin.restore states name) r = r .refusal ∷ r .slot ∷ []
 
 unfoldable pub changeNumbers : (c : Change) → ChangeReply c → List ℕ
 changeNumbers (Change.add t p day) a = a .refusal ∷ a .bucket ∷ a .distances ∷ []

@@ -12,12 +12,12 @@ use Rattle.table_rules.specs.Geometry.{tableRows}
 use Rattle.table_rules.specs.Table.{Table, orderOf}
 use Rattle.image_rules.specs.declared.Written.{Written}
 use Rattle.image_rules.specs.Write.{imageOf}
-use Rattle.image_rules.specs.Load.{loadRefusal, tableAfterLoad}
+use Rattle.image_rules.specs.Load.{loadReply, tableAfterLoad}
 use Rattle.image_rules.proofs.ReadBack.{reads-back}
 use Rattle.image_rules.proofs.Accepting.{refused-short}
 use Rattle.state_rules.specs.Parts.{validName, lengthBytes, partBytes, partOf}
 use Rattle.state_rules.specs.Save.{saveRefusal, saveReply}
-use Rattle.state_rules.specs.Restore.{restoreRefusal, tableAfterRestore}
+use Rattle.state_rules.specs.Restore.{restoreReply, tableAfterRestore}
 use Rattle.state_rules.proofs.Saved.{snapshot-length, save-accepts, save-length, others-kept, rest-kept, left-over-kept}
 use Rattle.state_rules.proofs.Restored.{saved-loads}
 use Rattle.history.specs.Trace.{overlaid}
@@ -30,10 +30,10 @@ use Rattle.history.proofs.ImagesWritten.{seen-invariant, seen-image}
 use Rattle.history.proofs.ImagesBack.{image-rows, image-size}
 
 -- the image of a sound table is refused by 23 alone
-image-refused : {t : Table} → Invariant t → (rows : ℕ) → loadRefusal rows (imageOf t) ≡ unless (leb (tableRows (orderOf t)) rows) shortArea 0
+image-refused : {t : Table} → Invariant t → (rows : ℕ) → loadReply rows (imageOf t) ≡ record { refusal = unless (leb (tableRows (orderOf t)) rows) shortArea 0; slot = 0 }
 image-refused {t} invariant rows =
     refused-short rows (imageOf t) (tableRows (orderOf t)) (invariant-accepted invariant (tableRows (orderOf t)) (omega arith))
-    ∙ ap (λ (order : ℕ). unless (leb (tableRows order) rows) shortArea 0) (reads-back t (invariant-fits invariant) .order)
+    ∙ ap (λ (order : ℕ). record { refusal = unless (leb (tableRows order) rows) shortArea 0; slot = 0 }) (reads-back t (invariant-fits invariant) .order)
 
 -- saved and restored as calls
 module _ {t : Table} (invariant : Invariant t) (area : Table) (states : List ℕ) (name : ℕ) (named : validName name ≡ true) (rows : tableRows (orderOf t) ≤ length area) (long : lengthBytes + imageSize t ≤ partBytes (length states)) where
@@ -60,12 +60,12 @@ module _ {t : Table} (invariant : Invariant t) (area : Table) (states : List ℕ
 
   -- whatever was written elsewhere since
   module _ (since : List ℕ) (other : Table) (same : partOf since name ≡ partOf (statesSaved name t area states) name) where
-    as-load : (restoreRefusal (length other) since name ≡ loadRefusal (length other) (imageOf seen)) × (tableAfterRestore since name other ≡ tableAfterLoad (imageOf seen) other)
+    as-load : (restoreReply (length other) since name ≡ loadReply (length other) (imageOf seen)) × (tableAfterRestore since name other ≡ tableAfterLoad (imageOf seen) other)
     unfolding statesSaved
     as-load = saved-loads seen states name accepted since same other
 
-    refused-by-room : restoreRefusal (length other) since name ≡ unless (leb (tableRows (orderOf t)) (length other)) shortArea 0
-    refused-by-room = as-load .0 ∙ ap (loadRefusal (length other)) same-image ∙ image-refused invariant (length other)
+    refused-by-room : restoreReply (length other) since name ≡ record { refusal = unless (leb (tableRows (orderOf t)) (length other)) shortArea 0; slot = 0 }
+    refused-by-room = as-load .0 ∙ ap (loadReply (length other)) same-image ∙ image-refused invariant (length other)
 
     rows-back : tableRows (orderOf t) ≤ length other → take (tableRows (orderOf t)) (tableAfterRestore since name other) ≡ take (tableRows (orderOf t)) t
     rows-back roomy =

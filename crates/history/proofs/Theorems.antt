@@ -9,8 +9,9 @@ use Rattle.metric_rules.proofs.Laws.{distance-metric, ones-sum, ones-worst, wor
 use Rattle.table_rules.proofs.Visits.{range-visits}
 use Rattle.table_rules.proofs.Keeping.{nearest-size}
 use Rattle.table_rules.specs.Search.{bucketsDown}
+use Rattle.image_rules.proofs.Accepting.{trees-decide}
 use Rattle.image_rules.proofs.Translating.{translates}
-use Rattle.history.specs.Demands.{CountsVisits, KeepsEnough, AnswersAscend, AnyDistance, EachMetric, WeightsOne, EveryList, EveryReport, WrittenLoads, SavedRestores, OlderTranslates}
+use Rattle.history.specs.Demands.{CountsVisits, KeepsEnough, AnswersAscend, AnyDistance, EachMetric, WeightsOne, EveryList, EveryReport, WrittenLoads, SavedRestores, AcceptsTrees, OlderTranslates}
 use Rattle.history.proofs.AnyDistance.{tree-facts}
 use Rattle.history.proofs.RefinesTable.{reported-slots}
 use Rattle.history.proofs.RefinesHistory.{history-traces, history-matches, history-represents}
@@ -56,6 +57,9 @@ written-loads = written-loads-where history-matches
 
 pub saved-restores : SavedRestores
 saved-restores = saved-restores-where history-matches
+
+pub accepts-trees : AcceptsTrees
+accepts-trees image rows = trees-decide rows image
 
 pub older-translates : OlderTranslates
 older-translates = translates

@@ -24,7 +24,9 @@ use Rattle.table_rules.specs.Checks.{readRefusal}
 use Rattle.table_rules.specs.Rebuild.{rebuilt}
 use Rattle.table_rules.specs.Search.{bucketsDown, rangeAnswer, nearestAnswer}
 use Rattle.image_rules.specs.Bytes.{writtenForm, imageLength}
-use Rattle.image_rules.specs.Read.{orderIn, formIn, slotsIn}
+use Rattle.image_rules.specs.Read.{orderIn, spaceIn, formIn, slotsIn, bucketIn}
+use Rattle.image_rules.specs.Trees.{treesPass}
+use Rattle.image_rules.specs.Load.{fieldsRefusal}
 use Rattle.image_rules.specs.Translate.{translated}
 use Rattle.state_rules.specs.Parts.{validName, lengthBytes, partBytes}
 use Rattle.call_rules.specs.Calls.{beginReply, tableBegun}
@@ -128,10 +130,19 @@ SaveKeeps = (t : Table) (states : List ℕ) (name : ℕ) → KeepsStates t state
 abbrev pub AcceptedGivesBack : Type 0
 AcceptedGivesBack =
     (bytes : List ℕ) (other area : Table) (image : List ℕ) → All (λ b. b < 2 ^ 8) bytes → formIn bytes ≡ writtenForm
-    → beginReply (load bytes) (length other) ≡ 0 → tableRows (orderIn bytes) ≤ length area → length bytes ≤ length image → GivesBack bytes other area image
+    → beginReply (load bytes) (length other) .refusal ≡ 0 → tableRows (orderIn bytes) ≤ length area → length bytes ≤ length image → GivesBack bytes other area image
 
--- RULES 17.5, and of an older form: an image whose length is the one that its sizes give is refused as its translation is, by the same number or not at all,
--- and leaves the same table. So it is accepted exactly if its translation is, and then loads as the same table.
+-- W8 (RULES 12.9), which images are accepted, with no word of a slot: one that no test before the trees refuses is accepted exactly if in every bucket no tag occurs
+-- twice and the slots are a layout, marks aside, and no live tag occurs twice at all.
+-- Theorem: `accepts-trees`
+abbrev pub AcceptsTrees : Type 0
+AcceptsTrees =
+    (image : List ℕ) (rows : ℕ) → fieldsRefusal rows image ≡ 0
+    → (beginReply (load image) rows .refusal ≡ 0 → treesPass (spaceIn image) (orderIn image) (bucketIn image) ≡ true)
+    × (treesPass (spaceIn image) (orderIn image) (bucketIn image) ≡ true → beginReply (load image) rows ≡ record { refusal = 0; slot = 0 })
+
+-- RULES 17.5, and of an older form: an image whose length is the one that its sizes give is refused as its translation is, by the same number at the same slot or
+-- not at all, and leaves the same table. So it is accepted exactly if its translation is, and then loads as the same table.
 -- Theorem: `older-translates`
 abbrev pub OlderTranslates : Type 0
 OlderTranslates =

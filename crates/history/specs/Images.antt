@@ -32,7 +32,7 @@ imageWritten size t area image = take size (areasAfter (write Write.image) (over
 -- the table t is written with reply 0 and the image's length, and these bytes load into `other` as the table they came from, every row of it
 pub record LoadsBack (t area other : Table) (image : List ℕ) : Type 0 where
   pub replied : writing t area image ≡ record { refusal = 0; length = imageSize t }
-  pub accepted : beginReply (load (imageWritten (imageSize t) t area image)) (length other) ≡ 0
+  pub accepted : beginReply (load (imageWritten (imageSize t) t area image)) (length other) ≡ record { refusal = 0; slot = 0 }
   pub rows :
       take (tableRows (orderOf t)) (tableBegun (load (imageWritten (imageSize t) t area image)) other)
       ≡ take (tableRows (orderOf t)) t
@@ -54,7 +54,7 @@ statesSaved name t area states = areasAfter (write (Write.save name)) (overlaid 
 pub record RestoresBack (t area : Table) (states : List ℕ) (name : ℕ) : Type 0 where
   pub replied : saving name t area states ≡ record { refusal = 0; length = imageSize t }
   pub refused : (since : List ℕ) (other : Table) → partOf since name ≡ partOf (statesSaved name t area states) name
-      → beginReply (restore since name) (length other) ≡ unless (leb (tableRows (orderOf t)) (length other)) shortArea 0
+      → beginReply (restore since name) (length other) ≡ record { refusal = unless (leb (tableRows (orderOf t)) (length other)) shortArea 0; slot = 0 }
   pub rows : (since : List ℕ) (other : Table) → partOf since name ≡ partOf (statesSaved name t area states) name → tableRows (orderOf t) ≤ length other
       → take (tableRows (orderOf t)) (tableBegun (restore since name) other) ≡ take (tableRows (orderOf t)) t
 

@@ -29,10 +29,11 @@ overlaid left area = take (length area) left ++ drop (length left) area
 unfoldable pub leftBy : Table → Table → Table
 leftBy left area = area ++ drop (length area) left
 
--- RULES 17.6: what a call shows besides its refusal, by kind: look up's profile and day, the number found and the entries, a herd list's line and the number added,
--- the total of some dues and what each tag pays
+-- RULES 17.6: what a call shows besides its refusal, by kind: a load's slot, look up's profile and day, the number found and the entries, a herd list's line and the
+-- number added, the total of some dues and what each tag pays
 pub data Payload : Type 0 where
   bare : Payload
+  aSlot : (slot : ℕ) → Payload
   aWeighing : Profile → (day : ℕ) → Payload
   someEntries : (found : ℕ) → List Entry → Payload
   aListRead : (line added : ℕ) → Payload
@@ -41,6 +42,7 @@ pub data Payload : Type 0 where
 -- the zeros that a refusal has in its place
 unfoldable pub zeroed : Payload → Payload
 zeroed bare = bare
+zeroed (aSlot slot) = aSlot 0
 zeroed (aWeighing p day) = aWeighing noProfile 0
 zeroed (someEntries found entries) = someEntries 0 []
 zeroed (aListRead line added) = aListRead 0 0
@@ -57,8 +59,8 @@ shows n payload = record { refusal = n; payload = payload }
 -- of a reply, with the call's areas after it
 unfoldable pub beginShown : (b : Begin) → BeginReply b → Shown
 beginShown (fresh order space) n = shows n bare
-beginShown (load image) n = shows n bare
-beginShown (restore states name) n = shows n bare
+beginShown (load image) r = shows (r .refusal) (aSlot (r .slot))
+beginShown (restore states name) r = shows (r .refusal) (aSlot (r .slot))
 
 unfoldable pub changeShown : (c : Change) → ChangeReply c → Shown
 changeShown (add tag p day) a = shows (a .refusal) bare

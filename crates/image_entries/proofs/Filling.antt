@@ -1,36 +1,29 @@
--- The entries of a bucket's slots: each is an entry of its slot, their tags are the slots', and in any order they have the layout of the slots.
--- Of the first n places each keeps its own number, since n is at most 2^12.
+-- The entries of a bucket's slots: each is an entry of its slot, and in any order they have the layout of the slots. Of the first n places each keeps its
+-- own number, since n is at most 2^13.
 use Prim.Native.Nat.{ℕ, zero, suc, _+_, _≤_, _<_}
 use native.Mathlib.Omega.{arith}
 use mathlib.Core.Path.{_≡_, refl, sym, _∙_, ap, ap₂}
-use mathlib.Core.Logic.{⊎-elim}
-use mathlib.Core.Bool.{Bool, true, false}
+use mathlib.Core.Bool.{true}
 use mathlib.Core.List.{List, [], _∷_, map, map-map, Permᴰ·symm}
-use lib.Dec.{ltb, eqb}
 use lib.ListN.{length, length-map, getD}
-use borrow.Author.Tests.{leb-true, ltb-true, ltb-false, eq-eqb, ne-eqb}
-use Rattle.lists.specs.Lists.{countFrom, distinct, sameNumbers, All}
-use Rattle.lists.proofs.Lists.{Pairs, all-both, all-perm, all-map, pairs-map, perm-map, perm-length}
-use Rattle.lists.proofs.Distinct.{Differ, distinct-pairs}
+use Rattle.lists.specs.Lists.{countFrom, All}
+use Rattle.lists.proofs.Lists.{all-always, all-perm, all-map, perm-map, perm-length}
 use Rattle.metric_rules.specs.declared.Profile.{Profile}
 use Rattle.metric_rules.specs.declared.Space.{Space}
-use Rattle.metric_rules.specs.Row.{Row, tagOf, withMark}
+use Rattle.metric_rules.specs.Row.{Row, tagOf}
 use Rattle.metric_rules.specs.Distance.{distance}
-use Rattle.tree_rules.specs.Sorting.{sortBy}
-use Rattle.tree_rules.specs.Layout.{Ranked, rankedFrom, layout, isLayout}
+use Rattle.tree_rules.specs.Layout.{Ranked, rankedFrom, layout}
 use Rattle.tree_rules.proofs.Parts.{getD-mapped}
-use Rattle.tree_rules.proofs.Sorting.{NotAfter, key-le-cases, key-le-last, sort-perm, sort-sorted}
 use Rattle.tree_rules.proofs.Layouts.{layoutOf, layout-ranked, layout-reordered}
-use Rattle.search_rules.specs.Range.{Entry, entry, entryDistance, entryKey, ordered}
-use Rattle.table_rules.specs.Refusals.{badImage}
+use Rattle.search_rules.specs.Range.{Entry, entry, entryDistance, ordered}
+use Rattle.search_rules.proofs.Selecting.{select-all}
 use Rattle.table_rules.proofs.ByNumber.{all-count, map-count}
+use Rattle.image_rules.specs.Trees.{firstRefused}
 use Rattle.image_rules.proofs.Blocks.{length-count, getD-count}
-use Rattle.image_entries.specs.FirstFault.{firstUnlike, firstFault}
-use Rattle.image_entries.specs.Faults.{noFault, faultUnless, orFault, treeFault}
-use Rattle.image_entries.specs.Entries.{places, entryTag, entryPlace, tagEntry, Fresh, IsEntry, TagsDetermine, slotEntries, rankedIn, laidOut, partFault}
-use Rattle.image_entries.proofs.FirstFault.{is-layout-no-fault, fault-most}
-use Rattle.image_entries.proofs.Faults.{first-none, numbered-unless}
-use Rattle.image_entries.proofs.Apart.{pairs-at}
+use Rattle.image_entries.specs.Faults.{earlier, anySlot, placeRefusals, treeFault}
+use Rattle.image_entries.specs.Entries.{places, entryTag, entryPlace, tagEntry, Fresh, IsEntry, slotEntries, countedEntries, rankedIn, laidOut, partFault}
+use Rattle.image_entries.specs.Duplicates.{duplicateFault}
+use Rattle.image_entries.proofs.Duplicates.{duplicates-found}
 use Rattle.image_entries.proofs.Ranking.{ordered-perm, determined-places, laid-out}
 
 module _ (tag place : ℕ) (fits : place < places) where
@@ -41,27 +34,6 @@ module _ (tag place : ℕ) (fits : place < places) where
   pub tag-entry-place : entryPlace (tagEntry tag place) ≡ place
   unfolding entryPlace tagEntry entry places
   tag-entry-place = omega arith
-
--- a relation of the pairs of a list whose elements are all P
-pairs-with : {A : Type 0} {P : A → Type 0} {R S : A → A → Type 0} → ((x y : A) → P x → P y → R x y → S x y) → (xs : List A) → All P xs → Pairs R xs → Pairs S xs
-pairs-with f [] h p = tt
-pairs-with f (x ∷ xs) h p = (all-both (λ y k r. f x y (h .0) k r) xs (h .1) (p .0), pairs-with f xs (h .1) (p .1))
-
-tag-ascends : (e f : Entry) → entryDistance e ≡ 0 → entryDistance f ≡ 0 → NotAfter entryKey e f → entryTag e ≤ entryTag f
-unfolding entryKey entryTag places
-tag-ascends e f p q h =
-    let a : ℕ = getD e 0 0 in
-    let b : ℕ = getD f 0 0 in
-    ⊎-elim (λ l. absurd (omega arith))
-    (λ l. omega (arith, leb-true a b (sym (key-le-last a b) ∙ l .1)))
-    (key-le-cases (entryDistance e) (entryDistance f) (a ∷ []) (b ∷ []) h)
-
--- entries without a distance, in order, stand by their tags
-pub tags-ascend : (es : List Entry) → All (λ e. entryDistance e ≡ 0) es → Pairs _≤_ (map entryTag (ordered es))
-unfolding ordered
-tags-ascend es h =
-    pairs-map entryTag _≤_ (sortBy entryKey es)
-    (pairs-with tag-ascends (sortBy entryKey es) (all-perm (λ e. entryDistance e ≡ 0) (Permᴰ·symm (sort-perm entryKey es)) h) (sort-sorted entryKey es))
 
 ranked-count : (slot : ℕ → Row) (a n : ℕ) → rankedFrom a (map slot (countFrom a n)) ≡ map (λ i. record { row = slot i; rank = i }) (countFrom a n)
 unfolding rankedFrom countFrom
@@ -89,13 +61,6 @@ module _ (slot : ℕ → Row) (n : ℕ) (few : n ≤ places) where
       all-perm (IsEntry slot n) (Permᴰ·symm (ordered-perm (slotEntries slot n)))
       (all-map (λ i. tagEntry (tagOf (slot i)) i) (IsEntry slot n) (countFrom 0 n) (all-count (λ i. IsEntry slot n (tagEntry (tagOf (slot i)) i)) 0 n (λ i l h. entry-is i (omega arith))))
 
-  tags-are : map entryTag (slotEntries slot n) ≡ map tagOf slots
-  unfolding slotEntries
-  tags-are =
-      map-map entryTag (λ i. tagEntry (tagOf (slot i)) i) (countFrom 0 n)
-      ∙ map-count (λ i. entryTag (tagEntry (tagOf (slot i)) i)) (λ i. tagOf (slot i)) 0 n (λ i l h. tag-entry-tag (tagOf (slot i)) i (omega arith))
-      ∙ sym (map-map tagOf slot (countFrom 0 n))
-
   ranked-are : map (rankedIn slot) (slotEntries slot n) ≡ rankedFrom 0 slots
   unfolding slotEntries rankedIn
   ranked-are =
@@ -109,37 +74,17 @@ module _ (slot : ℕ → Row) (n : ℕ) (few : n ≤ places) where
   entries-length = perm-length (ordered-perm (slotEntries slot n)) ∙ length-map (countFrom 0 n) (λ i. tagEntry (tagOf (slot i)) i) ∙ length-count 0 n
 
   -- the entries in order have the layout of the slots
-  bucket-fault : (dist : Profile → Profile → ℕ) → partFault slot dist 0 (ordered (slotEntries slot n)) ≡ firstFault dist slots
-  unfolding partFault firstFault
-  bucket-fault dist =
+  pub bucket-fault : (dist : Profile → Profile → ℕ) (first : ℕ) → partFault slot dist first 0 (ordered (slotEntries slot n)) ≡ firstRefused first (placeRefusals (layout dist slots) slots)
+  unfolding partFault
+  bucket-fault dist first =
       let es : List Entry = ordered (slotEntries slot n) in
       let laid : laidOut slot dist es ≡ layout dist slots =
       laid-out slot dist es
       ∙ layout-reordered dist (perm-map (rankedIn slot) (ordered-perm (slotEntries slot n))) (determined-places slot es)
       ∙ ap (layoutOf dist) ranked-are
       ∙ sym (layout-ranked dist slots) in
-      ap₂ (λ (xs ys : List Row). 0 + firstUnlike sameNumbers xs ys) laid
-      (ap (λ (k : ℕ). map (λ i. withMark 0 (slot i)) (countFrom 0 k)) entries-length ∙ sym (map-map (withMark 0) slot (countFrom 0 n)))
-      ∙ omega arith
-
-  -- with distinct tags a slot is known by its tag
-  tags-determine : distinct (map tagOf slots) ≡ true → TagsDetermine slot n
-  tags-determine h i j p q e = go (ltb i j) refl (ltb j i) refl
-    where
-      tag-at : (k : ℕ) → k < n → getD (map tagOf slots) k 0 ≡ tagOf (slot k)
-      tag-at k r =
-          getD-mapped tagOf slots k [] 0 (omega (arith, length-map (countFrom 0 n) slot, length-count 0 n))
-          ∙ ap tagOf (getD-mapped slot (countFrom 0 n) k 0 [] (omega (arith, length-count 0 n)) ∙ ap slot (getD-count 0 n k 0 r ∙ omega arith))
-
-      apart : (a b : ℕ) → a < b → b < n → tagOf (slot a) ≡ tagOf (slot b) → ⊥
-      apart a b l r f =
-          pairs-at Differ (map tagOf slots) a b l (omega (arith, length-map slots tagOf, length-map (countFrom 0 n) slot, length-count 0 n))
-          (distinct-pairs (map tagOf slots) h) (tag-at a (omega arith) ∙ f ∙ sym (tag-at b r))
-
-      go : (x : Bool) → ltb i j ≡ x → (y : Bool) → ltb j i ≡ y → i ≡ j
-      go true f y g = absurd (apart i j (ltb-true i j f) q e)
-      go false f true g = absurd (apart j i (ltb-true j i g) p (sym e))
-      go false f false g = omega (arith, ltb-false i j f, ltb-false j i g)
+      let start : first + 0 ≡ first = omega arith in
+      (λ i. firstRefused (start i) (placeRefusals (laid i) (map slot (countFrom 0 (entries-length i)))))
 
 -- the entries of the first n slots, one by one
 module _ (slot : ℕ → Row) (n : ℕ) where
@@ -157,40 +102,17 @@ module _ (slot : ℕ → Row) (n : ℕ) where
   unfolding slotEntries tagEntry entry entryDistance
   entries-fresh = all-map (λ i. tagEntry (tagOf (slot i)) i) Fresh (countFrom 0 n) (all-count (λ i. Fresh (tagEntry (tagOf (slot i)) i)) 0 n (λ i l h. (refl, refl)))
 
--- the test of a bucket: tags by the entries' order, and the first fault of the entries in order
-module _ (slot : ℕ → Row) (n : ℕ) (few : n ≤ places) (space : Space) (first : ℕ) (b : Bool) (test : b ≡ distinct (map entryTag (slotEntries slot n))) where
-  tags-tested : b ≡ distinct (map tagOf (map slot (countFrom 0 n)))
-  tags-tested = test ∙ ap distinct (tags-are slot n few)
+-- within a bucket every slot counts
+pub all-counted : (slot : ℕ → Row) (n : ℕ) → countedEntries slot anySlot n ≡ slotEntries slot n
+unfolding countedEntries slotEntries anySlot
+all-counted slot n = ap (map (λ i. tagEntry (tagOf (slot i)) i)) (select-all (λ i. true) (countFrom 0 n) (all-always (λ i. refl) (countFrom 0 n)))
 
-  pub bucket-determined : b ≡ true → TagsDetermine slot n
-  bucket-determined h = tags-determine slot n few (sym tags-tested ∙ h)
-
-  -- a tag occurs twice
-  pub tag-fault : b ≡ false → record { number = badImage; slot = 0 } ≡ treeFault space first (map slot (countFrom 0 n))
-  unfolding treeFault faultUnless orFault
-  tag-fault h = rw (sym tags-tested ∙ h) refl
-
-  -- none does, and the first fault of the entries is the layout's
-  module _ (h : b ≡ true) (r : ℕ) (e : r ≡ partFault slot (distance space) 0 (ordered (slotEntries slot n))) where
-    laid-tested : isLayout (distance space) (map slot (countFrom 0 n)) ≡ eqb r n
-    laid-tested =
-        is-layout-no-fault (distance space) (map slot (countFrom 0 n))
-        ∙ ap₂ eqb (sym (e ∙ bucket-fault slot n few (distance space))) (length-map (countFrom 0 n) slot ∙ length-count 0 n)
-
-    pub fault-within : r ≤ n
-    fault-within = omega (arith, e ∙ bucket-fault slot n few (distance space), fault-most (distance space) (map slot (countFrom 0 n)), length-map (countFrom 0 n) slot, length-count 0 n)
-
-    tree-decides : treeFault space first (map slot (countFrom 0 n)) ≡ faultUnless (eqb r n) (first + r)
-    unfolding treeFault
-    tree-decides =
-        ap (λ (x : Bool). orFault (faultUnless x 0) (faultUnless (isLayout (distance space) (map slot (countFrom 0 n))) (first + firstFault (distance space) (map slot (countFrom 0 n))))) (sym tags-tested ∙ h)
-        ∙ first-none (faultUnless true 0) _ (numbered-unless true 0)
-        ∙ ap₂ (λ (x : Bool) (i : ℕ). faultUnless x (first + i)) laid-tested (sym (e ∙ bucket-fault slot n few (distance space)))
-
-    pub layout-fault : (r ≡ n → ⊥) → record { number = badImage; slot = first + r } ≡ treeFault space first (map slot (countFrom 0 n))
-    unfolding faultUnless
-    layout-fault some = sym (tree-decides ∙ ap (λ (x : Bool). faultUnless x (first + r)) (ne-eqb r n some))
-
-    pub layout-none : r ≡ n → noFault ≡ treeFault space first (map slot (countFrom 0 n))
-    unfolding faultUnless
-    layout-none none = sym (tree-decides ∙ ap (λ (x : Bool). faultUnless x (first + r)) (eq-eqb r n none))
+-- so the tests of a bucket's tree, as they are made on its entries
+pub tree-tested : (slot : ℕ → Row) (n : ℕ) → n ≤ places → (space : Space) (first : ℕ)
+    → earlier (duplicateFault first (ordered (slotEntries slot n))) (partFault slot (distance space) first 0 (ordered (slotEntries slot n)))
+    ≡ treeFault space first (map slot (countFrom 0 n))
+unfolding treeFault
+tree-tested slot n few space first =
+    ap₂ earlier
+    (ap (λ (es : List Entry). duplicateFault first (ordered es)) (sym (all-counted slot n)) ∙ duplicates-found slot anySlot n few first)
+    (bucket-fault slot n few (distance space) first)

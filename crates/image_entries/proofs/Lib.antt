@@ -1,7 +1,7 @@
--- The first slot that differs from a layout, and entries in the place of ranked rows.
-pub mod FirstFault
+-- The first fault of some slots, entries in the place of ranked rows, and tags that several slots have.
 pub mod Faults
 pub mod Ranking
-pub mod Apart
+pub mod Repeated
+pub mod Duplicates
 pub mod Arranging
 pub mod Filling

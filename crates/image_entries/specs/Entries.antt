@@ -1,19 +1,25 @@
--- A bucket's slots as entries: the first word of an entry is tag · 2^12 + place, the place being the slot's number in its bucket, and the second
+-- Slots as entries: the first word of an entry is tag · 2^13 + place, the place being the slot's number, in its bucket or among all, and the second
 -- a distance. Sorted as entries are, they stand by distance, tag and place. A row is read by the place when it is asked for.
 use Prim.Native.Nat.{ℕ, suc, _+_, _*_, _/_, _%_, _^_, _<_}
 use mathlib.Core.Path.{_≡_}
+use mathlib.Core.Bool.{Bool}
 use mathlib.Core.List.{List, [], _∷_, _++_, map}
 use lib.ListN.{length, take, drop, getD}
-use Rattle.lists.specs.Lists.{countFrom, last, sameNumbers}
+use Rattle.lists.specs.Lists.{countFrom, last, select}
 use Rattle.metric_rules.specs.declared.Profile.{Profile}
-use Rattle.metric_rules.specs.Row.{Row, tagOf, profileOf, withMark}
+use Rattle.metric_rules.specs.Row.{Row, tagOf, profileOf}
 use Rattle.tree_rules.specs.Layout.{leftSize, Ranked, placed, layoutWithin}
 use Rattle.search_rules.specs.Range.{Entry, Pair, entry, entryDistance}
-use Rattle.image_entries.specs.FirstFault.{firstUnlike}
+use Rattle.image_rules.specs.declared.Loaded.{Loaded}
+use Rattle.image_rules.specs.Trees.{firstRefused}
+use Rattle.image_entries.specs.Faults.{placeRefusals}
 
--- a bucket has at most so many slots
+-- more than an image has slots
 unfoldable pub places : ℕ
-places = 4096
+places = 8192
+
+unfoldable pub firstWord : Entry → ℕ
+firstWord e = getD e 0 0
 
 unfoldable pub entryTag : Entry → ℕ
 entryTag e = getD e 0 0 / places
@@ -44,17 +50,20 @@ module _ (slot : ℕ → Row) where
   abbrev pub TagsFit : ℕ → Type 0
   TagsFit n = (i : ℕ) → i < n → tagOf (slot i) < 2 ^ 50
 
-  -- and tell those slots apart
-  abbrev pub TagsDetermine : ℕ → Type 0
-  TagsDetermine n = (i j : ℕ) → i < n → j < n → tagOf (slot i) ≡ tagOf (slot j) → i ≡ j
-
-  -- the entries of the first n slots
+  -- the entries of the first n slots, and of those among them that count
   unfoldable pub slotEntries : ℕ → List Entry
   slotEntries n = map (λ i. tagEntry (tagOf (slot i)) i) (countFrom 0 n)
+
+  unfoldable pub countedEntries : (Row → Bool) → ℕ → List Entry
+  countedEntries counts n = map (λ i. tagEntry (tagOf (slot i)) i) (select (λ i. counts (slot i)) (countFrom 0 n))
 
   -- the slot that an entry stands for, its place being its rank
   unfoldable pub rankedIn : Entry → Ranked
   rankedIn e = record { row = slot (entryPlace e); rank = entryPlace e }
+
+  -- the row that entries put first whose first is the first slot's, the others being in order of their distance from it
+  unfoldable pub firstLaid : List Entry → Row
+  firstLaid es = placed (lastOf (take (leftSize (length es)) (drop 1 es))) (slot (entryPlace (getD es 0 [])))
 
   module _ (dist : Profile → Profile → ℕ) where
     -- an entry with the distance of its slot from v
@@ -65,13 +74,14 @@ module _ (slot : ℕ → Row) where
     unfoldable pub laidOut : List Entry → List Row
     laidOut es = layoutWithin dist (length es) (map rankedIn es)
 
-    -- the layout that entries hold whose first is the first slot's, the others being in order of their distance from it
+    -- the layout that such entries hold
     unfoldable pub laidFrom : List Entry → List Row
     laidFrom [] = []
     laidFrom (v ∷ near) =
         let l = leftSize (suc (length near)) in
         placed (lastOf (take l near)) (slot (entryPlace v)) ∷ laidOut (take l near) ++ laidOut (drop l near)
 
-    -- the slots from `at` on, one for each entry, against the layout of the entries' slots: the first that differs, or the place behind the last
-    unfoldable pub partFault : ℕ → List Entry → ℕ
-    partFault at es = at + firstUnlike sameNumbers (laidOut es) (map (λ i. withMark 0 (slot i)) (countFrom at (length es)))
+    -- the slots from a place on, one for each entry, beside the layout of the entries' slots: the first that 37 or 38 refuses, slot 0 having number `first`
+    -- among all
+    unfoldable pub partFault : ℕ → ℕ → List Entry → Loaded
+    partFault first place es = firstRefused (first + place) (placeRefusals (laidOut es) (map slot (countFrom place (length es))))

@@ -1,33 +1,55 @@
--- What a test of an image's slots finds: the number of the first fault, 0 where there is none, and its slot among all slots of the image, 0 where the
--- fault has no slot of its own. Every fault is 8 (RULES 12.5).
-use Prim.Native.Nat.{ℕ, zero, suc, _+_}
-use mathlib.Core.Bool.{Bool, true, false}
-use mathlib.Core.List.{List, [], _∷_, map}
-use Rattle.lists.specs.Lists.{distinct}
+-- What tests of some slots find: the first that is refused, as load replies it, and zeros where none is. The tests of an image's trees, one at a time.
+use Prim.Native.Nat.{ℕ, zero, suc}
+use mathlib.Core.Bool.{Bool, true, false, not, _||_}
+use mathlib.Core.List.{List, [], _∷_, _++_}
+use lib.Dec.{ltb}
+use Rattle.lists.specs.Lists.{select}
 use Rattle.metric_rules.specs.declared.Space.{Space}
 use Rattle.metric_rules.specs.Row.{Row, tagOf}
 use Rattle.metric_rules.specs.Distance.{distance}
-use Rattle.tree_rules.specs.Layout.{isLayout}
-use Rattle.table_rules.specs.Refusals.{badImage}
-use Rattle.image_entries.specs.declared.Fault.{Fault}
-use Rattle.image_entries.specs.FirstFault.{firstFault}
+use Rattle.tree_rules.specs.Layout.{layout}
+use Rattle.table_rules.specs.Refusals.{unless}
+use Rattle.image_rules.specs.declared.Loaded.{Loaded}
+use Rattle.image_rules.specs.Trees.{duplicateTag, noneHas, placeRefusal, firstRefused}
 
-unfoldable pub noFault : Fault
-noFault = record { number = 0; slot = 0 }
+unfoldable pub noFault : Loaded
+noFault = record { refusal = 0; slot = 0 }
 
--- a fault of a slot, unless the test passes
-unfoldable pub faultUnless : Bool → ℕ → Fault
-faultUnless test slot = elim test [ true ↦ noFault | false ↦ record { number = badImage; slot = slot } ]
+-- of slots and those behind them, and so of some runs of slots
+unfoldable pub orFault : Loaded → Loaded → Loaded
+orFault a b = elim (a .refusal) [ zero ↦ b | suc n ↦ a ]
 
--- the first of two, and the first of some
-unfoldable pub orFault : Fault → Fault → Fault
-orFault a b = elim (a .number) [ zero ↦ b | suc n ↦ a ]
-
-unfoldable pub firstOf : List Fault → Fault
+unfoldable pub firstOf : List Loaded → Loaded
 firstOf [] = noFault
 firstOf (f ∷ fs) = orFault f (firstOf fs)
 
--- of a bucket's tree, whose first slot has a number among all: a tag twice, which is told without a slot; then the first slot that differs from the layout
-unfoldable pub treeFault : Space → ℕ → List Row → Fault
+-- of two tests of the same slots: the lower slot, and where both refuse it the first test's
+unfoldable pub earlier : Loaded → Loaded → Loaded
+earlier a b =
+    elim (a .refusal) [
+      | zero ↦ b
+      | suc m ↦ elim (b .refusal) [ zero ↦ a | suc n ↦ elim (ltb (b .slot) (a .slot)) [ true ↦ b | false ↦ a ] ]
+    ]
+
+-- 36 among the slots that count: one before it has the slot's tag
+unfoldable pub tagRefusal : (Row → Bool) → List Row → Row → ℕ
+tagRefusal counts before row = unless (not (counts row) || noneHas (tagOf row) (select counts before)) duplicateTag 0
+
+unfoldable pub tagRefusals : (Row → Bool) → List Row → List Row → List ℕ
+tagRefusals counts before [] = []
+tagRefusals counts before (row ∷ rows) = tagRefusal counts before row ∷ tagRefusals counts (before ++ (row ∷ [])) rows
+
+-- within a bucket every slot counts, dead or not
+unfoldable pub anySlot : Row → Bool
+anySlot row = true
+
+-- 37 and 38: slots beside what the layout puts there
+unfoldable pub placeRefusals : List Row → List Row → List ℕ
+placeRefusals laid [] = []
+placeRefusals [] (row ∷ rows) = []
+placeRefusals (l ∷ laid) (row ∷ rows) = placeRefusal l row ∷ placeRefusals laid rows
+
+-- a bucket's tree, whose first slot has a number among all: the tests that need no other bucket
+unfoldable pub treeFault : Space → ℕ → List Row → Loaded
 treeFault space first slots =
-    orFault (faultUnless (distinct (map tagOf slots)) 0) (faultUnless (isLayout (distance space) slots) (first + firstFault (distance space) slots))
+    earlier (firstRefused first (tagRefusals anySlot [] slots)) (firstRefused first (placeRefusals (layout (distance space) slots) slots))

@@ -1,3 +1,3 @@
-pub mod Entries
-pub mod FirstFault
 pub mod Faults
+pub mod Entries
+pub mod Duplicates

@@ -7,10 +7,9 @@ ghost use Rattle.metric_rules.specs.Row.{dayOf};
 ghost use Rattle.metric_rules.specs.Validity.{validDay};
 ghost use Rattle.table_rules.specs.Geometry.{bucketsOf};
 ghost use Rattle.table_rules.specs.Checks.{sizePasses, sizesPass};
-ghost use Rattle.image_rules.specs.Read.{orderIn, builtIn, liveIn, slotsIn, bucketIn};
-ghost use Rattle.image_rules.specs.Load.{fieldsPass, daysPass};
+ghost use Rattle.image_rules.specs.Read.{builtIn, liveIn, slotsIn};
+ghost use Rattle.image_rules.specs.Load.{fieldsPass, bucketFieldsPass, allFieldsPass, daysPass};
 ghost use Rattle.image_read.specs.InImage.{HasSizes, Whole, InImage, slotsAt};
-ghost use Rattle.image_fields.specs.SlotsRead.{slotsRead};
 use image_form::Form;
 use image_read::Header;
 use image_read::Slots;
@@ -100,7 +99,7 @@ pub fn days_pass(image: &[u8], all: Slots) -> bool
 // Some slots: a field that fails ends it, and the 0 marks are counted.
 fn slots_read(image: &[u8], at: Slots, live: u32) -> bool
     requires { ⌜ InImage (now image) at ⌝ }
-    ensures { λ r. ⌜ r ≡ slotsRead (slotsAt (now (image .entry)) at) live ⌝ }
+    ensures { λ r. ⌜ r ≡ bucketFieldsPass (slotsAt (now (image .entry)) at) live ⌝ }
 {
     let count = at.count;
     let mut found: usize = 0;
@@ -119,7 +118,7 @@ fn slots_read(image: &[u8], at: Slots, live: u32) -> bool
 // The slots of every bucket.
 pub fn buckets_read(image: &[u8], header: Header, all: Slots) -> bool
     requires { ⌜ Whole (now image) header × InImage (now image) all ⌝ }
-    ensures { λ r. ⌜ r ≡ every (λ k. slotsRead (bucketIn (now (image .entry)) k) (liveIn (now (image .entry)) k)) (bucketsOf (orderIn (now (image .entry)))) ⌝ }
+    ensures { λ r. ⌜ r ≡ allFieldsPass (now (image .entry)) ⌝ }
 {
     let form = header.form;
     let t = header.order.t;

@@ -2,22 +2,22 @@
 use Prim.Native.Nat.{ℕ, suc, _+_, _-_, _/_, _≤_, _<_}
 use native.Mathlib.Omega.{arith}
 use mathlib.Core.Path.{_≡_, sym, _∙_, ap, ap₂, subst}
-use mathlib.Core.Bool.{Bool, true, false, _&&_, false≢true}
 use mathlib.Core.List.{List, [], _∷_, _++_}
-use lib.Dec.{eqb}
 use lib.ListN.{length, take, drop, getD, length-take, length-drop}
 use lib.Seq.{drop-cons}
-use borrow.Author.Tests.{eqb-true, eq-eqb}
-use Rattle.lists.specs.Lists.{sameNumbers, All}
+use Rattle.lists.specs.Lists.{All}
 use Rattle.lists.proofs.Lists.{all-at, all-take, all-drop}
-use Rattle.lists.proofs.Tests.{and-first, and-second, and-pass}
 use Rattle.metric_rules.specs.declared.Profile.{Profile}
-use Rattle.metric_rules.specs.Row.{Row, rowWidth, thresholdOf, withMark}
+use Rattle.metric_rules.specs.Row.{Row}
 use Rattle.tree_rules.specs.Layout.{leftSize, placed}
 use Rattle.tree_rules.proofs.Parts.{leftPart, left-part, left-part-length, leftBack, left-back-length, rightPart, right-part, right-part-length, rightBack, right-back-length}
 use Rattle.search_rules.specs.Range.{Entry}
-use Rattle.image_entries.specs.Entries.{entryPlace, lastOf, IsEntry, TagsDetermine, laidOut, laidFrom, partFault}
-use Rattle.image_layout.proofs.Faults.{fault-here, fault-left, fault-right, place-right, place-wrong}
+use Rattle.image_rules.specs.declared.Loaded.{Loaded}
+use Rattle.image_rules.specs.Trees.{placeRefusal}
+use Rattle.image_entries.specs.Faults.{orFault}
+use Rattle.image_entries.specs.Entries.{entryPlace, lastOf, IsEntry, firstLaid, laidOut, laidFrom, partFault}
+use Rattle.image_entries.proofs.Faults.{first-none, first-some}
+use Rattle.image_layout.proofs.Faults.{fault-here, fault-halves}
 
 -- a part that is not empty, before and after it was arranged
 pub record Prepared (slot : ℕ → Row) (dist : Profile → Profile → ℕ) (n : ℕ) (es after : List Entry) (place : ℕ) : Type 0 where
@@ -45,74 +45,50 @@ module _ {slot : ℕ → Row} {dist : Profile → Profile → ℕ} {n : ℕ} {es
   unfolding right
   right-length = omega (arith, length-drop (length es / 2) (drop 1 after), length-drop 1 after, p .kept)
 
-  first : Row
-  first = placed (lastOf left) (slot (entryPlace (getD after 0 [])))
+  pub first-within : entryPlace (getD after 0 []) < n
+  first-within = all-at (IsEntry slot n) after 0 (omega (arith, p .some, p .kept)) (p .sound) .within
 
-  node-is : laidOut slot dist es ≡ first ∷ laidOut slot dist left ++ laidOut slot dist right
-  unfolding laidFrom leftSize first left right
+  node-is : laidOut slot dist es ≡ firstLaid slot after ∷ laidOut slot dist left ++ laidOut slot dist right
+  unfolding laidFrom leftSize firstLaid left right
   node-is =
       let half : suc (length (drop 1 after)) / 2 ≡ length es / 2 = omega (arith, length-drop 1 after, p .some, p .kept) in
       sym (p .laid)
       ∙ ap (laidFrom slot dist) (drop-cons after 0 [] (omega (arith, p .some, p .kept)))
       ∙ ap (λ (l : ℕ). placed (lastOf (take l (drop 1 after))) (slot (entryPlace (getD after 0 []))) ∷ laidOut slot dist (take l (drop 1 after)) ++ laidOut slot dist (drop l (drop 1 after))) half
+      ∙ ap (λ (k : ℕ). placed (lastOf (take (k / 2) (drop 1 after))) (slot (entryPlace (getD after 0 []))) ∷ laidOut slot dist (take (length es / 2) (drop 1 after)) ++ laidOut slot dist (drop (length es / 2) (drop 1 after))) (sym (p .kept))
 
   sizes : length es ≡ suc (length left + length right)
   sizes = omega (arith, left-length, right-length, p .some)
 
   -- the test of the first slot
-  first-placed : Bool
-  first-placed = eqb (entryPlace (getD after 0 [])) place && eqb (lastOf (take (length after / 2) (drop 1 after))) (thresholdOf (slot place))
+  module _ (first : ℕ) (number : ℕ) (tested : number ≡ placeRefusal (firstLaid slot after) (slot place)) where
+    pub fault-first : (number ≡ 0 → ⊥) → record { refusal = number; slot = first + place } ≡ partFault slot dist first place es
+    fault-first some =
+        ap (λ (k : ℕ). record { refusal = k; slot = first + place }) tested
+        ∙ sym (fault-here slot dist first place es left right (firstLaid slot after) node-is sizes (λ z. some (tested ∙ z)))
 
-  module _ (whole : (i : ℕ) → i < n → length (slot i) ≡ rowWidth) (apart : TagsDetermine slot n) where
-    first-place : entryPlace (getD after 0 []) < n
-    first-place = all-at (IsEntry slot n) after 0 (omega (arith, p .some, p .kept)) (p .sound) .within
-
-    last-is : lastOf (take (length after / 2) (drop 1 after)) ≡ lastOf left
+    halves : number ≡ 0 → (l : Loaded) → l ≡ partFault slot dist first (place + 1) (leftPart (length es / 2) after more)
+        → partFault slot dist first place es ≡ orFault l (partFault slot dist first (place + 1 + length left) right)
     unfolding left
-    last-is = ap (λ (k : ℕ). lastOf (take (k / 2) (drop 1 after))) (p .kept)
+    halves none l e =
+        fault-halves slot dist first place es left right (firstLaid slot after) node-is sizes (sym tested ∙ none)
+        ∙ ap (λ (f : Loaded). orFault f (partFault slot dist first (place + 1 + length left) right)) (sym (e ∙ ap (partFault slot dist first (place + 1)) (left-part (length es / 2) after more)))
 
-    row-right : first-placed ≡ true → sameNumbers first (withMark 0 (slot place)) ≡ true
-    unfolding first-placed first
-    row-right h =
-        let f : ℕ = entryPlace (getD after 0 []) in
-        let m : ℕ = lastOf (take (length after / 2) (drop 1 after)) in
-        place-right slot n whole apart (lastOf left) f place first-place (omega (arith, p .some, p .fits))
-        (eqb-true f place (and-first (eqb f place) (eqb m (thresholdOf (slot place))) h))
-        (sym last-is ∙ eqb-true m (thresholdOf (slot place)) (and-second (eqb f place) (eqb m (thresholdOf (slot place))) h))
+    pub fault-in-left : number ≡ 0 → (l : Loaded) → l ≡ partFault slot dist first (place + 1) (leftPart (length es / 2) after more) → (l .refusal ≡ 0 → ⊥)
+        → l ≡ partFault slot dist first place es
+    fault-in-left none l e some = sym (halves none l e ∙ first-some l _ some)
 
-    row-wrong : first-placed ≡ false → sameNumbers first (withMark 0 (slot place)) ≡ false
-    unfolding first-placed first
-    row-wrong h =
-        let f : ℕ = entryPlace (getD after 0 []) in
-        let m : ℕ = lastOf (take (length after / 2) (drop 1 after)) in
-        place-wrong slot n whole apart (lastOf left) f place first-place (omega (arith, p .some, p .fits))
-        (λ q. false≢true (sym h ∙ and-pass (eqb f place) (eqb m (thresholdOf (slot place))) (eq-eqb f place (q .0)) (eq-eqb m (thresholdOf (slot place)) (last-is ∙ q .1))))
-
-    module _ (b : Bool) (tests : b ≡ (eqb (entryPlace (getD after 0 [])) place && eqb (lastOf (take (length after / 2) (drop 1 after))) (thresholdOf (slot place)))) where
-      pub fault-first : b ≡ false → place ≡ partFault slot dist place es
-      unfolding first-placed
-      fault-first h = sym (fault-here slot dist place es left right first node-is sizes (row-wrong (sym tests ∙ h)))
-
-      pub fault-in-left :
-          b ≡ true → (r : ℕ) → r ≡ partFault slot dist (place + 1) (leftPart (length es / 2) after more) → r < place + (1 + length es / 2)
-          → r ≡ partFault slot dist place es
-      unfolding first-placed left
-      fault-in-left h r e q =
-          let is : r ≡ partFault slot dist (place + 1) left = e ∙ ap (partFault slot dist (place + 1)) (left-part (length es / 2) after more) in
-          is ∙ sym (fault-left slot dist place es left right first node-is sizes (row-right (sym tests ∙ h)) (omega (arith, is, left-length)))
-
-      pub fault-in-right :
-          b ≡ true → (r : ℕ) → r ≡ partFault slot dist (place + 1) (leftPart (length es / 2) after more) → place + (1 + length es / 2) ≤ r
-          → (back : List Entry) (same : length back ≡ length (leftPart (length es / 2) after more)) (s : ℕ)
-          → s ≡ partFault slot dist (place + (1 + length es / 2)) (rightPart (length es / 2) after more back same)
-          → s ≡ partFault slot dist place es
-      unfolding first-placed left right
-      fault-in-right h r e q back same s f =
-          let is : r ≡ partFault slot dist (place + 1) left = e ∙ ap (partFault slot dist (place + 1)) (left-part (length es / 2) after more) in
-          let from : place + (1 + length es / 2) ≡ place + 1 + length left = omega (arith, left-length) in
-          f
-          ∙ ap₂ (partFault slot dist) from (right-part (length es / 2) after more back same)
-          ∙ sym (fault-right slot dist place es left right first node-is sizes (row-right (sym tests ∙ h)) (omega (arith, is, left-length)))
+    pub fault-in-right :
+        number ≡ 0 → (l : Loaded) → l ≡ partFault slot dist first (place + 1) (leftPart (length es / 2) after more) → l .refusal ≡ 0
+        → (back : List Entry) (same : length back ≡ length (leftPart (length es / 2) after more)) (r : Loaded)
+        → r ≡ partFault slot dist first (place + (1 + length es / 2)) (rightPart (length es / 2) after more back same)
+        → r ≡ partFault slot dist first place es
+    unfolding right
+    fault-in-right none l e passed back same r f =
+        let from : place + (1 + length es / 2) ≡ place + 1 + length left = omega (arith, left-length) in
+        f
+        ∙ ap₂ (partFault slot dist first) from (right-part (length es / 2) after more back same)
+        ∙ sym (halves none l e ∙ first-none l _ passed)
 
   -- what a half's test asks
   pub left-sound : All (IsEntry slot n) (leftPart (length es / 2) after more)

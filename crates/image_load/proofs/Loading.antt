@@ -1,6 +1,6 @@
 -- What an accepted image makes of the table: fresh first, then each bucket put; and a refused one changes nothing.
 use Prim.Native.Nat.{ℕ, zero, suc}
-use mathlib.Core.Path.{_≡_, refl, sym, _∙_}
+use mathlib.Core.Path.{_≡_, refl, sym, ap, _∙_}
 use mathlib.Core.Bool.{true}
 use mathlib.Core.List.{List, foldl}
 use borrow.Author.Tests.{le-leb}
@@ -13,9 +13,10 @@ use Rattle.table_rules.specs.Fresh.{freshRefusal, freshTable, tableAfterFresh}
 use Rattle.table_rules.proofs.Buckets.{order-most}
 use Rattle.table_rules.proofs.Changes.{fresh-order, fresh-long}
 use Rattle.image_rules.specs.Read.{orderIn, spaceIn, liveIn, bucketIn}
-use Rattle.image_rules.specs.Load.{loadRefusal, loadedTable, tableAfterLoad}
+use Rattle.image_rules.specs.Load.{loadReply, loadRefusal, loadedTable, tableAfterLoad}
+use Rattle.image_rules.specs.declared.Loaded.{Loaded}
 use Rattle.image_rules.proofs.Accepting.{Accepted}
-use Rattle.image_rules.proofs.Loaded.{table-after-load}
+use Rattle.image_rules.proofs.LoadedTable.{table-after-load}
 use Rattle.image_read.specs.declared.Header.{Header}
 use Rattle.image_read.specs.InImage.{Headed, Whole}
 use Rattle.table_buckets.specs.OfOrder.{OfOrder}
@@ -51,7 +52,10 @@ module _ (image : List ℕ) (t : Table) (ok : Accepted (length t) image) where
   accepted-whole header headed = record { headed = headed; order = order-most (orderIn image) (ok .order); sizes = ok .sizes; long = ok .long }
 
 -- a refusal changes nothing
-pub load-stops : (image : List ℕ) (t : Table) (n : ℕ) → n ≡ loadRefusal (length t) image → (n ≡ 0 → ⊥) → t ≡ tableAfterLoad image t
-unfolding tableAfterLoad
-load-stops image t zero e some = absurd (some refl)
-load-stops image t (suc n) e some = rw (sym e, tableAfterLoad) refl
+pub load-stops : (image : List ℕ) (t : Table) (r : Loaded) → r ≡ loadReply (length t) image → (r .refusal ≡ 0 → ⊥) → t ≡ tableAfterLoad image t
+unfolding tableAfterLoad loadRefusal
+load-stops image t r e some = go (r .refusal) some (ap (λ (x : Loaded). x .refusal) e)
+  where
+    go : (n : ℕ) → (n ≡ 0 → ⊥) → n ≡ loadReply (length t) image .refusal → t ≡ elim (loadReply (length t) image .refusal) [ zero ↦ loadedTable image t | suc m ↦ t ]
+    go zero f d = absurd (f refl)
+    go (suc n) f d = ap (λ (m : ℕ). elim m as (λ _. Table) [ zero ↦ loadedTable image t | suc k ↦ t ]) d

@@ -1,5 +1,5 @@
--- Load's checks behind the first four bytes, in steps: those of the start, those of the weights, those of the sizes and lengths, and those of the slots, each
--- with 0 where all pass.
+-- Load's checks behind the first four bytes, in steps: those of the start, those of the weights, those of the sizes and lengths, and those of the slots' fields,
+-- each with 0 where all pass. The trees come behind them.
 use Prim.Native.Nat.{ℕ}
 use mathlib.Core.Bool.{Bool}
 use mathlib.Core.List.{List}
@@ -11,7 +11,7 @@ use Rattle.table_rules.specs.Geometry.{validOrder, tableRows}
 use Rattle.table_rules.specs.Checks.{sizesPass}
 use Rattle.image_rules.specs.Bytes.{validForm, headerBytes, sizesEnd, imageLength}
 use Rattle.image_rules.specs.Read.{formIn, orderIn, spaceIn, builtIn, liveIn, slotsIn}
-use Rattle.image_rules.specs.Load.{daysPass, slotsPass}
+use Rattle.image_rules.specs.Load.{daysPass, allFieldsPass}
 
 unfoldable pub startBy : Bool → Bool → Bool → Bool → ℕ
 startBy order metric form header =
@@ -42,11 +42,11 @@ sizesRefusal rows image =
     (eqb (length image) (imageLength (formIn image) (orderIn image) (slotsIn image))) (leb (tableRows (orderIn image)) rows)
 
 unfoldable pub slotsBy : Bool → Bool → ℕ
-slotsBy days slots =
+slotsBy days fields =
     unless days badDay
-    (unless slots badImage
+    (unless fields badImage
     0)
 
 unfoldable pub laterRefusal : ℕ → List ℕ → ℕ
 laterRefusal rows image =
-    orElse (weightsBy (validWeights (spaceIn image .weights))) (orElse (sizesRefusal rows image) (slotsBy (daysPass image) (slotsPass image)))
+    orElse (weightsBy (validWeights (spaceIn image .weights))) (orElse (sizesRefusal rows image) (slotsBy (daysPass image) (allFieldsPass image)))

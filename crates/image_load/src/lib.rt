@@ -4,12 +4,10 @@ ghost use Prim.Native.Nat.{_≤_};
 ghost use lib.ListN.{length};
 ghost use Rattle.table_rules.specs.Geometry.{mostOrder, validOrder};
 ghost use Rattle.image_rules.specs.Bytes.{validForm};
-ghost use Rattle.image_rules.specs.Read.{orderIn, slotsIn};
-ghost use Rattle.image_rules.specs.Load.{loadRefusal, tableAfterLoad};
-ghost use Rattle.image_read.specs.InImage.{Started, Headed, Whole, InImage};
-ghost use Rattle.image_test.specs.Trees.{slotsFault};
+ghost use Rattle.image_rules.specs.Read.{orderIn};
+ghost use Rattle.image_rules.specs.Load.{orLoaded, treesIn, loadReply, tableAfterLoad};
+ghost use Rattle.image_read.specs.InImage.{Started, Headed};
 ghost use Rattle.image_load.specs.Steps.{startRefusal, sizesRefusal, laterRefusal};
-use image_entries::Fault;
 use image_fields::buckets_read;
 use image_fields::days_pass;
 use image_fields::sizes_pass;
@@ -17,12 +15,12 @@ use image_fill::put_buckets;
 use image_form::Form;
 use image_form::Formed;
 use image_read::Header;
-use image_read::Slots;
 use image_read::all_slots;
 use image_read::header_in;
 use image_read::slots_in;
 use image_read::start_in;
 use image_reader::has_bytes;
+use image_rules::Loaded;
 use image_rules::START_BYTES;
 use image_test::trees_fault;
 use metric::valid_weights;
@@ -102,23 +100,8 @@ fn sizes_refusal(image: &[u8], header: Header, rows: usize) -> u32
     0
 }
 
-// The first fault of the slots of an image whose sizes and length are right: the fields of all, and then the trees.
-fn slots_fault(image: &[u8], header: Header, all: Slots) -> Fault
-    requires { ⌜ Whole (now image) header × InImage (now image) all × (all .first ≡ 0) × (all .count ≡ slotsIn (now image)) ⌝ }
-    ensures { λ r. ⌜ r ≡ slotsFault (now (image .entry)) ⌝ }
-{
-    if !buckets_read(image, header, all) {
-        return Fault {
-            number: BAD_IMAGE,
-            slot: 0,
-        };
-    }
-    let row = header_row(header.order.t, header.space);
-    trees_fault(image, header, all, &row)
-}
-
-// Every later check in its order, a weight's 32 first, for a table of so many rows. Nothing is written.
-fn load_refusal(image: &[u8], header: Header, rows: usize) -> u32
+// Every later check of lengths and fields in its order, a weight's 32 first, for a table of so many rows.
+fn later_refusal(image: &[u8], header: Header, rows: usize) -> u32
     requires { ⌜ Headed (now image) header × (orderIn (now image) ≤ mostOrder) ⌝ }
     ensures { λ r. ⌜ r ≡ laterRefusal rows (now (image .entry)) ⌝ }
 {
@@ -134,29 +117,47 @@ fn load_refusal(image: &[u8], header: Header, rows: usize) -> u32
     if !days_pass(image, all) {
         return BAD_DAY;
     }
-    let fault = slots_fault(image, header, all);
-    fault.number
+    if !buckets_read(image, header, all) {
+        return BAD_IMAGE;
+    }
+    0
 }
 
-// The refusal, 0 if accepted. An accepted image's table has every row written.
-pub fn load(table: &mut [Row], image: &[u8]) -> u32
-    ensures reply { λ r. ⌜ r ≡ loadRefusal (length (now (table .entry))) (now (image .entry)) ⌝ }
+// The reply to an image whose start passes: its trees are tested once all its fields pass. Nothing is written.
+fn load_reply(image: &[u8], header: Header, rows: usize) -> Loaded
+    requires { ⌜ Headed (now image) header × (orderIn (now image) ≤ mostOrder) ⌝ }
+    ensures { λ r. ⌜ r ≡ orLoaded (laterRefusal rows (now (image .entry))) (treesIn (now (image .entry))) ⌝ }
+{
+    let refusal = later_refusal(image, header, rows);
+    if refusal != 0 {
+        return Loaded { refusal, slot: 0 };
+    }
+    let row = header_row(header.order.t, header.space);
+    trees_fault(image, header, all_slots(image, header), &row)
+}
+
+// The reply, all zeros if accepted. An accepted image's table has every row written.
+pub fn load(table: &mut [Row], image: &[u8]) -> Loaded
+    ensures reply { λ r. ⌜ r ≡ loadReply (length (now (table .entry))) (now (image .entry)) ⌝ }
     ensures area { λ _. ⌜ now (table .exit) ≡ tableAfterLoad (now (image .entry)) (now (table .entry)) ⌝ }
 {
     if !has_bytes(image, 0, START_BYTES) {
-        return BAD_LENGTH;
+        return Loaded {
+            refusal: BAD_LENGTH,
+            slot: 0,
+        };
     }
     let start = start_in(image);
-    let first = start_refusal(image, start);
-    if first != 0 {
-        return first;
+    let refusal = start_refusal(image, start);
+    if refusal != 0 {
+        return Loaded { refusal, slot: 0 };
     }
     let header = header_in(image, start);
-    let later = load_refusal(image, header, table.len());
-    if later != 0 {
-        return later;
+    let reply = load_reply(image, header, table.len());
+    if reply.refusal != 0 {
+        return reply;
     }
     fresh(table, header.order.t, header.space);
     put_buckets(table, image, header, all_slots(image, header));
-    0
+    reply
 }

@@ -1,5 +1,5 @@
 -- The slots of an image by their numbers: which row stands at a place of a run of slots, and that a bucket's slots and sizes are in the image.
-use Prim.Native.Nat.{ℕ, zero, suc, _+_, _≤_, _<_}
+use Prim.Native.Nat.{ℕ, zero, suc, _+_, _^_, _≤_, _<_}
 use mathlib.Core.Path.{_≡_, refl, ap, ap₂, _∙_}
 use mathlib.Core.Bool.{true}
 use mathlib.Core.List.{List, _∷_, map}
@@ -17,7 +17,6 @@ use Rattle.table_rules.proofs.Sizes.{size-room, sizes-at}
 use Rattle.image_rules.specs.Bytes.{tagFields, tagBytes, sizeBytes, pairBytes, sizesEnd, imageLength}
 use Rattle.image_rules.specs.Read.{formIn, orderIn, builtIn, liveIn, slotsBefore, slotsIn, rowIn, bucketIn}
 use Rattle.image_rules.proofs.Blocks.{length-count}
-use Rattle.image_rules.proofs.Counting.{total-most}
 use Rattle.image_rules.proofs.Lengths.{row-width}
 use Rattle.lists.proofs.Totals.{total-more}
 use Rattle.image_form.specs.declared.Form.{Form}
@@ -80,13 +79,20 @@ before-more image k = rw (add-one k) (total-more (builtIn image) k)
 pub built-within : (order : ℕ) (image : List ℕ) → sizesPass order (builtIn image) (liveIn image) ≡ true → (k : ℕ) → k ≤ order → builtIn image k ≤ room k
 built-within order image pass k h = size-room k (builtIn image k) (liveIn image k) (sizes-at order (builtIn image) (liveIn image) pass k h) .1
 
--- so they have few slots
-pub slots-few : (image : List ℕ) → orderIn image ≤ 12 → sizesPass (orderIn image) (builtIn image) (liveIn image) ≡ true → slotsIn image ≤ 53248
+-- so all slots are fewer than 2^13, bucket k having at most 2^k
+total-below : (f : ℕ → ℕ) (n : ℕ) → ((k : ℕ) → k < n → f k ≤ 2 ^ k) → total (map f (countFrom 0 n)) < 2 ^ n
+unfolding total countFrom
+total-below f zero h = omega arith
+total-below f (suc n) h = omega (arith, total-more f n, total-below f n (λ k l. h k (omega arith)), h n (omega arith))
+
+pub slots-few : (image : List ℕ) → orderIn image ≤ 12 → sizesPass (orderIn image) (builtIn image) (liveIn image) ≡ true → slotsIn image < 8192
 unfolding slotsIn slotsBefore room
 slots-few image order pass =
-    let each : (k : ℕ) → k < suc (orderIn image) → builtIn image k ≤ 4096 =
-    λ k l. omega (arith, built-within (orderIn image) image pass k (omega arith), pow-mono {i = k} {j = 12} (omega arith)) in
-    omega (arith, total-most (builtIn image) 4096 (suc (orderIn image)) each)
+    omega (
+      arith,
+      total-below (builtIn image) (suc (orderIn image)) (λ k l. built-within (orderIn image) image pass k (omega arith)),
+      pow-mono {i = suc (orderIn image)} {j = 13} (omega arith),
+    )
 
 -- how many some are, and which stands at a place among them
 pub slots-length : (image : List ℕ) (at : Slots) → length (slotsAt image at) ≡ at .count

@@ -8,7 +8,7 @@ use Rattle.lists.specs.Lists.{total, countFrom}
 use Rattle.lists.proofs.Totals.{total-more}
 use Rattle.table_rules.proofs.Down.{count-last}
 
-map-count-more : {A : Type 0} (f : ℕ → A) (n : ℕ) → map f (countFrom 0 (suc n)) ≡ map f (countFrom 0 n) ++ (f n ∷ [])
+pub map-count-more : {A : Type 0} (f : ℕ → A) (n : ℕ) → map f (countFrom 0 (suc n)) ≡ map f (countFrom 0 n) ++ (f n ∷ [])
 map-count-more f n = ap (map f) (count-last 0 n n (omega arith)) ∙ map-append f (countFrom 0 n) (n ∷ [])
 
 pub total-most : (f : ℕ → ℕ) (m n : ℕ) → ((k : ℕ) → k < n → f k ≤ m) → total (map f (countFrom 0 n)) ≤ m * n

@@ -8,7 +8,9 @@ pub mod GivesBack
 pub mod EachBucket
 pub mod Lengths
 pub mod Bounds
+pub mod TreesPass
+pub mod SlotsPass
 pub mod Accepting
 pub mod ReadTests
-pub mod Loaded
+pub mod LoadedTable
 pub mod Translating

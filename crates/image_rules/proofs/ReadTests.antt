@@ -4,6 +4,7 @@ use Prim.Native.Nat.{ℕ}
 use mathlib.Core.Path.{_≡_, refl, sym, ap, ap₂, _∙_}
 use mathlib.Core.Bool.{Bool, _&&_}
 use mathlib.Core.List.{List, map, flatten}
+use native.Mathlib.Omega.{arith}
 use lib.Dec.{leb}
 use Rattle.lists.specs.Lists.{every, total, countFrom, select, distinct}
 use Rattle.lists.proofs.Tests.{every-map}
@@ -13,9 +14,12 @@ use Rattle.table_rules.specs.Geometry.{room, bucketsOf}
 use Rattle.table_rules.specs.Table.{Table, orderOf, tableSpace, liveOf, slotsOf, liveSlots}
 use Rattle.table_rules.specs.Checks.{sizePasses, sizesPass}
 use Rattle.table_rules.specs.Rebuild.{liveItems}
-use Rattle.image_rules.specs.Read.{orderIn, builtIn, liveIn, slotsBefore, slotsIn, rowIn, bucketIn}
-use Rattle.image_rules.specs.Load.{bucketPasses, daysPass, liveRows, slotsPass}
+use Rattle.table_rules.proofs.ByNumber.{map-count}
+use Rattle.image_rules.specs.Read.{orderIn, spaceIn, builtIn, liveIn, slotsBefore, slotsIn, rowIn, bucketIn}
+use Rattle.image_rules.specs.Load.{bucketFieldsPass, allFieldsPass, daysPass, liveRows}
+use Rattle.image_rules.specs.Trees.{bucketRefusals, slotRefusals, firstRefused, treesReply}
 use Rattle.image_rules.proofs.EachBucket.{test-buckets, map-buckets, every-flatten, rows-in-buckets}
+use Rattle.image_rules.proofs.SlotsPass.{bucketPasses, slotsPass}
 use Rattle.image_rules.proofs.ReadBack.{Fields, Reads, ReadsBack}
 
 -- the tests of fields: the live items, whose tags differ, every bucket, and the days
@@ -24,6 +28,9 @@ liveAmong f = flatten (map (λ k. select isLive (f .slots k)) (bucketsOf (f .ord
 
 abbrev pub bucketsPass : Fields → Bool
 bucketsPass f = every (λ k. bucketPasses (f .space) (f .live k) (f .slots k)) (bucketsOf (f .order)) && distinct (map tagOf (liveAmong f))
+
+abbrev pub fieldsAllPass : Fields → Bool
+fieldsAllPass f = every (λ k. bucketFieldsPass (f .slots k) (f .live k)) (bucketsOf (f .order))
 
 abbrev pub allWeighed : Fields → Bool
 allWeighed f = every (λ k. every (λ row. validDay (dayOf row)) (f .slots k)) (bucketsOf (f .order))
@@ -57,6 +64,23 @@ module _ {f : Fields} {image : List ℕ} (reads : Reads f image) where
       (ap (λ (b : Bool). b && distinct (map tagOf (liveAmong f)))
       (test-buckets (λ k. bucketPasses (f .space) (liveIn image k) (bucketIn image k)) (λ k. bucketPasses (f .space) (f .live k) (f .slots k)) (f .order)
       (λ k h. ap₂ (bucketPasses (f .space)) (reads .live k h) (reads .slots k h))))
+
+  -- a load's own two steps: the fields, and the trees
+  pub fields-read : allFieldsPass image ≡ fieldsAllPass f
+  unfolding allFieldsPass
+  fields-read =
+      rw (reads .order)
+      (test-buckets (λ k. bucketFieldsPass (bucketIn image k) (liveIn image k)) (λ k. bucketFieldsPass (f .slots k) (f .live k)) (f .order)
+      (λ k h. ap₂ bucketFieldsPass (reads .slots k h) (reads .live k h)))
+
+  pub trees-read : treesReply (spaceIn image) (orderIn image) (bucketIn image) ≡ treesReply (f .space) (f .order) (f .slots)
+  unfolding treesReply slotRefusals
+  trees-read =
+      rw (reads .order, reads .space)
+      (ap (λ (ns : List (List ℕ)). firstRefused 0 (flatten ns))
+      (map-buckets (λ k. bucketRefusals (f .space) (flatten (map (bucketIn image) (countFrom 0 k))) (bucketIn image k))
+      (λ k. bucketRefusals (f .space) (flatten (map (f .slots) (countFrom 0 k))) (f .slots k)) (f .order)
+      (λ k h. ap₂ (bucketRefusals (f .space)) (ap flatten (map-count (bucketIn image) (f .slots) 0 k (λ j l m. reads .slots j (omega arith)))) (reads .slots k h))))
 
   pub reads-days : daysPass image ≡ allWeighed f
   unfolding daysPass

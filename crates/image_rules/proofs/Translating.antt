@@ -20,17 +20,18 @@ use Rattle.table_rules.proofs.ByNumber.{map-count}
 use Rattle.image_rules.specs.Bytes.{lastForm, validForm, writtenForm, bytesOf, bytesOfFields, startFields, weightFields, headerFields, dayFields, recordFields, startBytes, headerBytes, tagBytes, pairBytes, sizesEnd, tagWords, imageLength}
 use Rattle.image_rules.specs.Write.{headerBytesOf, sizesOf, tagsOf, recordsOf}
 use Rattle.image_rules.specs.Read.{numberAt, fieldsAt, startNumbers, orderIn, formIn, weightsAs, spaceIn, builtIn, liveIn, slotsIn, dayAs, rowIn, bucketIn}
-use Rattle.image_rules.specs.Load.{loadRefusal, loadedTable, tableAfterLoad}
+use Rattle.image_rules.specs.Load.{fieldsRefusal, orLoaded, treesIn, loadReply, loadRefusal, loadedTable, tableAfterLoad}
+use Rattle.image_rules.specs.declared.Loaded.{Loaded}
 use Rattle.image_rules.specs.Translate.{weightBytes, recordWithDay, translated}
 use Rattle.image_rules.proofs.Bytes.{fields-append, header-after-start}
 use Rattle.image_rules.proofs.Blocks.{length-count}
 use Rattle.image_rules.proofs.Numbers.{number-at-fits, bytes-at, bytes-of-fields-at}
 use Rattle.image_rules.proofs.EachBucket.{fold-buckets, rows-in-buckets}
 use Rattle.image_rules.proofs.ReadBack.{Fields, imageFields, rowsOf, bytesWritten, Fit, Reads, reads-written, form-written}
-use Rattle.image_rules.proofs.ReadTests.{bucketsPass, allWeighed, reads-slots, reads-sizes, buckets-read, reads-days}
+use Rattle.image_rules.proofs.ReadTests.{fieldsAllPass, allWeighed, reads-slots, reads-sizes, fields-read, trees-read, reads-days}
 use Rattle.image_rules.proofs.GivesBack.{WellFormed, recordIn, tagsAt, recordsAt, sizes-there, tags-there, record-is, length-record-in, record-bytes}
 use Rattle.image_rules.proofs.Lengths.{length-written, numbers-fit, below-at, built-in-fits, live-in-fits, bucket-in-fits, bucket-days-fit}
-use Rattle.image_rules.proofs.Loaded.{length-bucket-in, four-weights}
+use Rattle.image_rules.proofs.LoadedTable.{length-bucket-in, four-weights}
 use Rattle.image_rules.proofs.Accepting.{refusalBy, refused-by}
 
 -- a load of an image of a known form and of the length that its sizes give goes by its fields
@@ -42,15 +43,15 @@ module _ {f : Fields} {image : List ℕ} (reads : Reads f image) where
       (fold-buckets (λ u k. putBucket k (bucketIn image k) (liveIn image k) u) (λ u k. putBucket k (f .slots k) (f .live k) u) (f .order)
       (λ k h u. ap₂ (λ slots live. putBucket k slots live u) (reads .slots k h) (reads .live k h)) (freshTable (f .order) (f .space) t))
 
-  refused-so : (rows : ℕ) → length image ≡ imageLength (formIn image) (orderIn image) (slotsIn image) → validForm (formIn image) ≡ true
-      → loadRefusal rows image
+  fields-so : (rows : ℕ) → length image ≡ imageLength (formIn image) (orderIn image) (slotsIn image) → validForm (formIn image) ≡ true
+      → fieldsRefusal rows image
       ≡ refusalBy true (validOrder (f .order)) (validMetric (f .space)) true true (validWeights (f .space .weights)) true (sizesPass (f .order) (f .built) (f .live)) true
-      (leb (tableRows (f .order)) rows) (allWeighed f) (bucketsPass f)
-  refused-so rows long form =
+      (leb (tableRows (f .order)) rows) (allWeighed f) (fieldsAllPass f)
+  fields-so rows long form =
       refused-by rows image long form
       ∙ (λ i.
       refusalBy true (validOrder (reads .order i)) (validMetric (reads .space i)) true true (validWeights (reads .space i .weights)) true (reads-sizes reads i) true
-      (leb (tableRows (reads .order i)) rows) (reads-days reads i) (buckets-read reads i))
+      (leb (tableRows (reads .order i)) rows) (reads-days reads i) (fields-read reads i))
 
 -- what bytes say fits the fields of the newest form
 weights-fit : (image : List ℕ) → All (λ b. b < 2 ^ 8) image → (form i : ℕ) → weight (weightsAs form image) i < 256 ^ 1
@@ -168,8 +169,20 @@ module _ (image : List ℕ) (formed : WellFormed image) (old : formIn image < wr
   unfolding validForm lastForm writtenForm
   known-translated = ap validForm form-translated
 
+  fields-same : (n : ℕ) → fieldsRefusal n image ≡ fieldsRefusal n (translated image)
+  fields-same n = fields-so own n (formed .long) known ∙ sym (fields-so reads n length-translated known-translated)
+
+  trees-same : treesIn image ≡ treesIn (translated image)
+  unfolding treesIn
+  trees-same = trees-read own ∙ sym (trees-read reads)
+
+  reply-same : (n : ℕ) → loadReply n image ≡ loadReply n (translated image)
+  unfolding loadReply
+  reply-same n = ap₂ orLoaded (fields-same n) trees-same
+
   refusal-same : (n : ℕ) → loadRefusal n image ≡ loadRefusal n (translated image)
-  refusal-same n = refused-so own n (formed .long) known ∙ sym (refused-so reads n length-translated known-translated)
+  unfolding loadRefusal
+  refusal-same n = ap (λ (r : Loaded). r .refusal) (reply-same n)
 
   table-same : (t : Table) → tableAfterLoad image t ≡ tableAfterLoad (translated image) t
   unfolding tableAfterLoad
@@ -179,7 +192,7 @@ module _ (image : List ℕ) (formed : WellFormed image) (old : formIn image < wr
 -- every reply and table of a load is its translation's
 pub translates : (image : List ℕ) → All (λ b. b < 2 ^ 8) image → formIn image < writtenForm
     → length image ≡ imageLength (formIn image) (orderIn image) (slotsIn image) → (t : Table)
-    → (loadRefusal (length t) image ≡ loadRefusal (length t) (translated image)) × (tableAfterLoad image t ≡ tableAfterLoad (translated image) t)
+    → (loadReply (length t) image ≡ loadReply (length t) (translated image)) × (tableAfterLoad image t ≡ tableAfterLoad (translated image) t)
 translates image bytes old long t =
     let formed : WellFormed image = record { bytes = bytes; long = long } in
-    (refusal-same image formed old (length t), table-same image formed old t)
+    (reply-same image formed old (length t), table-same image formed old t)

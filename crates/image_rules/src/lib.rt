@@ -1,5 +1,12 @@
 // The image of a table: the bytes it is written as, and the table that they load as.
 
+// RULES 14.1: the numbers of the refusals that name a slot.
+pub const DUPLICATE_TAG: u32 = 36;
+
+pub const MISPLACED_ITEM: u32 = 37;
+
+pub const BAD_THRESHOLD: u32 = 38;
+
 // What has the same number of bytes in every form of an image that has it: its start, the weights, a size, the two sizes of a bucket, and a slot's tag.
 pub const START_BYTES: usize = 4;
 
@@ -25,4 +32,10 @@ pub const DAY_BYTES: usize = 2;
 pub struct Written {
     pub refusal: u32,
     pub length: u32,
+}
+
+#[repr(C)]
+pub struct Loaded {
+    pub refusal: u32,
+    pub slot: u32,
 }

@@ -121,11 +121,20 @@ fn print_written(table: &[Row], image: &[u8]) {
     }
 }
 
+// A slot behind a colon, where it is not 0.
+fn print_slot(slot: u32) {
+    if slot != 0 {
+        io::write_all(STDOUT_FILENO, b":");
+        io::print_decimal(STDOUT_FILENO, slot as u64);
+    }
+}
+
 fn print_reply(table: &mut [Row], image: &[u8]) {
-    let refusal = vpindex::vpindex_load(table, image);
+    let reply = vpindex::vpindex_load(table, image);
     io::write_all(STDOUT_FILENO, b" ");
-    io::print_decimal(STDOUT_FILENO, refusal as u64);
-    if refusal == 0 {
+    io::print_decimal(STDOUT_FILENO, reply.refusal as u64);
+    print_slot(reply.slot);
+    if reply.refusal == 0 {
         print_written(table, image);
     }
 }

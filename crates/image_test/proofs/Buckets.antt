@@ -2,25 +2,23 @@
 use Prim.Native.Nat.{ℕ, zero, suc, _+_, _^_, _≤_, _<_}
 use native.Mathlib.Omega.{arith}
 use mathlib.Core.Path.{_≡_, refl, sym, _∙_, ap, ap₂}
-use mathlib.Core.List.{List, _∷_, _++_, map, flatten, map-append}
+use mathlib.Core.List.{List, _++_, map, flatten, map-append}
 use lib.ListN.{length, getD, take, length-take}
-use Rattle.lists.specs.Lists.{countFrom, total, select}
-use Rattle.metric_rules.specs.Row.{Row, tagOf, isLive}
+use Rattle.lists.specs.Lists.{countFrom, total}
+use Rattle.metric_rules.specs.Row.{Row, tagOf}
 use Rattle.metric_rules.specs.declared.Space.{Space}
 use Rattle.search_rules.specs.Range.{Entry}
-use Rattle.search_rules.proofs.Selecting.{select-append}
 use Rattle.table_rules.specs.Geometry.{bucketsOf}
 use Rattle.image_rules.specs.Read.{orderIn, builtIn, slotsBefore, slotsIn, rowIn, bucketIn}
-use Rattle.image_rules.specs.Load.{liveRows}
+use Rattle.image_rules.specs.declared.Loaded.{Loaded}
 use Rattle.image_rules.proofs.Blocks.{length-count, getD-count, count-append}
-use Rattle.lists.proofs.Totals.{total-more}
 use Rattle.image_rules.proofs.Counting.{flatten-more}
+use Rattle.lists.proofs.Totals.{total-more}
 use Rattle.image_read.specs.declared.Slots.{Slots}
-use Rattle.image_entries.specs.declared.Fault.{Fault}
 use Rattle.image_entries.specs.Faults.{treeFault}
 use Rattle.image_entries.specs.Entries.{places, TagsFit}
 use Rattle.image_read.specs.InImage.{InImage, slotIn, slotsAt}
-use Rattle.image_read.proofs.Places.{slots-rows, bucket-slots}
+use Rattle.image_read.proofs.Places.{length-counted, slots-rows, bucket-slots}
 use Rattle.image_test.specs.Trees.{bucketFault}
 
 module _ (image : List ℕ) where
@@ -41,22 +39,14 @@ module _ (image : List ℕ) where
           ap (map (rowIn image)) (count-append 0 (slotsBefore image m) (builtIn image m) ∙ ap (λ (a : ℕ). countFrom 0 (slotsBefore image m) ++ countFrom a (builtIn image m)) z)
           ∙ map-append (rowIn image) (countFrom 0 (slotsBefore image m)) (countFrom (slotsBefore image m) (builtIn image m))
 
-  lives-before : (m : ℕ) → flatten (map (λ k. select isLive (bucketIn image k)) (countFrom 0 m)) ≡ select isLive (flatten (map (bucketIn image) (countFrom 0 m)))
-  unfolding countFrom flatten select
-  lives-before zero = refl
-  lives-before (suc m) =
-      flatten-more (λ k. select isLive (bucketIn image k)) m
-      ∙ ap (λ (r : List Row). r ++ select isLive (bucketIn image m)) (lives-before m)
-      ∙ sym (ap (select isLive) (flatten-more (bucketIn image) m) ∙ select-append isLive (flatten (map (bucketIn image) (countFrom 0 m))) (bucketIn image m))
+  -- a bucket's first slot is as many slots in
+  pub before-slots : (m : ℕ) → length (flatten (map (bucketIn image) (countFrom 0 m))) ≡ slotsBefore image m
+  before-slots m = ap length (rows-before m) ∙ length-counted (rowIn image) 0 (slotsBefore image m)
 
-  -- the live items of all buckets are the live ones of all slots
-  pub live-all : (at : Slots) → at .first ≡ 0 → at .count ≡ slotsIn image → liveRows image ≡ select isLive (slotsAt image at)
-  unfolding liveRows bucketsOf slotsIn
-  live-all at f n =
-      lives-before (suc (orderIn image))
-      ∙ ap (select isLive)
-      (rows-before (suc (orderIn image))
-      ∙ sym (slots-rows image at ∙ ap₂ (λ (a m : ℕ). map (rowIn image) (countFrom a m)) f n))
+  -- the slots of all buckets are all slots
+  pub slots-all : (at : Slots) → at .first ≡ 0 → at .count ≡ slotsIn image → flatten (map (bucketIn image) (bucketsOf (orderIn image))) ≡ slotsAt image at
+  unfolding bucketsOf slotsIn
+  slots-all at f n = rows-before (suc (orderIn image)) ∙ sym (slots-rows image at ∙ ap₂ (λ (a m : ℕ). map (rowIn image) (countFrom a m)) f n)
 
 pub buckets-length : (order : ℕ) → length (bucketsOf order) ≡ suc order
 unfolding bucketsOf
@@ -69,15 +59,15 @@ buckets-more order k h = omega (arith, buckets-length order)
 module _ (image : List ℕ) (at : Slots) (k : ℕ) (h : k ≤ orderIn image) (f : at .first ≡ slotsBefore image k) (n : at .count ≡ builtIn image k) where
   -- what its test asks
   pub bucket-asks :
-      InImage image at → at .count ≤ places → (es : List Entry) (count : ℕ) → count ≡ at .count → count ≤ length es
+      InImage image at → slotsIn image < places → (es : List Entry) (count : ℕ) → count ≡ at .count → count ≤ length es
       → ((i : ℕ) → i < slotsIn image → tagOf (rowIn image i) < 2 ^ 50)
-      → InImage image at × (at .count ≤ places) × (length (take count es) ≡ at .count) × TagsFit (slotIn image at) (at .count)
+      → InImage image at × (at .first + at .count ≤ places) × (length (take count es) ≡ at .count) × TagsFit (slotIn image at) (at .count)
   unfolding slotIn
-  bucket-asks p few es count e room fit = (p, few, omega (arith, length-take count es), λ i l. fit (at .first + i) (omega (arith, p .within)))
+  bucket-asks p few es count e room fit = (p, omega (arith, p .within), omega (arith, length-take count es), λ i l. fit (at .first + i) (omega (arith, p .within)))
 
   -- what it says of it
   pub bucket-tests :
-      (space : Space) (r : Fault) → r ≡ treeFault space (at .first) (slotsAt image at) → bucketFault space image (getD (bucketsOf (orderIn image)) k 0) ≡ r
+      (space : Space) (r : Loaded) → r ≡ treeFault space (at .first) (slotsAt image at) → bucketFault space image (getD (bucketsOf (orderIn image)) k 0) ≡ r
   unfolding bucketFault bucketsOf
   bucket-tests space r e =
       ap (bucketFault space image) (getD-count 0 (suc (orderIn image)) k 0 (omega arith) ∙ omega arith)

@@ -1,4 +1,5 @@
--- What the whole of an image's slots shows.
+-- What the whole of an image's slots shows, and its trees test by test.
 mod Living
 mod Buckets
+mod Joined
 pub mod Checked

@@ -3,9 +3,10 @@ ghost use mathlib.Core.Path.{_≡_};
 ghost use mathlib.Core.Bool.{true};
 ghost use lib.ListN.{length};
 ghost use Rattle.state_rules.specs.Parts.{validName, partOf, savedImage};
-ghost use Rattle.state_rules.specs.Restore.{partRefusal, restoreRefusal, tableAfterRestore};
+ghost use Rattle.state_rules.specs.Restore.{partRefusal, restoreReply, tableAfterRestore};
 use image_load::load;
 use image_read::number32;
+use image_rules::Loaded;
 use metric_rules::Row;
 use state_part::Name;
 use state_part::Named;
@@ -50,18 +51,21 @@ fn saved_image(part: &[u8]) -> &[u8]
     &part[LENGTH_BYTES..end]
 }
 
-// The refusal, 0 if accepted: 34, those of the part, and then those of a load.
-pub fn restore(table: &mut [Row], states: &[u8], name: u32) -> u32
-    ensures reply { λ r. ⌜ r ≡ restoreRefusal (length (now (table .entry))) (now (states .entry)) name ⌝ }
+// The reply, all zeros if accepted: 34, those of the part, and then what a load replies.
+pub fn restore(table: &mut [Row], states: &[u8], name: u32) -> Loaded
+    ensures reply { λ r. ⌜ r ≡ restoreReply (length (now (table .entry))) (now (states .entry)) name ⌝ }
     ensures table { λ _. ⌜ now (table .exit) ≡ tableAfterRestore (now (states .entry)) name (now (table .entry)) ⌝ }
 {
     match Name::new(name) {
-        Named::Unknown => BAD_NAME,
+        Named::Unknown => Loaded {
+            refusal: BAD_NAME,
+            slot: 0,
+        },
         Named::Is(valid) => {
             let part = part_of(states, valid);
             let refusal = part_refusal(part);
             if refusal != 0 {
-                return refusal;
+                return Loaded { refusal, slot: 0 };
             }
             load(table, saved_image(part))
         }

@@ -1,7 +1,7 @@
 -- What a restore does. Behind the name and the part it is a load of the image in the part, whatever else the area holds; and in a part that a save left, also if
 -- all around it was written since, it is a load of the image that was saved.
 use Prim.Native.Nat.{ℕ, zero, suc, _+_, _^_, _≤_, _<_}
-use mathlib.Core.Path.{_≡_, refl, sym, ap, ap₂, _∙_}
+use mathlib.Core.Path.{_≡_, refl, sym, ap, _∙_}
 use mathlib.Core.Bool.{Bool, true, false, not}
 use mathlib.Core.List.{List, _++_}
 use native.Mathlib.Omega.{arith}
@@ -11,16 +11,17 @@ use borrow.Author.Tests.{le-leb, ne-eqb}
 use Rattle.lists.specs.Lists.{All}
 use Rattle.lists.proofs.Lists.{all-take, all-drop}
 use Rattle.lists.proofs.Tests.{and-pass}
-use Rattle.table_rules.specs.Refusals.{unless, orElse}
+use Rattle.table_rules.specs.Refusals.{unless}
 use Rattle.table_rules.specs.Table.{Table}
-use Rattle.table_rules.proofs.Chains.{or-zero, unless-zero}
+use Rattle.table_rules.proofs.Chains.{unless-zero}
 use Rattle.table_rules.proofs.Passing.{read-passed}
 use Rattle.image_rules.specs.Write.{imageOf}
-use Rattle.image_rules.specs.Load.{loadRefusal, loadedTable, tableAfterLoad}
+use Rattle.image_rules.specs.declared.Loaded.{Loaded}
+use Rattle.image_rules.specs.Load.{orLoaded, loadReply, loadRefusal, loadedTable, tableAfterLoad}
 use Rattle.image_rules.proofs.Bounds.{image-fits, image-some}
 use Rattle.state_rules.specs.Parts.{badName, lengthBytes, validName, partBytes, partStart, partOf, snapshotOf, behindLength, savedLength, savedImage}
 use Rattle.state_rules.specs.Save.{saveRefusal, statesAfterSave}
-use Rattle.state_rules.specs.Restore.{holdsSnapshot, partRefusal, restoreRefusal, tableAfterRestore}
+use Rattle.state_rules.specs.Restore.{holdsSnapshot, partRefusal, nameRefusal, restoreReply, restoreRefusal, tableAfterRestore}
 use Rattle.state_rules.proofs.Saved.{save-accepted, saved-part, snapshot-length, reads-length, reads-behind, reads-image}
 
 -- a refused load leaves its table
@@ -28,38 +29,47 @@ load-left : (image : List ℕ) (t : Table) (n : ℕ) → loadRefusal (length t) 
 unfolding tableAfterLoad
 load-left image t n e = ap (λ (m : ℕ). elim m as (λ _. Table) [ zero ↦ loadedTable image t | suc k ↦ t ]) e
 
+-- a reply that the name or the part refuses, and one that a load gives
+refused-first : (n : ℕ) (reply : Loaded) → orLoaded n reply .refusal ≡ 0 → (n ≡ 0) × (reply .refusal ≡ 0)
+refused-first zero reply e = (refl, e)
+refused-first (suc n) reply e = absurd (omega arith)
+
 module _ (states : List ℕ) (name : ℕ) where
-  -- the refusal by the name and the part
-  refusal-by : (rows : ℕ) (b : Bool) (n : ℕ) → validName name ≡ b → partRefusal (partOf states name) ≡ n
-      → restoreRefusal rows states name ≡ unless b badName (orElse n (loadRefusal rows (savedImage (partOf states name))))
-  unfolding restoreRefusal
-  refusal-by rows b n e f =
-      ap₂ (λ (c : Bool) (m : ℕ). unless c badName (orElse m (loadRefusal rows (savedImage (partOf states name))))) e f
+  -- the reply by the refusal of the name and its part
+  reply-by : (rows n : ℕ) → nameRefusal states name ≡ n → restoreReply rows states name ≡ orLoaded n (loadReply rows (savedImage (partOf states name)))
+  unfolding restoreReply
+  reply-by rows n e = ap (λ (m : ℕ). orLoaded m (loadReply rows (savedImage (partOf states name)))) e
 
   after-by : (t : Table) (n : ℕ) → restoreRefusal (length t) states name ≡ n
       → tableAfterRestore states name t ≡ elim n [ zero ↦ tableAfterLoad (savedImage (partOf states name)) t | suc m ↦ t ]
   unfolding tableAfterRestore
   after-by t n e = ap (λ (k : ℕ). elim k as (λ _. Table) [ zero ↦ tableAfterLoad (savedImage (partOf states name)) t | suc m ↦ t ]) e
 
-  pub no-name : (t : Table) → validName name ≡ false → (badName ≡ restoreRefusal (length t) states name) × (t ≡ tableAfterRestore states name t)
-  no-name t e =
-      let known = refusal-by (length t) false _ e refl in
-      (sym known, sym (after-by t badName known))
+  -- refused by its name or its part, it has no slot and leaves the table
+  refused-here : (t : Table) (n : ℕ) → nameRefusal states name ≡ suc n
+      → (record { refusal = suc n; slot = 0 } ≡ restoreReply (length t) states name) × (t ≡ tableAfterRestore states name t)
+  unfolding restoreRefusal
+  refused-here t n e =
+      let known = reply-by (length t) (suc n) e in
+      (sym known, sym (after-by t (suc n) (ap (λ (r : Loaded). r .refusal) known)))
+
+  pub no-name : (t : Table) → validName name ≡ false → (record { refusal = badName; slot = 0 } ≡ restoreReply (length t) states name) × (t ≡ tableAfterRestore states name t)
+  unfolding nameRefusal
+  no-name t e = refused-here t 33 (ap (λ (b : Bool). unless b badName (partRefusal (partOf states name))) e)
 
   pub no-image : (t : Table) (n : ℕ) → validName name ≡ true → n ≡ partRefusal (partOf states name) → (n ≡ 0 → ⊥)
-      → (n ≡ restoreRefusal (length t) states name) × (t ≡ tableAfterRestore states name t)
+      → (record { refusal = n; slot = 0 } ≡ restoreReply (length t) states name) × (t ≡ tableAfterRestore states name t)
+  unfolding nameRefusal
   no-image t zero e f some = absurd (some refl)
-  no-image t (suc n) e f some =
-      let known = refusal-by (length t) true (suc n) e (sym f) in
-      (sym known, sym (after-by t (suc n) known))
+  no-image t (suc n) e f some = refused-here t n (ap (λ (b : Bool). unless b badName (partRefusal (partOf states name))) e ∙ sym f)
 
   pub loads : (t : Table) → validName name ≡ true → partRefusal (partOf states name) ≡ 0
-      → (restoreRefusal (length t) states name ≡ loadRefusal (length t) (savedImage (partOf states name)))
+      → (restoreReply (length t) states name ≡ loadReply (length t) (savedImage (partOf states name)))
       × (tableAfterRestore states name t ≡ tableAfterLoad (savedImage (partOf states name)) t)
+  unfolding nameRefusal restoreRefusal loadRefusal
   loads t e f =
-      let image = savedImage (partOf states name) in
-      let known : restoreRefusal (length t) states name ≡ loadRefusal (length t) image = refusal-by (length t) true 0 e f in
-      (known, go (loadRefusal (length t) image) refl known)
+      let known = reply-by (length t) 0 (ap (λ (b : Bool). unless b badName (partRefusal (partOf states name))) e ∙ f) in
+      (known, go (loadRefusal (length t) (savedImage (partOf states name))) refl (ap (λ (r : Loaded). r .refusal) known))
     where
       go : (n : ℕ) → loadRefusal (length t) (savedImage (partOf states name)) ≡ n → restoreRefusal (length t) states name ≡ loadRefusal (length t) (savedImage (partOf states name))
           → tableAfterRestore states name t ≡ tableAfterLoad (savedImage (partOf states name)) t
@@ -69,11 +79,11 @@ module _ (states : List ℕ) (name : ℕ) where
   -- so an accepted restore is an accepted load, and a refused one leaves its table
   pub restored : (t : Table) → restoreRefusal (length t) states name ≡ 0
       → (loadRefusal (length t) (savedImage (partOf states name)) ≡ 0) × (tableAfterRestore states name t ≡ tableAfterLoad (savedImage (partOf states name)) t)
-  unfolding restoreRefusal
+  unfolding restoreRefusal restoreReply nameRefusal loadRefusal
   restored t e =
-      let a = unless-zero (validName name) badName _ (omega arith) e in
-      let b = or-zero (partRefusal (partOf states name)) (loadRefusal (length t) (savedImage (partOf states name))) (a .1) in
-      (b .1, loads t (a .0) (b .0) .1)
+      let a = refused-first (nameRefusal states name) (loadReply (length t) (savedImage (partOf states name))) e in
+      let b = unless-zero (validName name) badName _ (omega arith) (a .0) in
+      (a .1, loads t (b .0) (b .1) .1)
 
   pub restore-left : (t : Table) (n : ℕ) → restoreRefusal (length t) states name ≡ suc n → tableAfterRestore states name t ≡ t
   restore-left t n e = after-by t (suc n) e
@@ -114,12 +124,9 @@ module _ (t : Table) (states : List ℕ) (name : ℕ) (accepted : saveRefusal t 
   pub saved-image : savedImage (partOf since name) ≡ imageOf t
   saved-image = ap savedImage part-is ∙ reads-image (imageOf t) rest fits
 
-  pub saved-length : savedLength (partOf since name) ≡ length (imageOf t)
-  saved-length = ap savedLength part-is ∙ reads-length (imageOf t) rest fits
-
   pub saved-loads : (other : Table)
-      → (restoreRefusal (length other) since name ≡ loadRefusal (length other) (imageOf t)) × (tableAfterRestore since name other ≡ tableAfterLoad (imageOf t) other)
+      → (restoreReply (length other) since name ≡ loadReply (length other) (imageOf t)) × (tableAfterRestore since name other ≡ tableAfterLoad (imageOf t) other)
   saved-loads other =
       let ok = save-accepted t states name accepted in
       let l = loads since name other (ok .named) (ap partRefusal part-is ∙ snapshot-passes (imageOf t) rest (image-some t) fits) in
-      (l .0 ∙ ap (loadRefusal (length other)) saved-image, l .1 ∙ ap (λ (image : List ℕ). tableAfterLoad image other) saved-image)
+      (l .0 ∙ ap (loadReply (length other)) saved-image, l .1 ∙ ap (λ (image : List ℕ). tableAfterLoad image other) saved-image)

@@ -8,10 +8,10 @@ use Rattle.table_rules.specs.Checks.{frameRefusal, readRefusal}
 use Rattle.image_rules.specs.Bytes.{numberOf, startFields, startBytes}
 use Rattle.image_rules.specs.Read.{numberAt}
 use Rattle.image_rules.specs.Write.{writeRefusal}
-use Rattle.image_rules.specs.Load.{loadRefusal}
+use Rattle.image_rules.specs.Load.{fieldsRefusal, loadReply}
 use Rattle.state_rules.specs.Parts.{validName, partBytes, partStart, partOf, leftOver, behindLength, savedLength, savedImage}
 use Rattle.state_rules.specs.Save.{saveRefusal}
-use Rattle.state_rules.specs.Restore.{holdsSnapshot, partRefusal, restoreRefusal}
+use Rattle.state_rules.specs.Restore.{holdsSnapshot, partRefusal, nameRefusal, restoreReply, restoreRefusal}
 
 -- 19 bytes: eight parts of 2, and 3 bytes left over
 nineteen : List ℕ
@@ -36,13 +36,13 @@ damaged : answers
     (0 ∷ 1 ∷ 2 ∷ 3 ∷ 4 ∷ 8 ∷ 9 ∷ [])
     ≡ 34 ∷ 35 ∷ 7 ∷ 7 ∷ 7 ∷ 35 ∷ 34 ∷ []
 unfolding
-    answers restoreRefusal partRefusal holdsSnapshot savedLength savedImage behindLength validName partOf partStart partBytes numberAt numberOf loadRefusal
+    answers restoreRefusal restoreReply nameRefusal partRefusal holdsSnapshot savedLength savedImage behindLength validName partOf partStart partBytes numberAt numberOf loadReply fieldsRefusal
     startBytes startFields total
 damaged = refl
 
 -- 31 bytes, so parts of 3: none holds a length, whatever its bytes; and no bytes at all
 short : answers (replicate 31 255) (0 ∷ 1 ∷ 8 ∷ 9 ∷ []) ++ answers [] (0 ∷ 1 ∷ 8 ∷ []) ≡ 34 ∷ 35 ∷ 35 ∷ 34 ∷ 34 ∷ 35 ∷ 35 ∷ []
-unfolding answers restoreRefusal partRefusal holdsSnapshot validName partOf partStart partBytes
+unfolding answers restoreRefusal restoreReply nameRefusal partRefusal holdsSnapshot validName partOf partStart partBytes
 short = refl
 
 -- a save of a table without rows: its name first, then its table

@@ -4,9 +4,10 @@ use mathlib.Core.Bool.{Bool, not, _&&_}
 use mathlib.Core.List.{List}
 use lib.ListN.{length}
 use lib.Dec.{leb, eqb}
-use Rattle.table_rules.specs.Refusals.{badLength, unless, orElse}
+use Rattle.table_rules.specs.Refusals.{badLength, unless}
 use Rattle.table_rules.specs.Table.{Table}
-use Rattle.image_rules.specs.Load.{loadRefusal, tableAfterLoad}
+use Rattle.image_rules.specs.declared.Loaded.{Loaded}
+use Rattle.image_rules.specs.Load.{orLoaded, loadReply, tableAfterLoad}
 use Rattle.state_rules.specs.Parts.{badName, notSaved, validName, partOf, lengthBytes, behindLength, savedLength, savedImage}
 
 -- RULES 19.3: a part holds a snapshot if it has the four bytes of a length, and that is not 0
@@ -20,12 +21,17 @@ partRefusal part =
     (unless (leb (savedLength part) (length (behindLength part))) badLength
     0)
 
--- RULES 19.6: 34, those of the part, and then those of loading the image in it
+-- RULES 19.6: 34, and those of the name's part
+unfoldable pub nameRefusal : List ℕ → ℕ → ℕ
+nameRefusal states name = unless (validName name) badName (partRefusal (partOf states name))
+
+-- RULES 19.6: these, which have no slot, and then the reply of loading the image in the part
+unfoldable pub restoreReply : ℕ → List ℕ → ℕ → Loaded
+restoreReply rows states name = orLoaded (nameRefusal states name) (loadReply rows (savedImage (partOf states name)))
+
+-- its number alone
 unfoldable pub restoreRefusal : ℕ → List ℕ → ℕ → ℕ
-restoreRefusal rows states name =
-    unless (validName name) badName
-    (orElse (partRefusal (partOf states name))
-    (loadRefusal rows (savedImage (partOf states name))))
+restoreRefusal rows states name = restoreReply rows states name .refusal
 
 -- RULES 19.7: the table that loading the image leaves
 unfoldable pub tableAfterRestore : List ℕ → ℕ → Table → Table

@@ -7,6 +7,7 @@ ghost use Rattle.call_rules.specs.Calls.Begin.{fresh, load, restore};
 ghost use Rattle.call_rules.specs.Calls.Change.{add, remove, readList};
 ghost use Rattle.call_rules.specs.Calls.Ask.{lookUp, range, nearest};
 use dues_rules::Dues;
+use image_rules::Loaded;
 use image_rules::Written;
 use list_rules::ListRead;
 use metric_rules::Profile;
@@ -28,9 +29,9 @@ pub extern "C" fn vpindex_fresh(table: &mut [Row], order: u32, metric: u32, weig
     table_fresh::fresh(table, order, Space { metric, weights })
 }
 
-// The table that these bytes are the image of. The reply is the refusal: 7, 3, 4, 8, 7, 32, 7, 24, 7, 23, 33, 8, or 0.
+// The table that these bytes are the image of. Refusals: 7, 3, 4, 8, 7, 32, 7, 24, 7, 23, 33, 8; and then 36, 37 or 38 with the lowest slot that one is of.
 #[no_mangle]
-pub extern "C" fn vpindex_load(table: &mut [Row], image: &[u8]) -> u32
+pub extern "C" fn vpindex_load(table: &mut [Row], image: &[u8]) -> Loaded
     ensures reply { λ r. ⌜ r ≡ beginReply (load (now (image .entry))) (length (now (table .entry))) ⌝ }
     ensures table { λ _. ⌜ now (table .exit) ≡ tableBegun (load (now (image .entry))) (now (table .entry)) ⌝ }
 {
@@ -134,9 +135,9 @@ pub extern "C" fn vpindex_save(table: &[Row], states: &mut [u8], name: u32) -> W
     state_save::save(table, states, name)
 }
 
-// The table that was saved under a name. The reply is the refusal: 34, 35, 7, then those of a load, or 0.
+// The table that was saved under a name. Refusals: 34, 35, 7, then what a load replies.
 #[no_mangle]
-pub extern "C" fn vpindex_restore(table: &mut [Row], states: &[u8], name: u32) -> u32
+pub extern "C" fn vpindex_restore(table: &mut [Row], states: &[u8], name: u32) -> Loaded
     ensures reply { λ r. ⌜ r ≡ beginReply (restore (now (states .entry)) name) (length (now (table .entry))) ⌝ }
     ensures table { λ _. ⌜ now (table .exit) ≡ tableBegun (restore (now (states .entry)) name) (now (table .entry)) ⌝ }
 {

@@ -3,6 +3,7 @@
 use reference::calls as plain;
 use reference::item::{Entry, Item, Profile, Row, Space};
 use reference::list::ListRead;
+use reference::refusal::Unloaded;
 use vpindex::ffi;
 
 use crate::random::Random;
@@ -65,6 +66,7 @@ pub enum Call {
 #[derive(Clone, Copy, Debug, Default, PartialEq, Eq)]
 pub struct Reply {
     pub refusal: u32,
+    pub slot: u32,
     pub bucket: u32,
     pub found: u32,
     pub length: u32,
@@ -87,13 +89,18 @@ fn searched((found, distances): plain::Searched) -> Reply {
     Reply { found, distances, ..Reply::default() }
 }
 
+fn loaded(result: Result<(), Unloaded>) -> Reply {
+    let Unloaded { refusal, slot } = result.err().unwrap_or(Unloaded { refusal: 0, slot: 0 });
+    Reply { refusal, slot, ..Reply::default() }
+}
+
 /// The call by the reference.
 pub fn by_reference(call: &Call, areas: &mut Areas) -> Reply {
     let Areas { table, work, result, bytes, tags, dues } = areas;
     let nothing = |()| Reply::default();
     match *call {
         Call::Fresh { order, space } => accepted(plain::fresh(table, order, space), nothing),
-        Call::Load => accepted(plain::load(table, bytes), nothing),
+        Call::Load => loaded(plain::load(table, bytes)),
         Call::Add { tag, profile, day } => {
             let added = |(bucket, distances)| Reply { bucket, distances, ..Reply::default() };
             accepted(plain::add(table, work, tag, profile, day), added)
@@ -115,7 +122,7 @@ pub fn by_reference(call: &Call, areas: &mut Areas) -> Reply {
             Reply { refusal, line, added, distances, ..Reply::default() }
         }
         Call::Save { name } => accepted(plain::save(table, bytes, name), |length| Reply { length, ..Reply::default() }),
-        Call::Restore { name } => accepted(plain::restore(table, bytes, name), nothing),
+        Call::Restore { name } => loaded(plain::restore(table, bytes, name)),
         Call::Dues => accepted(plain::dues(table, tags, dues), |total| Reply { total, ..Reply::default() }),
     }
 }
@@ -133,6 +140,10 @@ fn hits(reply: ffi::Searched) -> Reply {
     Reply { refusal: reply.refusal, found: reply.found, distances: reply.distances, ..Reply::default() }
 }
 
+fn begun(ffi::Loaded { refusal, slot }: ffi::Loaded) -> Reply {
+    Reply { refusal, slot, ..Reply::default() }
+}
+
 /// The call by the archive, on areas as they are.
 pub fn by_archive(call: &Call, areas: Lent<'_>) -> Reply {
     let Lent { table, work, result, bytes, tags, dues } = areas;
@@ -141,7 +152,7 @@ pub fn by_archive(call: &Call, areas: Lent<'_>) -> Reply {
             let weights = ffi::Weights { each: space.weights };
             Reply { refusal: ffi::fresh(table, order, space.metric, weights), ..Reply::default() }
         }
-        Call::Load => Reply { refusal: ffi::load(table, bytes), ..Reply::default() },
+        Call::Load => begun(ffi::load(table, bytes)),
         Call::Add { tag, profile, day } => {
             let ffi::Added { refusal, bucket, distances } = ffi::add(table, work, tag, raw(profile), day);
             Reply { refusal, bucket, distances, ..Reply::default() }
@@ -165,7 +176,7 @@ pub fn by_archive(call: &Call, areas: Lent<'_>) -> Reply {
             let ffi::Written { refusal, length } = ffi::save(table, bytes, name);
             Reply { refusal, length, ..Reply::default() }
         }
-        Call::Restore { name } => Reply { refusal: ffi::restore(table, bytes, name), ..Reply::default() },
+        Call::Restore { name } => begun(ffi::restore(table, bytes, name)),
         Call::Dues => {
             let ffi::Dues { refusal, total } = ffi::dues(table, tags, dues);
             Reply { refusal, total, ..Reply::default() }

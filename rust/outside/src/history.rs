@@ -6,6 +6,7 @@ use reference::dues::total;
 use reference::image::is_sound;
 use reference::item::{Item, Row, Slot};
 use reference::list::ListRead;
+use reference::refusal::Unloaded;
 use reference::table::{Bucket, Table};
 use reference::tree::Hit;
 
@@ -116,8 +117,8 @@ impl History {
         reply
     }
 
-    // Table and book are alike in the refusal (writing and saving excepted), look up's profile and day, the number found and the
-    // entries, and of a herd list in the line and the number added.
+    // Table and book are alike in the refusal (writing and saving excepted), a load's slot, look up's profile and day,
+    // the number found and the entries, and of a herd list in the line and the number added.
     fn check_shown(
         &mut self,
         call: &Call,
@@ -131,8 +132,8 @@ impl History {
         let found = |hits| (Item::default(), hits);
         let expected = match *call {
             Call::Fresh { order, space } => book.fresh(rows, order, space).map(nothing),
-            Call::Load => book.load(rows, bytes).map(nothing),
-            Call::Restore { name } => book.restore(rows, bytes, name).map(nothing),
+            Call::Load => return same_slot(call, reply, book.load(rows, bytes)),
+            Call::Restore { name } => return same_slot(call, reply, book.restore(rows, bytes, name)),
             Call::Add { tag, profile, day } => {
                 book.add(rows, work, Item { tag, profile, day: day as u32 }).map(nothing)
             }
@@ -178,6 +179,11 @@ impl History {
         assert!(self.sums.distances <= bound, "{:?} at order {}", self.sums, table.order);
         self.share = self.share.max(100 * self.sums.distances / bound.max(1));
     }
+}
+
+fn same_slot(call: &Call, reply: &Reply, expected: Result<(), Unloaded>) {
+    let got = if reply.refusal == 0 { Ok(()) } else { Err(Unloaded { refusal: reply.refusal, slot: reply.slot }) };
+    assert_eq!(got, expected, "table, then book: {call:?}");
 }
 
 fn by_tag(mut items: Vec<Item>) -> Vec<Item> {

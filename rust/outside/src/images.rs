@@ -22,13 +22,17 @@ pub fn of_form(random: &mut Random, form: u16, order: u32, mut space: Space) -> 
     let written = |table: &Table| image::of_form(form, table);
     let sizes = sound::nearly(random, order);
     let mut table = sound::table_of(random, order, space, sizes);
-    match random.below(8) {
+    match random.below(10) {
         0 => written(&table),
         1 => cut(random, written(&table)),
         2 | 3 => header(random, written(&table)),
         4 => flipped(random, written(&table)),
+        // one fault, and now and then another behind or before it
         _ => {
             a_fault(random, &mut table);
+            while random.one_in(3) {
+                a_fault(random, &mut table);
+            }
             written(&table)
         }
     }
@@ -95,21 +99,21 @@ fn a_fault(random: &mut Random, table: &mut Table) {
     let other = table.buckets[j].slots[other];
     let bucket = &mut table.buckets[k];
     let at = random.below(bucket.slots.len());
-    match random.below(6) {
-        0 => {
+    match random.below(10) {
+        0..3 => {
             let with = random.below(bucket.slots.len());
             bucket.slots.swap(at, with);
         }
-        1 => {
+        3 => {
             bucket.slots[at].mark ^= 1;
             if random.one_in(2) {
                 bucket.live = bucket.live_items().count() as u32;
             }
         }
-        2 => relaid(table, k, at, |slot| slot.tag = other.tag),
-        3 => field(random, &mut bucket.slots[at]),
+        4..7 => relaid(table, k, at, |slot| slot.tag = other.tag),
+        7 => field(random, &mut bucket.slots[at]),
         // a day, and now and then what is tested after it
-        4 => {
+        8 => {
             bucket.slots[at].day = 0;
             if random.one_in(3) {
                 field(random, &mut bucket.slots[at]);

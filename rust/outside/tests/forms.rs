@@ -117,9 +117,10 @@ fn a_record_without_a_day() {
                 assert_eq!(written(&mut random, &rows), image);
             }
             // a tag, a measure, a threshold, a mark
-            for (other, byte) in [(23, 1), (35, 127), (whole.len() - 10, 9), (whole.len() - 6, 2)] {
+            for (other, byte, number) in [(23, 1, 8), (35, 127, 8), (whole.len() - 10, 9, 38), (whole.len() - 6, 2, 8)]
+            {
                 let damaged = changed(&image, &[(other, byte)], whole.len());
-                assert_eq!(load(&mut random, &damaged, needed).0, if day == 0 { 33 } else { 8 });
+                assert_eq!(load(&mut random, &damaged, needed).0, if day == 0 { 33 } else { number });
             }
         }
     }
@@ -192,7 +193,7 @@ fn weights_and_days_go_with_the_image() {
         assert_eq!(written(&mut random, &rows), image);
         let mut other = image.clone();
         other[4..8].copy_from_slice(&random.weights().map(|weight| weight as u8));
-        others += (load(&mut random, &other, rows.len()).0 == 8) as u32;
+        others += [37, 38].contains(&load(&mut random, &other, rows.len()).0) as u32;
     }
     assert!(others > 100, "{others} images were no layout by other weights");
 }

@@ -3,7 +3,7 @@
 use outside::calls::{Areas, Call, compare};
 use outside::foreign::{self, any_row, rows_of};
 use outside::random::Random;
-use outside::{images, item_lists, snapshots, sound};
+use outside::{item_lists, snapshots, sound};
 use reference::image::{bytes, of_form};
 use reference::item::{Row, Space};
 use reference::table::{Table, capacity, table_rows};

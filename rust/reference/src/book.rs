@@ -8,7 +8,7 @@ use crate::item::{
 };
 use crate::list::{self, ListRead};
 use crate::refusal::{
-    ALREADY_LIVE, BAD_METRIC, BAD_ORDER, FULL, NO_COUNT, NO_ROOM, NOT_LIVE, Refused, SHORT_AREA, ensure,
+    ALREADY_LIVE, BAD_METRIC, BAD_ORDER, FULL, NO_COUNT, NO_ROOM, NOT_LIVE, Refused, SHORT_AREA, Unloaded, ensure,
 };
 use crate::states;
 use crate::table::{Bucket, capacity, table_rows};
@@ -37,7 +37,7 @@ impl Book {
     }
 
     /// Those of the image, with its items of mark 0.
-    pub fn load(&mut self, rows: usize, bytes: &[u8]) -> Result<(), Refused> {
+    pub fn load(&mut self, rows: usize, bytes: &[u8]) -> Result<(), Unloaded> {
         let read = image::read(bytes, rows)?;
         let live = read.buckets.iter().flat_map(Bucket::live_items);
         *self = Book { order: read.order, space: read.space, items: live.map(Slot::item).collect() };
@@ -45,7 +45,7 @@ impl Book {
     }
 
     /// Those of the image in the part of a name.
-    pub fn restore(&mut self, rows: usize, area: &[u8], name: u32) -> Result<(), Refused> {
+    pub fn restore(&mut self, rows: usize, area: &[u8], name: u32) -> Result<(), Unloaded> {
         self.load(rows, states::image_in(area, name)?)
     }
 

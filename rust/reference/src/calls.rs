@@ -8,7 +8,7 @@ use crate::item::{
 };
 use crate::list::{self, ListRead};
 use crate::refusal::{
-    ALREADY_LIVE, BAD_METRIC, BAD_ORDER, FULL, NO_COUNT, NO_ROOM, NOT_LIVE, Refused, SHORT_AREA, ensure,
+    ALREADY_LIVE, BAD_METRIC, BAD_ORDER, FULL, NO_COUNT, NO_ROOM, NOT_LIVE, Refused, SHORT_AREA, Unloaded, ensure,
 };
 use crate::states;
 use crate::table::{Bucket, Table, capacity, first_row, put_bucket, put_sizes, put_table, table_rows};
@@ -31,7 +31,7 @@ pub fn fresh(table: &mut [Row], order: u32, space: Space) -> Result<(), Refused>
 }
 
 /// The table of an image.
-pub fn load(table: &mut [Row], bytes: &[u8]) -> Result<(), Refused> {
+pub fn load(table: &mut [Row], bytes: &[u8]) -> Result<(), Unloaded> {
     let read = image::read(bytes, table.len())?;
     put_table(table, &read);
     Ok(())
@@ -185,6 +185,6 @@ pub fn save(rows: &[Row], area: &mut [u8], name: u32) -> Result<u32, Refused> {
 }
 
 /// The table that was saved under a name.
-pub fn restore(table: &mut [Row], area: &[u8], name: u32) -> Result<(), Refused> {
+pub fn restore(table: &mut [Row], area: &[u8], name: u32) -> Result<(), Unloaded> {
     load(table, states::image_in(area, name)?)
 }

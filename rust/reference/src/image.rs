@@ -3,9 +3,12 @@
 use std::collections::HashSet;
 
 use crate::item::{MAX_METRIC, MAX_ORDER, Profile, Slot, Space, check_day, check_measures, check_tag, check_weights};
-use crate::refusal::{BAD_IMAGE, BAD_LENGTH, BAD_METRIC, BAD_ORDER, BAD_TABLE, Refused, SHORT_AREA, ensure};
+use crate::refusal::{
+    BAD_IMAGE, BAD_LENGTH, BAD_METRIC, BAD_ORDER, BAD_TABLE, BAD_THRESHOLD, DUPLICATE_TAG, MISPLACED_ITEM, Refused,
+    SHORT_AREA, Unloaded, ensure,
+};
 use crate::table::{Bucket, Table, sizes_pass, table_rows};
-use crate::tree::is_layout;
+use crate::tree::layout;
 
 /// The newest form, the one that is written.
 pub const LAST_FORM: u16 = 2;
@@ -114,7 +117,7 @@ fn slot_bytes(form: u16) -> usize {
 }
 
 /// The table of an image, to be put into so many rows; every check in its order.
-pub fn read(bytes: &[u8], rows: usize) -> Result<Table, Refused> {
+pub fn read(bytes: &[u8], rows: usize) -> Result<Table, Unloaded> {
     ensure(bytes.len() >= 4, BAD_LENGTH)?;
     let mut reader = Reader(bytes);
     let [order, metric, form @ ..] = reader.take::<4>();
@@ -133,7 +136,8 @@ pub fn read(bytes: &[u8], rows: usize) -> Result<Table, Refused> {
     let buckets = buckets(&mut reader, form, &sizes, total);
     let table = Table { order, space: Space { metric, weights }, buckets };
     table.buckets.iter().flat_map(|bucket| &bucket.slots).try_for_each(|slot| check_day(slot.day))?;
-    ensure(is_sound(&table), BAD_IMAGE)?;
+    ensure(fields_pass(&table), BAD_IMAGE)?;
+    check_trees(&table)?;
     Ok(table)
 }
 
@@ -149,19 +153,31 @@ fn buckets(reader: &mut Reader, form: u16, sizes: &[(u32, u32)], total: usize) -
 
 /// Whether fields and trees keep the rules; sizes and days are taken to.
 pub fn is_sound(table: &Table) -> bool {
-    let live = table.buckets.iter().flat_map(Bucket::live_items);
-    table.buckets.iter().all(|bucket| bucket_is_sound(&table.space, bucket)) && distinct(live)
+    fields_pass(table) && check_trees(table).is_ok()
 }
 
-fn bucket_is_sound(space: &Space, bucket: &Bucket) -> bool {
+fn fields_pass(table: &Table) -> bool {
     let fields = |slot: &Slot| check_tag(slot.tag).is_ok() && check_measures(&slot.profile).is_ok();
-    bucket.slots.iter().all(fields)
-        && bucket.marks_pass()
-        && distinct(bucket.slots.iter())
-        && is_layout(space, &bucket.slots)
+    table.buckets.iter().all(|bucket| bucket.slots.iter().all(fields) && bucket.marks_pass())
 }
 
-fn distinct<'a>(slots: impl Iterator<Item = &'a Slot>) -> bool {
-    let mut tags = HashSet::new();
-    slots.into_iter().all(|slot| tags.insert(slot.tag))
+// Slot by slot over all buckets, beside the layout of all that its bucket has built.
+fn check_trees(table: &Table) -> Result<(), Unloaded> {
+    let (mut slot, mut live) = (0, HashSet::new());
+    for bucket in &table.buckets {
+        let mut own = HashSet::new();
+        for (laid, found) in layout(&table.space, &bucket.slots).iter().zip(&bucket.slots) {
+            let is_new = own.insert(found.tag);
+            let is_new_live = !found.is_live() || live.insert(found.tag);
+            check_slot(is_new && is_new_live, laid, found).map_err(|refusal| Unloaded { refusal, slot })?;
+            slot += 1;
+        }
+    }
+    Ok(())
+}
+
+fn check_slot(is_new: bool, laid: &Slot, found: &Slot) -> Result<(), Refused> {
+    ensure(is_new, DUPLICATE_TAG)?;
+    ensure(laid.item() == found.item(), MISPLACED_ITEM)?;
+    ensure(laid.threshold == found.threshold, BAD_THRESHOLD)
 }

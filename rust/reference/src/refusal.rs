@@ -14,7 +14,7 @@ pub const NO_COUNT: u32 = 5;
 pub const NO_ROOM: u32 = 6;
 /// Image length wrong.
 pub const BAD_LENGTH: u32 = 7;
-/// Fields or trees of an image break a rule.
+/// An image of no known form, or a field of a slot breaks a rule.
 pub const BAD_IMAGE: u32 = 8;
 /// Tag already live.
 pub const ALREADY_LIVE: u32 = 20;
@@ -38,11 +38,32 @@ pub const BAD_DAY: u32 = 33;
 pub const BAD_NAME: u32 = 34;
 /// Nothing was saved under the name.
 pub const NOT_SAVED: u32 = 35;
+/// A slot's tag was met before in its bucket, or live before where it is live.
+pub const DUPLICATE_TAG: u32 = 36;
+/// A slot is not the item that the layout puts there.
+pub const MISPLACED_ITEM: u32 = 37;
+/// A slot's threshold is not the layout's.
+pub const BAD_THRESHOLD: u32 = 38;
 /// A listed item weighs below 0, or the list is too long.
 pub const NO_DUES: u32 = 39;
 
 /// A refusal is an error by its number.
 pub type Refused = u32;
+
+/// Why an image is not loaded, and the slot that the refusal is of, 0 where it is of none.
+#[derive(Clone, Copy, Debug, PartialEq, Eq)]
+pub struct Unloaded {
+    /// By its number.
+    pub refusal: Refused,
+    /// Counted from 0 over all slots of the image.
+    pub slot: u32,
+}
+
+impl From<Refused> for Unloaded {
+    fn from(refusal: Refused) -> Unloaded {
+        Unloaded { refusal, slot: 0 }
+    }
+}
 
 /// Ok if the condition holds, else refused by the number.
 pub fn ensure(condition: bool, number: Refused) -> Result<(), Refused> {

@@ -26,12 +26,6 @@ pub fn cost(n: usize) -> u32 {
     if n < 2 { 0 } else { (n - 1) as u32 + cost(n / 2) + cost(n - 1 - n / 2) }
 }
 
-/// Whether the slots, marks aside, are the layout of their own items.
-pub fn is_layout(space: &Space, slots: &[Slot]) -> bool {
-    let unmarked = slots.iter().map(|slot| Slot { mark: 0, ..*slot });
-    unmarked.eq(layout(space, slots))
-}
-
 /// A distance and a tag: so they stand in order.
 pub type Hit = (u32, u64);
 

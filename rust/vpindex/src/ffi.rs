@@ -64,6 +64,13 @@ pub struct Written {
 
 #[repr(C)]
 #[derive(Clone, Copy, Debug, PartialEq, Eq)]
+pub struct Loaded {
+    pub refusal: u32,
+    pub slot: u32,
+}
+
+#[repr(C)]
+#[derive(Clone, Copy, Debug, PartialEq, Eq)]
 pub struct ListRead {
     pub refusal: u32,
     pub line: u32,
@@ -83,7 +90,7 @@ mod raw {
 
     unsafe extern "C" {
         pub fn vpindex_fresh(table: *mut Row, table_rows: usize, order: u32, metric: u32, weights: Weights) -> u32;
-        pub fn vpindex_load(table: *mut Row, table_rows: usize, image: *const u8, image_bytes: usize) -> u32;
+        pub fn vpindex_load(table: *mut Row, table_rows: usize, image: *const u8, image_bytes: usize) -> Loaded;
         pub fn vpindex_add(
             table: *mut Row,
             table_rows: usize,
@@ -142,7 +149,7 @@ mod raw {
             states: *const u8,
             states_bytes: usize,
             name: u32,
-        ) -> u32;
+        ) -> Loaded;
         pub fn vpindex_dues(
             table: *const Row,
             table_rows: usize,
@@ -161,7 +168,7 @@ pub fn fresh(table: &mut [Row], order: u32, metric: u32, weights: Weights) -> u3
     unsafe { raw::vpindex_fresh(table.as_mut_ptr(), table.len(), order, metric, weights) }
 }
 
-pub fn load(table: &mut [Row], image: &[u8]) -> u32 {
+pub fn load(table: &mut [Row], image: &[u8]) -> Loaded {
     unsafe { raw::vpindex_load(table.as_mut_ptr(), table.len(), image.as_ptr(), image.len()) }
 }
 
@@ -200,7 +207,7 @@ pub fn save(table: &[Row], states: &mut [u8], name: u32) -> Written {
     unsafe { raw::vpindex_save(table.as_ptr(), table.len(), states.as_mut_ptr(), states.len(), name) }
 }
 
-pub fn restore(table: &mut [Row], states: &[u8], name: u32) -> u32 {
+pub fn restore(table: &mut [Row], states: &[u8], name: u32) -> Loaded {
     unsafe { raw::vpindex_restore(table.as_mut_ptr(), table.len(), states.as_ptr(), states.len(), name) }
 }
 

@@ -34,6 +34,7 @@ mod dues;
 #[doc(hidden)]
 pub mod ffi;
 mod hits;
+mod image;
 mod list;
 mod refusal;
 mod states;
@@ -42,6 +43,7 @@ mod values;
 
 pub use dues::{Cents, Dues};
 pub use hits::{Hit, Hits};
+pub use image::{ImageRefusal, SlotAt};
 pub use list::{ListRead, ListRefusal};
 pub use refusal::Refusal;
 pub use states::States;

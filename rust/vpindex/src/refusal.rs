@@ -21,7 +21,8 @@ pub enum Refusal {
     NoRoom,
     /// The image's length is wrong, or past the part of the states that it is in.
     BadLength,
-    /// The image's fields or trees break a rule.
+    /// The image is of no known form, or a field of some slot breaks a rule: its tag, a measure, its mark, or the
+    /// number of the marks.
     BadImage,
     /// The tag is in the table.
     AlreadyLive,
@@ -45,6 +46,12 @@ pub enum Refusal {
     BadName,
     /// Nothing was saved under the name.
     NotSaved,
+    /// Of a slot of the image: an earlier slot of its bucket has its tag, or it is live and an earlier live slot has it.
+    DuplicateTag,
+    /// The item in a slot of the image is not the one that the tree's layout puts there.
+    MisplacedItem,
+    /// The threshold of a slot of the image is not the one that the tree's layout gives it.
+    BadThreshold,
     /// A listed item weighs below 0, or the list has more than 4,096 tags.
     NoDues,
     /// A refusal by a number that this crate does not know: the archive is newer.
@@ -54,7 +61,7 @@ pub enum Refusal {
 use Refusal::*;
 
 impl Refusal {
-    const KNOWN: [Refusal; 20] = [
+    const KNOWN: [Refusal; 23] = [
         BadTag,
         BadMeasure,
         BadOrder,
@@ -74,6 +81,9 @@ impl Refusal {
         BadDay,
         BadName,
         NotSaved,
+        DuplicateTag,
+        MisplacedItem,
+        BadThreshold,
         NoDues,
     ];
 
@@ -100,7 +110,9 @@ impl Refusal {
             NoCount => (5, "the nearest 0 items were asked for"),
             NoRoom => (6, "the result or dues area is too short for the reply, or the states for the snapshot"),
             BadLength => (7, "the image's length is wrong, or past the part of the states that it is in"),
-            BadImage => (8, "the image's fields or trees break a rule"),
+            BadImage => {
+                (8, "the image is of no known form, or a tag, a measure, a mark or the number of marks breaks a rule")
+            }
             AlreadyLive => (20, "the tag is in the table already"),
             NotLive => (21, "the tag is not in the table"),
             Full => (22, "the table holds as many items as its order allows"),
@@ -116,6 +128,11 @@ impl Refusal {
             BadDay => (33, "the day is 0"),
             BadName => (34, "the name is not 1 to 8"),
             NotSaved => (35, "nothing was saved under the name"),
+            DuplicateTag => {
+                (36, "an earlier slot of its bucket has its tag, or it is live and an earlier live slot has it")
+            }
+            MisplacedItem => (37, "its item is not the one that the tree's layout puts there"),
+            BadThreshold => (38, "its threshold is not the one that the tree's layout gives it"),
             NoDues => (39, "a listed item weighs below 0, or the list has more than 4,096 tags"),
             Other(number) => (number, "a refusal that this crate does not know"),
         }
@@ -142,14 +159,14 @@ mod tests {
     #[test]
     fn numbers() {
         assert_eq!(Refusal::check(0), Ok(()));
-        for number in (1..=8).chain(20..=24).chain(30..=35).chain([39]) {
+        for number in (1..=8).chain(20..=24).chain(30..=39) {
             let refusal = Refusal::check(number).expect_err("not 0");
             assert_eq!(refusal.number(), number);
             assert_ne!(refusal, Other(number));
         }
-        for number in [9, 19, 25, 29, 36, 38, 40, u32::MAX] {
+        for number in [9, 19, 25, 29, 40, u32::MAX] {
             assert_eq!(Refusal::check(number), Err(Other(number)));
         }
-        assert_eq!(Other(36).to_string(), "a refusal that this crate does not know: 36");
+        assert_eq!(Other(40).to_string(), "a refusal that this crate does not know: 40");
     }
 }

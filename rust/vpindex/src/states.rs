@@ -37,9 +37,9 @@ impl States {
         &mut self.0
     }
 
-    // Where the image begins, whatever the length says.
-    pub(crate) fn first_of_image(&self, name: Name) -> Option<&u8> {
-        self.split(name)?.1.first()
+    // The image and what follows it, whatever the length says.
+    pub(crate) fn behind_length(&self, name: Name) -> &[u8] {
+        self.split(name).map_or(&[], |(_, rest)| rest)
     }
 
     // The part of a name as the length of the image and what follows it; none if the part is too short for a length.

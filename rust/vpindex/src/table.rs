@@ -1,5 +1,6 @@
 //! The table, with the areas that its calls are lent.
 
+use crate::image::{self, ImageRefusal};
 use crate::list::{self, ListRead, ListRefusal};
 use crate::{Cents, Day, Dues, Hits, Metric, Name, Order, Profile, Refusal, States, Tag, Weights, ffi};
 
@@ -83,25 +84,41 @@ impl Table {
     ///
     /// The image is checked whole. [`Refusal::BadLength`], [`Refusal::BadOrder`], [`Refusal::BadMetric`],
     /// [`Refusal::BadWeight`], [`Refusal::BadTable`], [`Refusal::BadDay`] and [`Refusal::BadImage`] say what is wrong
-    /// with it.
-    pub fn load(image: &[u8]) -> Result<Table, Refusal> {
-        Table::begun(image.first(), |rows| ffi::load(rows, image))
+    /// with it, and where all fields pass [`Refusal::DuplicateTag`], [`Refusal::MisplacedItem`] and
+    /// [`Refusal::BadThreshold`] what is wrong with a tree, at the lowest slot:
+    ///
+    /// ```
+    /// use vpindex::{Day, Metric, Order, Profile, Refusal, Table, Tag};
+    ///
+    /// let mut table = Table::new(Order::new(1)?, Metric::SumOfDifferences);
+    /// for national in [1, 2] {
+    ///     table.add(Tag::new(36, national)?, &Profile::default(), Day::MIN)?;
+    /// }
+    /// let mut image = table.image();
+    /// image[24] = 1; // the second tag is the first again
+    /// let refused = Table::load(&image).unwrap_err();
+    /// assert_eq!(refused.refusal, Refusal::DuplicateTag);
+    /// assert_eq!(refused.at.map(|at| (at.slot, at.bucket, at.place, at.byte)), Some((1, 1, 1, 24)));
+    /// # Ok::<(), vpindex::Refusal>(())
+    /// ```
+    pub fn load(image: &[u8]) -> Result<Table, ImageRefusal> {
+        Table::begun(image, |rows| ffi::load(rows, image))
     }
 
     /// The table that was saved under the name by [`Table::save`].
     ///
     /// [`Refusal::NotSaved`] if nothing was. States that were kept elsewhere meanwhile may be damaged; then it is
-    /// [`Refusal::BadLength`] or what [`Table::load`] says of the image.
-    pub fn restore(states: &States, name: Name) -> Result<Table, Refusal> {
-        Table::begun(states.first_of_image(name), |rows| ffi::restore(rows, states.as_bytes(), name.get()))
+    /// [`Refusal::BadLength`] or what [`Table::load`] says of the image, whose bytes are counted from its own first.
+    pub fn restore(states: &States, name: Name) -> Result<Table, ImageRefusal> {
+        Table::begun(states.behind_length(name), |rows| ffi::restore(rows, states.as_bytes(), name.get()))
     }
 
     // By a call that writes every row that the order needs, which the image's first byte says. An order that is not
     // valid is refused before the area's length is looked at.
-    fn begun(first: Option<&u8>, call: impl FnOnce(&mut [ffi::Row]) -> u32) -> Result<Table, Refusal> {
-        let order = first.and_then(|&byte| Order::new(byte as u32).ok()).unwrap_or(Order::MIN);
+    fn begun(image: &[u8], call: impl FnOnce(&mut [ffi::Row]) -> ffi::Loaded) -> Result<Table, ImageRefusal> {
+        let order = image.first().and_then(|&byte| Order::new(byte as u32).ok()).unwrap_or(Order::MIN);
         let mut table = Table::blank(Header { order, metric: Metric::SumOfDifferences, weights: Weights::ONE });
-        Refusal::check(call(&mut table.rows))?;
+        image::check(call(&mut table.rows), image)?;
         table.header = Header::of(&table.rows[0])?;
         Ok(table)
     }

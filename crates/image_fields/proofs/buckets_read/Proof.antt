@@ -11,7 +11,7 @@ use Rattle.lists.specs.Lists.{total, countFrom, every}
 use Rattle.table_rules.specs.Geometry.{bucketsOf}
 use Rattle.table_rules.proofs.Buckets.{bucketsFrom, buckets-all, bucket-fails, bucket-passes, buckets-pass}
 use Rattle.image_rules.specs.Read.{orderIn, builtIn, liveIn, slotsBefore, slotsIn, bucketIn}
-use Rattle.image_fields.specs.SlotsRead.{slotsRead}
+use Rattle.image_rules.specs.Load.{bucketFieldsPass, allFieldsPass}
 use Rattle.image_read.specs.declared.Slots.{Slots}
 use Rattle.image_read.specs.InImage.{InImage}
 use Rattle.image_read.proofs.Places.{whole-sizes, few-slots, some-in, bucket-inside, before-more, bucket-slots}
@@ -19,7 +19,7 @@ use Rattle.image_fields.proofs.buckets_read.Statement.{statement}
 use Rattle.image_fields.proofs.buckets_read.Tie as tie
 
 abbrev passes : List ℕ → ℕ → Bool
-passes image k = slotsRead (bucketIn image k) (liveIn image k)
+passes image k = bucketFieldsPass (bucketIn image k) (liveIn image k)
 
 abbrev Inv-loop : tie.InvT-loop
 Inv-loop image all form t first₀ k₀ first k =
@@ -79,11 +79,12 @@ tested c =
     let l = loop-at c .loop in
     let some = c .before .before .some-of in
     sym (c .slots-read .ensures
-    ∙ ap₂ slotsRead
+    ∙ ap₂ bucketFieldsPass
     (bucket-slots image (some .result) (l .k) (ap (λ (at : Slots). at .first) (some .ensures) ∙ l .inv .1) (ap (λ (at : Slots). at .count) (some .ensures) ∙ c .before .before .before .built-in .ensures))
     (c .before .live-in .ensures))
 
 returns : tie.Need-returns Inv-loop μ-loop
+unfolding allFieldsPass
 returns c =
     let s = start-of (loop-at (c .before)) in
     let image = s .args .image .now in
@@ -114,6 +115,7 @@ loop-again c =
     )
 
 returns-2 : tie.Need-returns-2 Inv-loop μ-loop
+unfolding allFieldsPass
 returns-2 c =
     let s = c .before .before .before .before in
     let image = s .args .image .now in

@@ -13,8 +13,7 @@ use lib.Seq.{take-all}
 use Rattle.lists.specs.Lists.{every, select}
 use Rattle.lists.proofs.Tests.{scan-fails, scan-passes, scan-ends}
 use Rattle.metric_rules.specs.Row.{Row, markOf, isLive}
-use Rattle.image_rules.specs.Load.{fieldsPass}
-use Rattle.image_fields.specs.SlotsRead.{slotsRead}
+use Rattle.image_rules.specs.Load.{fieldsPass, bucketFieldsPass}
 use Rattle.image_read.specs.InImage.{slotsAt}
 use Rattle.image_read.proofs.Places.{few-slots, slots-length, slots-at}
 use Rattle.image_fields.proofs.Slots.{mark-most, live-next}
@@ -59,7 +58,7 @@ module _ (c : tie.After-slot-passes Inv-loop μ-loop) where
   long = slots-length (start-of (loop-at c) .args .image .now) (start-of (loop-at c) .args .at)
 
 returns : tie.Need-returns Inv-loop μ-loop
-unfolding slotsRead
+unfolding bucketFieldsPass
 returns c =
     let a = start-of (loop-at (c .before)) .args in
     let l = loop-at (c .before) .loop in
@@ -107,7 +106,7 @@ loop-again c =
     )
 
 returns-2 : tie.Need-returns-2 Inv-loop μ-loop
-unfolding slotsRead
+unfolding bucketFieldsPass
 returns-2 c =
     let a = c .before .before .before .args in
     let l = c .before .loop in

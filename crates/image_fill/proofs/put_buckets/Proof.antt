@@ -10,7 +10,7 @@ use Rattle.table_rules.specs.Geometry.{room, bucketsOf}
 use Rattle.table_rules.specs.Table.{Table, putBucket}
 use Rattle.table_rules.proofs.Buckets.{bucketsFrom, buckets-all, buckets-next, buckets-end}
 use Rattle.image_rules.specs.Read.{orderIn, builtIn, liveIn, slotsBefore, slotsIn, bucketIn}
-use Rattle.image_rules.proofs.Loaded.{length-bucket-in}
+use Rattle.image_rules.proofs.LoadedTable.{length-bucket-in}
 use Rattle.image_read.specs.declared.Slots.{Slots}
 use Rattle.image_read.specs.InImage.{InImage}
 use Rattle.image_read.proofs.Places.{whole-sizes, some-in, bucket-inside, before-more, few-slots, built-within}

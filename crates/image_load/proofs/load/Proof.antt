@@ -13,7 +13,8 @@ use Rattle.table_rules.specs.Table.{Table, putBucket}
 use Rattle.table_rules.specs.Fresh.{freshTable, tableAfterFresh}
 use Rattle.image_rules.specs.Bytes.{startFields, startBytes}
 use Rattle.image_rules.specs.Read.{orderIn, spaceIn, liveIn, bucketIn}
-use Rattle.image_rules.specs.Load.{loadRefusal}
+use Rattle.image_rules.specs.Load.{loadReply, loadRefusal}
+use Rattle.image_rules.specs.declared.Loaded.{Loaded}
 use Rattle.image_rules.proofs.Accepting.{Accepted, accepted}
 use Rattle.image_read.specs.InImage.{Whole}
 use Rattle.table_buckets.specs.OfOrder.{OfOrder}
@@ -43,35 +44,36 @@ entered c = c .before .before .before .before .before .before
 start-zero : (c : tie.Else2) → startRefusal (entered c .args .image .now) ≡ 0
 start-zero c = sym (c .before .start-refusal .ensures) ∙ c .if2 .left
 
--- and the refusal of the whole call is the one behind it
-abbrev begun : tie.After-load-refusal → tie.Start
+-- and the reply of the whole call is the one behind it
+abbrev begun : tie.After-load-reply → tie.Start
 begun c = entered (c .before .before)
 
-known : (c : tie.After-load-refusal) → c .load-refusal .result ≡ loadRefusal (length (begun c .args .table .now)) (begun c .args .image .now)
+known : (c : tie.After-load-reply) → c .load-reply .result ≡ loadReply (length (begun c .args .table .now)) (begun c .args .image .now)
 known c =
     let a = begun c .args in
     let e = c .before .before in
-    c .load-refusal .ensures ∙ sym (load-later (length (a .table .now)) (a .image .now) (enough (e .before .before .before)) (start-zero e))
+    c .load-reply .ensures ∙ sym (load-later (length (a .table .now)) (a .image .now) (enough (e .before .before .before)) (start-zero e))
 
 -- an accepted image
 abbrev start-of : tie.Else3 → tie.Start
-start-of c = begun (c .before)
+start-of c = begun (c .before .before)
 
 module _ (c : tie.Else3) where
   goes : loadRefusal (length (start-of c .args .table .now)) (start-of c .args .image .now) ≡ 0
-  goes = sym (known (c .before)) ∙ c .if3 .left
+  unfolding loadRefusal
+  goes = ap (λ (r : Loaded). r .refusal) (sym (known (c .before .before))) ∙ c .if3 .left
 
   ok : Accepted (length (start-of c .args .table .now)) (start-of c .args .image .now)
   ok = accepted (length (start-of c .args .table .now)) (start-of c .args .image .now) goes
 
-  whole : Whole (start-of c .args .image .now) (c .before .before .header-in .result)
-  whole = accepted-whole (start-of c .args .image .now) (start-of c .args .table .now) ok (c .before .before .header-in .result) (c .before .before .header-in .ensures)
+  whole : Whole (start-of c .args .image .now) (c .before .before .before .header-in .result)
+  whole = accepted-whole (start-of c .args .image .now) (start-of c .args .table .now) ok (c .before .before .before .header-in .result) (c .before .before .before .header-in .ensures)
 
 returns : tie.Need-returns
 returns c =
     let a = c .before .before .before .args in
-    let e : 7 ≡ loadRefusal (length (a .table .now)) (a .image .now) = sym (load-short (length (a .table .now)) (a .image .now) (short c)) in
-    (e, load-stops (a .image .now) (a .table .now) 7 e (λ z. omega arith))
+    let e = load-short (length (a .table .now)) (a .image .now) (short c) in
+    (e, load-stops (a .image .now) (a .table .now) _ e (λ z. omega arith))
 
 start-in-requires : tie.Need-start-in-requires
 start-in-requires c κs = enough c
@@ -80,20 +82,20 @@ returns-2 : tie.Need-returns-2
 returns-2 c =
     let f = c .before in
     let a = f .before .before .before .before .before .args in
-    let e : f .start-refusal .result ≡ loadRefusal (length (a .table .now)) (a .image .now) =
-    load-first (length (a .table .now)) (a .image .now) (enough (f .before .before)) (f .start-refusal .result) (f .start-refusal .ensures) (c .if2 .taken) in
-    (e, load-stops (a .image .now) (a .table .now) (f .start-refusal .result) e (c .if2 .taken))
+    let e = load-first (length (a .table .now)) (a .image .now) (enough (f .before .before)) (f .start-refusal .result) (f .start-refusal .ensures) (c .if2 .taken) in
+    (e, load-stops (a .image .now) (a .table .now) _ e (c .if2 .taken))
 
 header-in-requires : tie.Need-header-in-requires
 header-in-requires c κs = (c .before .before .start-in .ensures, start-passed (entered c .args .image .now) (start-zero c) .1)
 
-load-refusal-requires : tie.Need-load-refusal-requires
-load-refusal-requires c κs = (c .header-in .ensures, start-passed (entered (c .before) .args .image .now) (start-zero (c .before)) .0)
+load-reply-requires : tie.Need-load-reply-requires
+load-reply-requires c κs = (c .header-in .ensures, start-passed (entered (c .before) .args .image .now) (start-zero (c .before)) .0)
 
 returns-3 : tie.Need-returns-3
 returns-3 c =
-    let a = begun (c .before) .args in
-    (known (c .before), load-stops (a .image .now) (a .table .now) (c .before .load-refusal .result) (known (c .before)) (c .if3 .taken))
+    let r = c .before .before in
+    let a = begun r .args in
+    (known r, load-stops (a .image .now) (a .table .now) (r .load-reply .result) (known r) (c .if3 .taken))
 
 all-slots-requires : tie.Need-all-slots-requires
 all-slots-requires c κs = whole (c .before .before .before .before)
@@ -104,7 +106,7 @@ fresh-known : (c : tie.After-fresh)
 fresh-known c =
     let e = c .before .before in
     let a = start-of e .args in
-    let read = e .before .before .header-in in
+    let read = e .before .before .before .header-in in
     let h = read .ensures in
     let made : c .fresh .last .0 ≡ tableAfterFresh (read .result .order .t) (read .result .space) (a .table .now) = c .fresh .ensures .1 in
     made
@@ -123,7 +125,7 @@ returns-4 c =
     let e = c .before .before .before .before .before .before .before in
     let a = start-of e .args in
     let image = a .image .now in (
-      sym (goes e),
+      known (e .before .before),
       load-puts image (a .table .now) (ok e) (goes e) _
           (c .before .put-buckets .ensures ∙ ap (λ (u : Table). foldl (λ v k. putBucket k (bucketIn image k) (liveIn image k) v) u (bucketsOf (orderIn image))) (fresh-known (c .before .before .before .before .before))),
     )
@@ -138,7 +140,7 @@ load-spec =
     (λ c κs. search needs)
     returns-2
     header-in-requires
-    load-refusal-requires
+    load-reply-requires
     returns-3
     (λ c κs. search needs)
     all-slots-requires

@@ -1,5 +1,4 @@
 -- The buckets from k on have the first fault, and `first` is the first slot of bucket k. The measure is how many buckets are left.
---
 use borrow.Author.Needs.{needs}
 use native.Mathlib.Omega.{arith}
 use mathlib.Core.Path.{_≡_, refl, sym, _∙_, ap, subst}
@@ -12,20 +11,19 @@ use Rattle.metric_rules.specs.Row.{Row}
 use Rattle.metric_rules.specs.Distance.{spaceOf}
 use Rattle.table_rules.specs.Geometry.{bucketsOf}
 use Rattle.image_rules.specs.Read.{orderIn, builtIn, slotsBefore, slotsIn}
-use Rattle.image_entries.specs.declared.Fault.{Fault}
+use Rattle.image_rules.specs.declared.Loaded.{Loaded}
 use Rattle.image_entries.specs.Faults.{noFault, firstOf}
-use Rattle.image_entries.specs.Entries.{places}
 use Rattle.image_entries.proofs.Faults.{fault-found, fault-passed, fault-none}
-use Rattle.image_test.specs.Trees.{bucketFault}
+use Rattle.image_test.specs.Trees.{mostEntries, bucketFault}
 use Rattle.image_test.proofs.Buckets.{buckets-length, buckets-more, bucket-asks, bucket-tests}
-use Rattle.image_test.proofs.Checked.{built-few}
+use Rattle.image_test.proofs.Checked.{built-few, all-few}
 use Rattle.image_read.specs.declared.Slots.{Slots}
 use Rattle.image_read.specs.InImage.{InImage}
 use Rattle.image_read.proofs.Places.{whole-sizes, some-in, few-slots, bucket-inside, before-more}
 use Rattle.image_test.proofs.each_tree_fault.Statement.{statement}
 use Rattle.image_test.proofs.each_tree_fault.Tie as tie
 
-abbrev faults : List ℕ → Row → ℕ → Fault
+abbrev faults : List ℕ → Row → ℕ → Loaded
 faults image row = bucketFault (spaceOf row) image
 
 abbrev Inv-loop : tie.InvT-loop
@@ -41,7 +39,7 @@ module _ (s : tie.Start Inv-loop μ-loop) (k : ℕ) (h : k < s .args .header .or
   within : k ≤ orderIn (s .args .image .now)
   within = omega (arith, s .pre .0 .headed .order)
 
-  few : builtIn (s .args .image .now) k ≤ places
+  few : builtIn (s .args .image .now) k ≤ mostEntries
   few = built-few (s .args .image .now) (s .pre .0 .order) (s .pre .0 .sizes) k within
 
   inside : slotsBefore (s .args .image .now) k + builtIn (s .args .image .now) k ≤ slotsIn (s .args .image .now)
@@ -94,7 +92,7 @@ tree-fault-requires c κs =
     let in-image : InImage image (some .result) =
     subst (InImage image) (sym (some .ensures)) (some-in (s .pre .1) (l .first) (built .result) (omega (arith, inside s (l .k) (omega arith), l .inv .2, built .ensures))) in
     bucket-asks image (some .result) (l .k) (within s (l .k) (omega arith)) (here-first (c .before)) (here-count (c .before)) in-image
-    (omega (arith, here-count (c .before), few s (l .k) (omega arith))) (l .entries) (built .result) (built .ensures ∙ sym (here-count (c .before))) (room (c .before)) (s .pre .3)
+    (all-few image (s .pre .0 .order) (s .pre .0 .sizes)) (l .entries) (built .result) (built .ensures ∙ sym (here-count (c .before))) (room (c .before)) (s .pre .3)
 
 -- the bucket's test as it was made
 tested : (c : tie.After-tree-fault Inv-loop μ-loop)
@@ -123,7 +121,7 @@ returns c =
     let image = s .args .image .now in
     sym (tested d)
     ∙ fault-found (faults image (s .args .row .now)) 0 (bucketsOf (orderIn image)) (l .k) (buckets-more (orderIn image) (l .k) (within s (l .k) (omega arith))) (l .inv .3)
-    (λ z. c .if1 .taken (ap (λ (f : Fault). f .number) (sym (tested d)) ∙ z))
+    (λ z. c .if1 .taken (ap (λ (f : Loaded). f .refusal) (sym (tested d)) ∙ z))
 
 add-first : tie.Need-add-first Inv-loop μ-loop
 add-first c =
@@ -148,7 +146,7 @@ loop-again c =
       length-front (l .entries) (t .last .1 .1 .1 .0) (b .result) (t .kept .1 .1 .1 .0) ∙ l .inv .1,
       omega (arith, before-more image (l .k), l .inv .2, b .ensures),
       fault-passed (faults image (s .args .row .now)) 0 (bucketsOf (orderIn image)) (l .k) (buckets-more (orderIn image) (l .k) (within s (l .k) (omega arith))) (l .inv .3)
-          (ap (λ (f : Fault). f .number) (tested d) ∙ c .if1 .left),
+          (ap (λ (f : Loaded). f .refusal) (tested d) ∙ c .if1 .left),
     )
 
 same-length-2 : tie.Need-same-length-2 Inv-loop μ-loop

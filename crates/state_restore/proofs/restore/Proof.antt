@@ -5,7 +5,7 @@ use mathlib.Core.Bool.{true}
 use mathlib.Core.List.{List}
 use borrow.Author.Needs.{needs}
 use lib.ListN.{length}
-use Rattle.image_rules.specs.Load.{loadRefusal, tableAfterLoad}
+use Rattle.image_rules.specs.Load.{loadReply, tableAfterLoad}
 use Rattle.state_rules.specs.Parts.{validName, partOf, savedImage}
 use Rattle.state_rules.specs.Restore.{partRefusal}
 use Rattle.state_rules.proofs.Restored.{no-name, no-image, loads}
@@ -50,7 +50,7 @@ returns-3 c =
     let image : c .before .before .saved-image .result .now ≡ savedImage (partOf (a .states .now) (a .name)) =
     c .before .before .saved-image .ensures ∙ ap savedImage (part-is (r .before)) in
     let l = loads (a .states .now) (a .name) (a .table .now) (named (r .before .before .before) .1) (sym (refusal-is r) ∙ e .if1 .left) in (
-      c .before .load .ensures .0 ∙ ap (loadRefusal (length (a .table .now))) image ∙ sym (l .0),
+      c .before .load .ensures .0 ∙ ap (loadReply (length (a .table .now))) image ∙ sym (l .0),
       c .before .load .ensures .1 ∙ ap (λ (bytes : List ℕ). tableAfterLoad bytes (a .table .now)) image ∙ sym (l .1),
     )
 
