@@ -15,7 +15,7 @@
  *   - areas lent to the same call do not overlap;
  *   - no other thread uses an area while a call has it, except that several may read the same table;
  *   - the stack has room: seen, not a bound, is about 70 KB for vpindex_load and vpindex_restore at order 12, about 17
- *     KB for vpindex_dues and under 6 KB for the others.
+ *     KB for vpindex_dues, about 7 KB for vpindex_range_batch and under 6 KB for the others.
  */
 #ifndef VPINDEX_H
 #define VPINDEX_H
@@ -77,15 +77,20 @@ extern "C" {
 #define VPINDEX_NAMES 8
 #define VPINDEX_STATES_BYTES(order) (VPINDEX_NAMES * (4 + VPINDEX_IMAGE_BYTES(order)))
 
+/* A query of vpindex_range_batch is a row: the four measures in words 2 to 5, the code's two words in words 6 and 7 and in
+ * words 8 and 9, the low word first, the radius in word 10, and the first day in the lowest 16 bits of word 12. Words 0, 1
+ * and 11 and the rest of word 12 are ignored. */
+#define VPINDEX_MAX_QUERIES 16
+
 /* The first line of a herd list; vpindex_read_list says what follows it. */
 #define VPINDEX_LIST_HEADER "tag;kg;hip;girth;gain\n"
 
 /* ---- Refusals ----------------------------------------------------------------------------------------------------
  * A refused call returns the number of its refusal, with zeros in every other field of the reply, and changes no area.
- * There are three exceptions: VPINDEX_NO_ROOM from vpindex_range or vpindex_nearest leaves the result area all zero,
- * vpindex_read_list keeps what it added before the line that it refuses, and says so, and by the three numbers of a
- * tree vpindex_load and vpindex_restore name the slot. Where several conditions hold, the first in the order given at
- * the call is returned. */
+ * There are three exceptions: VPINDEX_NO_ROOM from vpindex_range, vpindex_nearest or vpindex_range_batch leaves the
+ * result area all zero, vpindex_read_list keeps what it added before the line that it refuses, and says so, and by the
+ * three numbers of a tree vpindex_load and vpindex_restore name the slot. Where several conditions hold, the first in
+ * the order given at the call is returned. */
 
 #define VPINDEX_ACCEPTED 0
 
@@ -95,13 +100,14 @@ extern "C" {
 #define VPINDEX_BAD_ORDER 3              /* order above 12 */
 #define VPINDEX_BAD_METRIC 4             /* metric above 2 */
 #define VPINDEX_NO_COUNT 5               /* nearest with k = 0 */
-#define VPINDEX_NO_ROOM 6                /* the result, dues, image or snapshot is longer than its area or part */
+#define VPINDEX_NO_ROOM 6                /* a result, dues, image or snapshot is longer than its area or part */
 #define VPINDEX_BAD_LENGTH 7             /* the image's length is wrong, or past the part that it is restored from */
 #define VPINDEX_BAD_IMAGE 8              /* an image of no known form, or a field of some slot breaks a rule */
 #define VPINDEX_BAD_WEIGHT 32            /* a weight above 100 */
 #define VPINDEX_BAD_DAY 33               /* an item's day is 0 */
 #define VPINDEX_BAD_NAME 34              /* a name outside 1 to 8 */
 #define VPINDEX_NO_DUES 39               /* a listed item weighs below 0, or more than VPINDEX_MAX_LISTED tags */
+#define VPINDEX_BAD_BATCH 40             /* no query, or more than 16 */
 
 /* by a tree of an image, with the slot */
 #define VPINDEX_DUPLICATE_TAG 36         /* an earlier slot of the bucket has the tag, or a live tag an earlier live one */
@@ -157,6 +163,12 @@ typedef struct {
     uint32_t found;                      /* entries at the front of the result area */
     uint32_t distances;                  /* distances worked out, one for each slot met */
 } vpindex_searched;
+
+typedef struct {
+    uint32_t refusal;
+    uint32_t distances;                  /* slots met, each counted once however many queries met it */
+    uint32_t found[VPINDEX_MAX_QUERIES]; /* entries at the front of each query's part; 0 past the queries */
+} vpindex_ranges;
 
 typedef struct {
     uint32_t refusal;
@@ -239,6 +251,17 @@ vpindex_searched vpindex_range(VPINDEX_READ uint32_t (*table)[VPINDEX_ROW_WORDS]
 vpindex_searched vpindex_nearest(VPINDEX_READ uint32_t (*table)[VPINDEX_ROW_WORDS], size_t table_rows,
                                  uint64_t (*result)[VPINDEX_ENTRY_WORDS], size_t result_entries, vpindex_profile query,
                                  uint32_t k, uint16_t first_day);
+
+/* Range for 1 to VPINDEX_MAX_QUERIES queries at once, each with its own radius and first day: each query's entries and
+ * their number are those of vpindex_range. With n queries the result area is cut into n parts of result_entries / n
+ * entries, in the order of the queries; zeros stand after the entries of each part, and in entries left over behind the
+ * last part. A slot is read once if any of the queries meets it, so the count is at most that of the single calls added
+ * up. The queries are only read.
+ * Refusals: SHORT_AREA (no rows), BAD_TABLE (order, metric), SHORT_AREA, BAD_TABLE (weights, sizes), BAD_BATCH,
+ * BAD_MEASURE (of any query), NO_ROOM (a query finds more than a part holds). */
+vpindex_ranges vpindex_range_batch(VPINDEX_READ uint32_t (*table)[VPINDEX_ROW_WORDS], size_t table_rows,
+                                   uint64_t (*result)[VPINDEX_ENTRY_WORDS], size_t result_entries,
+                                   VPINDEX_READ uint32_t (*queries)[VPINDEX_ROW_WORDS], size_t query_count);
 
 /* Writes the table's image, of form 2, which vpindex_load reads.
  * Refusals: SHORT_AREA (no rows), BAD_TABLE (order, metric), SHORT_AREA, BAD_TABLE (weights, sizes), NO_ROOM. */

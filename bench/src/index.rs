@@ -51,7 +51,22 @@ fn raw(profile: &Profile) -> ffi::Profile {
     ffi::Profile { measures: profile.measures, code: profile.code }
 }
 
+/// A query of a batch.
+pub fn batch_row(query: &Query, radius: u32) -> ffi::Row {
+    let Profile { measures: [a, b, c, d], code: [e, f] } = query.profile;
+    let halves = |word: u64| (word as u32, (word >> 32) as u32);
+    let ((e, g), (f, h)) = (halves(e), halves(f));
+    [0, 0, a as u32, b as u32, c as u32, d as u32, e, g, f, h, radius, 0, query.first_day as u32]
+}
+
 impl Archive {
+    /// A batch, each of whose parts has `room` entries: how many entries it found in all, and the slots that it met.
+    pub fn range_batch(&mut self, queries: &[ffi::Row], room: usize) -> [u32; 2] {
+        let reply = ffi::range_batch(&self.table, &mut self.result[..room * queries.len()], queries);
+        assert_eq!(reply.refusal, 0);
+        [reply.found.iter().sum(), reply.distances]
+    }
+
     fn searched(&mut self, reply: ffi::Searched) -> u32 {
         assert_eq!(reply.refusal, 0);
         self.found = reply.found as usize;
@@ -65,7 +80,8 @@ impl Index for Archive {
         let mut table = vec![[0; ffi::ROW_WORDS]; order as usize + 1 + 2 * n];
         assert_eq!(ffi::fresh(&mut table, order, metric, ffi::Weights { each: weights() }), 0);
         let image = vec![0; 8 + 4 * (order as usize + 1) + 50 * (2 * n - 1)];
-        Archive { table, work: vec![[0; ffi::ROW_WORDS]; n], result: vec![[0; 2]; n], found: 0, image, length: 0 }
+        let result = vec![[0; 2]; ffi::MAX_QUERIES * n];
+        Archive { table, work: vec![[0; ffi::ROW_WORDS]; n], result, found: 0, image, length: 0 }
     }
 
     fn add(&mut self, tag: u64, profile: &Profile) -> u32 {

@@ -78,6 +78,19 @@ pub fn profiles(seed: u64, spread: Spread, n: usize) -> Vec<Profile> {
     (0..n).map(|_| one()).collect()
 }
 
+/// So many groups of so many profiles, those of a group about one centre of the herd of this seed, or in an even herd about
+/// any profile.
+pub fn groups(seed: u64, spread: Spread, groups: usize, size: usize) -> Vec<Vec<Profile>> {
+    let mut random = Random(seed);
+    let centres: Vec<Profile> = (0..64).map(|_| random.even()).collect();
+    random.0 ^= 0xA5A5_A5A5;
+    let mut group = || {
+        let centre = if spread.flips.is_some() { centres[random.below(64)] } else { random.even() };
+        (0..size).map(|_| random.near(&centre, spread.flips.unwrap_or(8))).collect()
+    };
+    (0..groups).map(|_| group()).collect()
+}
+
 /// Distinct valid tags, in no order.
 pub fn tag(i: usize) -> u64 {
     276_000_000_000_000 + (i as u64 * 7919) % 1_000_003

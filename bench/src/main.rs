@@ -1,6 +1,7 @@
 //! Measures the calls beside plain Rust programs on the same herds in the same run, and compares what they give on the
 //! way. `bench FOLDER [SEED]` writes calls.md and growth.svg into the folder; bench/run.sh runs it. `bench nearest
 //! SEED..` prints what nearest takes beside the scan, a line for each herd, metric and seed; bench/nearest.sh runs it.
+//! `bench batch [SEED]` prints what batches of 16 queries take beside as many single calls; bench/batch.sh runs it.
 
 mod changes;
 mod index;
@@ -20,13 +21,15 @@ use searches::Full;
 
 const ORDERS: [u32; 5] = [4, 6, 8, 10, 12];
 const METRICS: [u32; 3] = [0, 1, 2];
+const SEED: u64 = 0x9E37_79B9_7F4A_7C15;
 
 fn main() {
     let words: Vec<String> = env::args().skip(1).collect();
     match words.split_first() {
         Some((word, seeds)) if word == "nearest" => print_nearest(seeds),
-        Some((folder, seeds)) => write_all(folder, seeds.first().map_or(0x9E37_79B9_7F4A_7C15, |word| seed_of(word))),
-        None => eprintln!("usage: bench FOLDER [SEED], or bench nearest SEED.."),
+        Some((word, seeds)) if word == "batch" => print_batches(seeds.first().map_or(SEED, |word| seed_of(word))),
+        Some((folder, seeds)) => write_all(folder, seeds.first().map_or(SEED, |word| seed_of(word))),
+        None => eprintln!("usage: bench FOLDER [SEED], or bench nearest SEED.., or bench batch [SEED]"),
     }
 }
 
@@ -49,6 +52,28 @@ fn print_nearest(seeds: &[String]) {
             for seed in seeds {
                 let line = Full::new(seed_of(seed), spread, 12, metric).nearest();
                 println!("{}|{metric}|{seed}|{:.0}|{:.0}|{:.0}", spread.name, line.visited, line.calls, line.scan);
+            }
+        }
+    }
+}
+
+// Over 4,096 items, 16 queries about one centre and 16 like the items.
+fn print_batches(seed: u64) {
+    println!("| herd | metric | queries | found | slots met | singly | share | batch µs | singly µs | /singly |");
+    println!("|---|---|---|---|---|---|---|---|---|---|");
+    for spread in SPREADS {
+        for metric in METRICS {
+            let mut full = Full::new(seed, spread, 12, metric);
+            for (queries, alike) in [("alike", Some((seed, spread))), ("spread", None)] {
+                for hits in [10, 100] {
+                    let searches::Batches { found, met, met_singly, batch, singles } = full.batches(alike, hits);
+                    let (share, ratio) = (met / met_singly, batch / singles);
+                    let [batch, singles] = [batch, singles].map(|time| time / 1000.0);
+                    println!(
+                        "| {} | {metric} | {queries} | {found:.0} | {met:.0} | {met_singly:.0} | {share:.2} | {batch:.1} | {singles:.1} | {ratio:.2} |",
+                        spread.name
+                    );
+                }
             }
         }
     }

@@ -2,8 +2,10 @@
 
 use std::hint::black_box;
 
-use crate::index::{Archive, Hit, Index, first_day};
-use crate::items::{Query, Spread, profiles, tag};
+use vpindex::ffi;
+
+use crate::index::{Archive, Hit, Index, batch_row, first_day};
+use crate::items::{Query, Spread, groups, profiles, tag};
 use crate::measure::turns;
 use crate::plain::{Plain, Slot, Space, scan_nearest, scan_range};
 
@@ -19,6 +21,16 @@ pub struct Line {
     pub calls: f64,
     pub plain: f64,
     pub scan: f64,
+}
+
+/// Batches of 16 queries beside as many single calls: what a batch found in all, the slots that it met and those that the
+/// single calls met together, and nanoseconds of both.
+pub struct Batches {
+    pub found: f64,
+    pub met: f64,
+    pub met_singly: f64,
+    pub batch: f64,
+    pub singles: f64,
 }
 
 /// A full table of each kind, and the queries.
@@ -72,6 +84,47 @@ impl Full {
             ],
         );
         line(format!("nearest {K}"), sums, times)
+    }
+
+    /// Batches of queries about one centre, or of queries like the items, each with a radius for so many hits.
+    pub fn batches(&mut self, alike: Option<(u64, Spread)>, hits: usize) -> Batches {
+        const SIZE: usize = ffi::MAX_QUERIES;
+        let asked: Vec<Query> = match alike {
+            Some((seed, spread)) => {
+                let profiles = groups(seed, spread, QUERIES / SIZE, SIZE).into_iter().flatten();
+                profiles.map(|profile| Query { profile, first_day: first_day() }).collect()
+            }
+            None => self.queries.clone(),
+        };
+        let radii: Vec<u32> = asked.iter().map(|query| self.radius(query, hits)).collect();
+        let rows: Vec<ffi::Row> = asked.iter().zip(&radii).map(|(query, &radius)| batch_row(query, radius)).collect();
+        let (mut most, mut singly) = (0, vec![]);
+        for (query, &radius) in asked.iter().zip(&radii) {
+            let met = self.archive.range(query, radius, self.items.len());
+            most = most.max(self.archive.hits().len());
+            singly.push([self.archive.hits().len() as u32, met]);
+        }
+        let room = most.next_power_of_two();
+        let (mut sums, n) = ([0.0; 3], (QUERIES / SIZE) as f64);
+        for (rows, singly) in rows.chunks(SIZE).zip(singly.chunks(SIZE)) {
+            let [found, met] = self.archive.range_batch(rows, room);
+            let (each, together) = (singly.iter().map(|s| s[0]).sum::<u32>(), singly.iter().map(|s| s[1]).sum::<u32>());
+            assert!(found == each && met <= together);
+            for (sum, value) in sums.iter_mut().zip([found, met, together]) {
+                *sum += value as f64 / n;
+            }
+        }
+        let archive = std::cell::RefCell::new(&mut self.archive);
+        let times = turns(
+            ROUNDS,
+            QUERIES / SIZE,
+            [&mut |b| _ = black_box(archive.borrow_mut().range_batch(&rows[b * SIZE..][..SIZE], room)), &mut |b| {
+                for q in b * SIZE..(b + 1) * SIZE {
+                    black_box(archive.borrow_mut().range(&asked[q], radii[q], room));
+                }
+            }],
+        );
+        Batches { found: sums[0], met: sums[1], met_singly: sums[2], batch: times[0], singles: times[1] }
     }
 
     // The radius within which a query has so many hits, or a few more at the same distance.

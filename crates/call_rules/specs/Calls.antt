@@ -17,6 +17,8 @@ use Rattle.table_rules.specs.Add.{addReply, tableAfterAdd, workAfterAdd}
 use Rattle.table_rules.specs.Remove.{removeReply, tableAfterRemove, workAfterRemove}
 use Rattle.table_rules.specs.LookUp.{lookUpReply}
 use Rattle.table_rules.specs.Search.{rangeReply, resultAfterRange, nearestReply, resultAfterNearest}
+use Rattle.batch_rules.specs.declared.Ranges.{Ranges}
+use Rattle.batch_rules.specs.Batch.{rangeBatchReply, resultAfterBatch}
 use Rattle.image_rules.specs.declared.Written.{Written}
 use Rattle.image_rules.specs.Write.{writeReply, imageAfterWrite}
 use Rattle.image_rules.specs.declared.Loaded.{Loaded}
@@ -83,30 +85,35 @@ pub data Ask : Type 0 where
   range : (query : Profile) (radius : ℕ) (firstDay : ℕ) → Ask
   nearest : (query : Profile) (k : ℕ) (firstDay : ℕ) → Ask
   dues : (tags : List ℕ) → Ask
+  rangeBatch : (queries : List Row) → Ask
 
 abbrev pub AskAreas : Ask → Type 0
 AskAreas (lookUp tag) = Unit {0}
 AskAreas (range query radius firstDay) = List Entry
 AskAreas (nearest query k firstDay) = List Entry
 AskAreas (dues tags) = List ℕ
+AskAreas (rangeBatch queries) = List Entry
 
 abbrev pub AskReply : Ask → Type 0
 AskReply (lookUp tag) = LookedUp
 AskReply (range query radius firstDay) = Searched
 AskReply (nearest query k firstDay) = Searched
 AskReply (dues tags) = Dues
+AskReply (rangeBatch queries) = Ranges
 
 abbrev pub askReply : (q : Ask) → Table → AskAreas q → AskReply q
 askReply (lookUp tag) t none = lookUpReply t tag
 askReply (range query radius firstDay) t result = rangeReply t result query radius firstDay
 askReply (nearest query k firstDay) t result = nearestReply t result query k firstDay
 askReply (dues tags) t area = duesReply t tags area
+askReply (rangeBatch queries) t result = rangeBatchReply t result queries
 
 abbrev pub areasAnswered : (q : Ask) → Table → AskAreas q → AskAreas q
 areasAnswered (lookUp tag) t none = none
 areasAnswered (range query radius firstDay) t result = resultAfterRange t result query radius firstDay
 areasAnswered (nearest query k firstDay) t result = resultAfterNearest t result query k firstDay
 areasAnswered (dues tags) t area = duesAfter t tags area
+areasAnswered (rangeBatch queries) t result = resultAfterBatch t result queries
 
 -- RULES 12.2, 19.4: the calls that write a table. They leave it as it is. Each is lent bytes to write in: an area for the image, or the states
 pub data Write : Type 0 where

@@ -1,21 +1,22 @@
--- Demand 3's comparison, tried on one list, on one with weights, on one with named states and on one with dues: at every call, refused ones and short areas among them, table and model show what was worked out by hand,
+-- Demand 3's comparison, tried on one list, on one with weights, on one with named states, on one with dues and on one with batches: at every call, refused ones and short areas among them, table and model show what was worked out by hand,
 -- and after it the sums and the model's items are those worked out by hand. Each side is a run that antt computes.
 use Prim.Native.Nat.{ℕ, _+_, _*_}
 use mathlib.Core.Path.{_≡_, refl}
 use mathlib.Core.List.{List, [], _∷_, _++_, map}
 use lib.IntN.{pos, negsuc}
 use lib.ListN.{length, set, replicate}
+use Rattle.metric_rules.specs.Row.{rowOf, queryRow}
 use Rattle.search_rules.specs.Range.{Entry}
 use Rattle.text_rules.specs.Text.{lineFeed}
 use Rattle.table_rules.specs.LookUp.{noProfile}
 use Rattle.state_rules.specs.Parts.{snapshotOf}
 use Rattle.call_rules.specs.Calls.{Call}
-use Rattle.history.specs.Trace.{Step, Shown, zeroed, shows, overlaid, leftBy, beginShown, changeShown, duesIn, askShown, shown, noSums, plus, imageSums, starting, begunSums, ifAccepted, counted, sumsAfter, stateAfter, shownAt, stateAfterAll, trace}
-use Rattle.history.specs.Trace.Payload.{bare, aSlot, aWeighing, someEntries, aListRead, someDues}
-use Rattle.history.specs.Model.{itemOf, withTag, isIn, with, without, weighedIn, scanned, modelRange, modelNearest, weightOf, weightsIn, canRead, canChange, tagRefusal, itemRefusal, addRefusalOf, removeRefusalOf, fits, questionRefusal, askRefusal, found, paid, answerTo, showsUnless, afterUnless, stopsAt, oneMoreAdded, linesAnswered, listAnswered, imageModel, modelBegun, beginAnswer, changeAnswer, answer, answerAt, modelAfterAll, modelTrace}
+use Rattle.history.specs.Trace.{Step, Shown, zeroed, shows, overlaid, leftBy, beginShown, changeShown, duesIn, askShown, shown, noSums, plus, imageSums, starting, begunSums, ifAccepted, counted, sumsAfter, stateAfter, shownAt, stateAfterAll, trace, listedIn}
+use Rattle.history.specs.Trace.Payload.{bare, aSlot, aWeighing, someEntries, aListRead, someDues, someLists}
+use Rattle.history.specs.Model.{itemOf, withTag, isIn, with, without, weighedIn, scanned, modelRange, modelNearest, weightOf, weightsIn, canRead, canChange, tagRefusal, itemRefusal, addRefusalOf, removeRefusalOf, fits, questionRefusal, askRefusal, found, paid, answerTo, showsUnless, afterUnless, stopsAt, oneMoreAdded, linesAnswered, listAnswered, imageModel, modelBegun, beginAnswer, changeAnswer, answer, answerAt, modelAfterAll, modelTrace, modelRanges, foundEach}
 use Rattle.history.specs.History.{before, blankModel}
 use Rattle.history.proofs.Computing.{performed}
-use Rattle.history.proofs.Running.{fresh, load, restore, write, save, add, remove, readList, lookUp, range, nearest, dues, weighing, by, tag, valued, measured, areasFor, scratch, adding, removing, listOf, itemLine}
+use Rattle.history.proofs.Running.{fresh, load, restore, write, save, add, remove, readList, lookUp, range, nearest, dues, weighing, by, tag, valued, measured, areasFor, scratch, adding, removing, listOf, itemLine, rangeBatch}
 use Rattle.history.proofs.Imaged.{oneAs, oneImage, deadImage, unweightedImage}
 
 -- calls in roomy areas, each lent its own; and one in areas of these lengths
@@ -273,3 +274,33 @@ duesTable = refl
 duesModel : modelTrace blankModel duesSteps ≡ duesShow
 unfolding modelShows duesSteps duesShow
 duesModel = refl
+
+-- a batch: two lists in parts of four, each query by its own radius and first day; parts of one are too short; a short table, no query, and a measure
+batchSteps : List Step
+unfolding roomy lentOnly tag valued rowOf
+batchSteps =
+    let two = rangeBatch (queryRow (valued 13) 0 0 ∷ queryRow (valued 10) 3 5 ∷ []) in
+    roomy (fresh 2 (by 0) ∷ add (tag 1) (valued 10) 5 ∷ add (tag 2) (valued 13) 1 ∷ add (tag 3) (valued 13) 9 ∷ two ∷ [])
+    ++ (lentOnly 11 3 two ∷ lentOnly 10 9 (rangeBatch []) ∷ lentOnly 11 9 (rangeBatch []) ∷ lentOnly 11 9 (rangeBatch (queryRow (valued 1_000_001) 0 0 ∷ [])) ∷ [])
+
+noLists : ℕ → Shown
+noLists n = shows n (someLists (replicate 16 0) [])
+
+batchShow : List Shown
+unfolding changed noLists tag
+batchShow =
+    map changed (0 ∷ 0 ∷ 0 ∷ 0 ∷ [])
+    ++ (shows 0 (someLists (2 ∷ 2 ∷ replicate 14 0) ((tag 2 ∷ 0 ∷ []) ∷ (tag 3 ∷ 0 ∷ []) ∷ (tag 1 ∷ 0 ∷ []) ∷ (tag 3 ∷ 3 ∷ []) ∷ []))
+    ∷ noLists 6
+    ∷ noLists 23
+    ∷ noLists 40
+    ∷ noLists 2
+    ∷ [])
+
+batchTable : trace (before scratch) batchSteps ≡ batchShow
+unfolding tableShows listedIn batchSteps batchShow
+batchTable = refl
+
+batchModel : modelTrace blankModel batchSteps ≡ batchShow
+unfolding modelShows modelRanges foundEach batchSteps batchShow
+batchModel = refl

@@ -8,6 +8,7 @@ use Rattle.metric_rules.specs.Distance.{mostDistance, saturated, gap, weight, w
 use Rattle.tree_rules.specs.Sorting.{keyLe, insertBy, sortBy}
 use Rattle.tree_rules.specs.Layout.{leftSize, costWithin, cost, rankedFrom, tagKey, placed, fromPivot, nearKey, lastDistance, split, node, layoutWithin, layout, isLayout}
 use Rattle.search_rules.specs.Range.{entry, entryDistance, entryKey, ordered, entersLeft, entersRight, nothing, both, toQuery, entryOf, isHit, visited, rangeWithin, rangeTree}
+use Rattle.search_rules.specs.Reached.{reachedWithin}
 use Rattle.search_rules.specs.Nearest.{keep, worst, opens, taken, enterHalf, enterHalves, nearestWithin, nearestTree}
 use Rattle.table_rules.specs.Geometry.{validOrder, room, bucketsOf, headerRow, sizesRow, firstSlot, tableRows, workRows}
 use Rattle.table_rules.specs.Table.{Table, rowAt, orderOf, tableSpace, builtOf, liveOf, inUse, liveTotal, slotsOf, liveSlots, pairRow, withWeights, headerOf, putSizes, putBucket, emptied, cleared}
@@ -32,6 +33,7 @@ use Rattle.list_rules.specs.Lines.{listHeader, hasHeader, isItemLine, itemTag, 
 use Rattle.list_rules.specs.ReadList.{stopped, oneMore, reading, listReading, readListReply, tableAfterReadList, workAfterReadList}
 use Rattle.dues_rules.specs.Board.{board, within, rateBy, duesAt, duesBy}
 use Rattle.dues_rules.specs.Listed.{weightAt, isFound, isWeight, pays, weightsRefusal, totalOf, weightsReply, areaAfter, duesRefusal, duesReply, duesAfter}
+use Rattle.batch_rules.specs.Batch.{mostQueries, validNumber, firstDayOf, singleAnswer, singleAnswers, some, reachedBySome, batchCount, partSize, queriesRefusal, partsRefusal, batchRefusal, foundBy, rangesReply, partWith, partsWith, resultAfterParts, rangeBatchReply, resultAfterBatch}
 use Rattle.call_rules.specs.Calls.{Call, Areas, Reply, replyTo, tableAfter, areasAfter}
 
 pub record Performed (c : Call) : Type 0 where
@@ -63,4 +65,6 @@ unfolding
     isNumeral numeralAfter numeral isNegative unsigned isMeasure hundredths measureIn listHeader hasHeader isItemLine itemTag itemProfile lineOf
     linesFrom linesOf itemLines stopped oneMore reading listReading readListReply tableAfterReadList workAfterReadList board within rateBy duesAt duesBy
     weightAt isFound isWeight pays weightsRefusal totalOf weightsReply areaAfter duesRefusal duesReply duesAfter
+    reachedWithin mostQueries validNumber firstDayOf singleAnswer singleAnswers some reachedBySome batchCount partSize queriesRefusal partsRefusal batchRefusal foundBy rangesReply
+    partWith partsWith resultAfterParts rangeBatchReply resultAfterBatch
 performed c t areas = record { reply = replyTo c t areas; table = tableAfter c t areas; areas = areasAfter c t areas }

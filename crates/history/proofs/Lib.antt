@@ -30,6 +30,7 @@ mod ImagesBack
 mod StatesBack
 mod Ordering
 mod AnyDistance
+mod Batches
 mod RefinesLists
 mod RefinesSearch
 mod RefinesTable
@@ -37,6 +38,7 @@ mod RefinesFinding
 mod RefinesItems
 mod RefinesRefusals
 mod RefinesReading
+mod RefinesBatch
 mod RefinesShown
 mod RefinesOwn
 mod RefinesStep

@@ -9,10 +9,10 @@ use lib.Dec.{eqb, leb}
 use lib.ListN.{length, length-map}
 use borrow.Author.Tests.{eqb-true}
 use Rattle.lists.specs.Lists.{every, select, total, All}
-use Rattle.lists.proofs.Lists.{all-weaken, perm-length, perm-map, map-where}
+use Rattle.lists.proofs.Lists.{all-weaken, perm-length, perm-map, map-where, map-alike}
 use Rattle.lists.proofs.Tests.{and-second, every-all}
 use Rattle.metric_rules.specs.declared.Profile.{Profile}
-use Rattle.metric_rules.specs.Row.{tagOf, profileOf, measure}
+use Rattle.metric_rules.specs.Row.{tagOf, profileOf, measure, Row, thresholdOf}
 use Rattle.metric_rules.specs.declared.Space.{Space}
 use Rattle.metric_rules.specs.Distance.{distance}
 use Rattle.search_rules.specs.Range.{Entry, entry, ordered, entryOf, toQuery}
@@ -26,7 +26,8 @@ use Rattle.table_rules.specs.Rebuild.{liveItems}
 use Rattle.table_rules.specs.LookUp.{Place, find}
 use Rattle.table_rules.specs.Search.{rangeAnswer, nearestAnswer}
 use Rattle.dues_rules.specs.Listed.{weightAt, weightsAt}
-use Rattle.history.specs.Model.{Item, itemOf, Model, withTag, scanned, modelRange, modelNearest, weightOf, weightsIn}
+use Rattle.history.specs.Model.{Item, itemOf, Model, withTag, scanned, modelRange, modelNearest, weightOf, weightsIn, modelRanges}
+use Rattle.batch_rules.specs.Batch.{firstDayOf, singleAnswer, singleAnswers}
 use Rattle.history.specs.Represents.{itemsIn}
 use Rattle.history.proofs.Invariant.{Invariant}
 use Rattle.history.proofs.RefinesLists.{select-perm, select-map, select-once, perm-of-one}
@@ -76,6 +77,13 @@ module _ {t : Table} {m : Model} (matches : Matches t m) where
   range-alike q r firstDay =
       range-scans (matches .invariant) q r firstDay
       ∙ within-permuted r (entries-same q firstDay) (entry-pairs (distance (tableSpace t)) q (select (since firstDay) (liveItems t (bucketsOf (orderOf t)))))
+
+  -- each query of a batch is answered by its scan
+  pub ranges-alike : (queries : List Row) → map (λ a. a .entries) (singleAnswers t queries) ≡ modelRanges m queries
+  unfolding singleAnswers singleAnswer modelRanges
+  ranges-alike queries =
+      map-map (λ a. a .entries) (singleAnswer t) queries
+      ∙ map-alike (λ query. range-alike (profileOf query) (thresholdOf query) (firstDayOf query)) queries
 
   pub nearest-alike : (q : Profile) (k firstDay : ℕ) → nearestAnswer t q k firstDay .entries ≡ modelNearest m q k firstDay
   unfolding modelNearest keep ordered

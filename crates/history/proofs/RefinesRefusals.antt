@@ -1,6 +1,6 @@
 -- Refusals alike: a table that matches the model, or one too short for the model's order, refuses a call by the number by which the model does.
 -- A sound table that is long enough is never stopped by 24, and a shorter one is stopped by 23 whatever its rows hold.
-use Prim.Native.Nat.{ℕ, zero, suc, _<_}
+use Prim.Native.Nat.{ℕ, zero, suc, _/_, _<_}
 use mathlib.Core.Path.{_≡_, refl, sym, _∙_, ap, ap₂}
 use mathlib.Core.Logic.{_⊎_, inl, inr}
 use mathlib.Core.Bool.{Bool, true, false, _&&_, false≢true}
@@ -11,7 +11,8 @@ use lib.Dec.{leb, eqb}
 use lib.ListN.{length}
 use native.Mathlib.Omega.{arith}
 use borrow.Author.Tests.{le-leb, lt-leb}
-use Rattle.lists.proofs.Tests.{and-first, and-second, and-pass}
+use Rattle.lists.specs.Lists.{every}
+use Rattle.lists.proofs.Tests.{and-first, and-second, and-pass, every-map}
 use Rattle.metric_rules.specs.declared.Profile.{Profile}
 use Rattle.metric_rules.specs.Row.{Row}
 use Rattle.metric_rules.specs.Validity.{validTag, validMeasures, validDay}
@@ -26,11 +27,12 @@ use Rattle.table_rules.specs.Remove.{removeRefusal}
 use Rattle.table_rules.specs.LookUp.{Place, find, isLiveTag, liveTagRefusal, lookUpRefusal}
 use Rattle.table_rules.specs.Search.{fitRefusal, rangeRefusal, nearestRefusal}
 use Rattle.dues_rules.specs.Listed.{weightsAt, weightsRefusal, duesRefusal}
-use Rattle.call_rules.specs.Calls.Ask.{lookUp, range, nearest, dues}
+use Rattle.call_rules.specs.Calls.Ask.{lookUp, range, nearest, dues, rangeBatch}
 use Rattle.history.specs.Model.{Item, itemOf, Model, withTag, isIn, canRead, canChange, tagRefusal, itemRefusal, addRefusalOf, removeRefusalOf, fits, questionRefusal, askRefusal}
 use Rattle.history.proofs.Invariant.{Invariant}
 use Rattle.history.proofs.RefinesFinding.{rowFound}
-use Rattle.history.proofs.RefinesItems.{Matches, range-alike, nearest-alike, found-items, weights-alike, live-total}
+use Rattle.history.proofs.RefinesItems.{Matches, range-alike, nearest-alike, found-items, weights-alike, live-total, ranges-alike}
+use Rattle.batch_rules.specs.Batch.{singleAnswers, partSize, queriesRefusal, partsRefusal, batchRefusal}
 
 -- a table too short for the model's order: of its rows only the header counts, if there is one
 pub record Short (t : Table) (m : Model) : Type 0 where
@@ -199,3 +201,11 @@ module _ (m : Model) (t : Table) where
     dues-refusal tags area =
         stopped (readRefusal t) _ _ _ (read-refusal lendable)
         (λ e. ap (λ (weights : List (Option ℤ)). weightsRefusal weights (length area)) (weights-alike (readable lendable e) tags))
+
+    pub batch-refusal : (queries : List Row) (result : List Entry) → batchRefusal t result queries ≡ askRefusal m (rangeBatch queries) (length t) (length result)
+    unfolding batchRefusal partsRefusal partSize askRefusal questionRefusal
+    batch-refusal queries result =
+        stopped (readRefusal t) _ _ _ (read-refusal lendable)
+        (λ e. ap (λ (b : Bool). orElse (queriesRefusal queries) (unless b noRoom 0))
+        (sym (every-map (λ a. a .entries) (λ es. leb (length es) (length result / length queries)) (λ a. leb (length (a .entries)) (length result / length queries)) (λ a. refl) (singleAnswers t queries))
+        ∙ ap (every (λ es. leb (length es) (length result / length queries))) (ranges-alike (readable lendable e) queries)))

@@ -23,21 +23,23 @@ use Rattle.table_rules.specs.Add.{addRefusal, addReply}
 use Rattle.table_rules.specs.Remove.{removeRefusal, removeReply}
 use Rattle.table_rules.specs.LookUp.{Place, find, noProfile, notFound, lookUpReply}
 use Rattle.table_rules.specs.Search.{Answer, rangeAnswer, nearestAnswer, rangeRefusal, nearestRefusal, searchReply, zeroEntry, resultAfter, rangeReply, resultAfterRange, nearestReply, resultAfterNearest}
+use Rattle.batch_rules.specs.Batch.{batchRefusal, rangeBatchReply, resultAfterBatch}
 use Rattle.list_rules.specs.ReadList.{readListReply}
 use Rattle.dues_rules.specs.declared.Dues.{Dues}
 use Rattle.dues_rules.specs.Listed.{weightsAt, duesOf, totalOf, duesRefusal, duesReply, duesAfter}
 use Rattle.dues_rules.proofs.Replies.{paid-each, refused, accepted}
 use Rattle.call_rules.specs.Calls.{Change, changeReply, Ask, AskAreas, askReply, areasAnswered, Call, Areas, replyTo, areasAfter}
 use Rattle.call_rules.specs.Calls.Change.{add, remove, readList}
-use Rattle.call_rules.specs.Calls.Ask.{lookUp, range, nearest, dues}
+use Rattle.call_rules.specs.Calls.Ask.{lookUp, range, nearest, dues, rangeBatch}
 use Rattle.call_rules.specs.Calls.Call.{begin, change, ask, write}
 use Rattle.history.specs.Trace.{Shown, zeroed, shows, changeShown, duesIn, askShown, shown}
 use Rattle.history.specs.Trace.Payload.{bare, aWeighing, someEntries, aListRead, someDues}
-use Rattle.history.specs.Model.{Item, itemOf, Model, AskLengths, askLengths, lengthsOf, withTag, isIn, weighedIn, modelRange, modelNearest, weightsIn, canRead, tagRefusal, questionRefusal, askRefusal, found, paid, answerTo, showsUnless, beginAnswer, changeAnswer, answer}
+use Rattle.history.specs.Model.{Item, itemOf, Model, AskLengths, askLengths, lengthsOf, withTag, isIn, weighedIn, modelRange, modelNearest, weightsIn, canRead, tagRefusal, questionRefusal, askRefusal, found, paid, answerTo, showsUnless, beginAnswer, changeAnswer, answer, modelRanges, foundEach}
 use Rattle.history.specs.History.{IsChange, IsCall}
 use Rattle.history.proofs.RefinesFinding.{rowFound}
-use Rattle.history.proofs.RefinesItems.{Matches, range-alike, nearest-alike, found-items, weights-alike}
-use Rattle.history.proofs.RefinesRefusals.{Lendable, readable, long-accepts, add-refusal, remove-refusal, look-up-refusal, range-refusal, nearest-refusal, dues-refusal}
+use Rattle.history.proofs.RefinesItems.{Matches, range-alike, nearest-alike, found-items, weights-alike, ranges-alike}
+use Rattle.history.proofs.RefinesRefusals.{Lendable, readable, long-accepts, add-refusal, remove-refusal, look-up-refusal, range-refusal, nearest-refusal, dues-refusal, batch-refusal}
+use Rattle.history.proofs.RefinesBatch.{batch-shows}
 use Rattle.history.proofs.RefinesReading.{reads, reads-alike}
 
 -- a search shows its entries where it is accepted
@@ -142,7 +144,7 @@ module _ (m : Model) (t : Table) (lendable : Lendable t m) where
   -- each question
   ask-shown : (q : Ask) (areas : AskAreas q)
       → askShown q (askReply q t areas) (areasAnswered q t areas) ≡ showsUnless (askRefusal m q (length t) (askLengths q areas)) (answerTo m q)
-  unfolding askShown answerTo rangeReply resultAfterRange nearestReply resultAfterNearest lookUpReply
+  unfolding askShown answerTo rangeReply resultAfterRange nearestReply resultAfterNearest rangeBatchReply resultAfterBatch lookUpReply
   ask-shown (lookUp tag) areas =
       shows-weighing (askRefusal m (lookUp tag) (length t) tt) (find t tag) (withTag tag (m .items))
       (λ e. (found-items (accepted-ask (lookUp tag) tt e) tag, tag-there m tag (asked-tag tag e)))
@@ -160,6 +162,10 @@ module _ (m : Model) (t : Table) (lendable : Lendable t m) where
   ask-shown (dues tags) area =
       shows-dues t tags area (duesOf (weightsIn m tags)) (askRefusal m (dues tags) (length t) (length area)) (dues-refusal m t lendable tags area)
       (λ e. ap (λ (weights : List (Option ℤ)). duesOf weights) (weights-alike (accepted-ask (dues tags) (length area) e) tags))
+  ask-shown (rangeBatch queries) result =
+      let same = batch-refusal m t lendable queries result in
+      batch-shows t result queries (batchRefusal t result queries) refl (modelRanges m queries) (λ z. ranges-alike (accepted-ask (rangeBatch queries) (length result) (sym same ∙ z)) queries)
+      ∙ ap (λ (n : ℕ). showsUnless n (foundEach (modelRanges m queries))) same
 
   -- what each call shows; a call that begins a table reads nothing of it but its length
   pub shown-alike : (c : Call) → IsCall c → (areas : Areas c) → shown c (replyTo c t areas) (areasAfter c t areas) ≡ answer m c (length t) (lengthsOf c areas) .shows

@@ -4,7 +4,7 @@ use mathlib.Core.List.{List, [], _∷_, _++_, map, flatten}
 use lib.IntN.{ℤ, pos}
 use lib.ListN.{replicate, take}
 use Rattle.metric_rules.specs.declared.Profile.{Profile}
-use Rattle.metric_rules.specs.Row.{rowWidth, tagOf, thresholdOf, markOf, dayOf}
+use Rattle.metric_rules.specs.Row.{Row, rowWidth, tagOf, thresholdOf, markOf, dayOf}
 use Rattle.metric_rules.specs.Validity.{nationals}
 use Rattle.metric_rules.specs.declared.Space.{Space}
 use Rattle.table_rules.specs.Table.{Table, slotsOf, builtOf, liveOf}
@@ -70,6 +70,9 @@ nearest q k firstDay = ask (Ask.nearest q k firstDay)
 abbrev pub dues : List ℕ → Call
 dues tags = ask (Ask.dues tags)
 
+abbrev pub rangeBatch : List Row → Call
+rangeBatch queries = ask (Ask.rangeBatch queries)
+
 -- a table area for order 3; and areas of n rows, entries, bytes or numbers for a call. All hold other content before
 unfoldable pub scratch : Table
 scratch = replicate 21 (replicate rowWidth 6)
@@ -79,6 +82,7 @@ askAreas n (Ask.lookUp t) = tt
 askAreas n (Ask.range q r firstDay) = replicate n (8 ∷ 8 ∷ [])
 askAreas n (Ask.nearest q k firstDay) = replicate n (8 ∷ 8 ∷ [])
 askAreas n (Ask.dues tags) = replicate n 4
+askAreas n (Ask.rangeBatch queries) = replicate n (8 ∷ 8 ∷ [])
 
 unfoldable pub areasFor : ℕ → (c : Call) → Areas c
 unfolding askAreas
@@ -93,6 +97,7 @@ askRows (Ask.lookUp t) none = []
 askRows (Ask.range q r firstDay) result = result
 askRows (Ask.nearest q k firstDay) result = result
 askRows (Ask.dues tags) area = area ∷ []
+askRows (Ask.rangeBatch queries) result = result
 
 unfoldable pub areaRows : (c : Call) → Areas c → List (List ℕ)
 unfolding askRows
@@ -118,6 +123,7 @@ askNumbers (Ask.lookUp t) l none = l .refusal ∷ l .bucket ∷ l .day ∷ []
 askNumbers (Ask.range q r firstDay) s result = s .refusal ∷ s .found ∷ s .distances ∷ flatten (take (s .found) result)
 askNumbers (Ask.nearest q k firstDay) s result = s .refusal ∷ s .found ∷ s .distances ∷ flatten (take (s .found) result)
 askNumbers (Ask.dues tags) d area = d .refusal ∷ d .total ∷ []
+askNumbers (Ask.rangeBatch queries) r result = r .refusal ∷ r .distances ∷ r .found ++ flatten result
 
 unfoldable pub replyNumbers : (c : Call) → Reply c → Areas c → List ℕ
 unfolding beginNumbers changeNumbers askNumbers

@@ -11,7 +11,8 @@ use Rattle.table_rules.proofs.Keeping.{nearest-size}
 use Rattle.table_rules.specs.Search.{bucketsDown}
 use Rattle.image_rules.proofs.Accepting.{trees-decide}
 use Rattle.image_rules.proofs.Translating.{translates}
-use Rattle.history.specs.Demands.{CountsVisits, KeepsEnough, AnswersAscend, AnyDistance, EachMetric, WeightsOne, EveryList, EveryReport, WrittenLoads, SavedRestores, AcceptsTrees, OlderTranslates}
+use Rattle.batch_rules.proofs.Counts.{batch-count-sum, batch-count-one}
+use Rattle.history.specs.Demands.{CountsVisits, CountsTogether, KeepsEnough, AnswersAscend, AnyDistance, EachMetric, WeightsOne, EveryList, EveryReport, WrittenLoads, SavedRestores, OlderTranslates, AcceptsTrees}
 use Rattle.history.proofs.AnyDistance.{tree-facts}
 use Rattle.history.proofs.RefinesTable.{reported-slots}
 use Rattle.history.proofs.RefinesHistory.{history-traces, history-matches, history-represents}
@@ -25,6 +26,9 @@ pub use Rattle.history.proofs.StatesBack.{save-keeps}
 
 pub counts-visits : CountsVisits
 counts-visits = range-visits
+
+pub counts-together : CountsTogether
+counts-together t = (batch-count-sum t, batch-count-one t)
 
 pub keeps-enough : KeepsEnough
 keeps-enough t query k firstDay =

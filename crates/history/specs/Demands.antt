@@ -7,7 +7,7 @@
 use Prim.Native.Nat.{ℕ, _+_, _^_, _≤_, _<_, min}
 use mathlib.Core.Path.{_≡_}
 use mathlib.Core.Bool.{true}
-use mathlib.Core.List.{List, _∷_, map, List·Permᴰ}
+use mathlib.Core.List.{List, [], _∷_, map, List·Permᴰ}
 use lib.ListN.{length}
 use lib.Dec.{leb}
 use Rattle.lists.specs.Lists.{select, total, All}
@@ -31,6 +31,7 @@ use Rattle.image_rules.specs.Translate.{translated}
 use Rattle.state_rules.specs.Parts.{validName, lengthBytes, partBytes}
 use Rattle.call_rules.specs.Calls.{beginReply, tableBegun}
 use Rattle.call_rules.specs.Calls.Begin.{load}
+use Rattle.batch_rules.specs.Batch.{singleAnswer, batchCount}
 use Rattle.history.specs.Model.{Model, itemOf, modelRange, modelNearest}
 use Rattle.history.specs.History.{History, finalState, finalModel}
 use Rattle.history.specs.Images.{imageSize, LoadsBack, GivesBack, RestoresBack, KeepsStates}
@@ -45,6 +46,15 @@ abbrev pub CountsVisits : Type 0
 CountsVisits =
     (t : Table) (query : Profile) (radius firstDay : ℕ)
     → rangeAnswer t query radius firstDay .count ≡ total (map (λ k. length (reached (distance (tableSpace t)) query radius (slotsOf t k))) (bucketsDown t))
+
+-- RULES 11.14: a batch counts a slot once that any of its queries visits. So its count is at most that of the single calls added up, and with one query it is the
+-- single call's.
+-- Theorem: `counts-together`
+abbrev pub CountsTogether : Type 0
+CountsTogether =
+    (t : Table)
+    → ((queries : List Row) → batchCount t queries ≤ total (map (λ query. singleAnswer t query .count) queries))
+    × ((query : Row) → batchCount t (query ∷ []) ≡ singleAnswer t query .count)
 
 -- RULES 15.3: nearest replies with k items, or with all of the built slots of mark 0 whose day is not before the first where these are fewer.
 -- Theorem: `keeps-enough`

@@ -1,20 +1,20 @@
 -- RULES 16, the reference model: an order, a metric, four weights and a list of items. It is fed the calls' arguments, a load's image, a restore's states and a herd list
 -- too, and the lengths of the lent areas, but never an answer or what the table holds.
-use Prim.Native.Nat.{ℕ, zero, suc}
+use Prim.Native.Nat.{ℕ, zero, suc, _-_, _/_}
 use mathlib.Core.Bool.{Bool, true, false, not, _&&_}
-use mathlib.Core.List.{List, [], _∷_, map}
+use mathlib.Core.List.{List, [], _∷_, map, _++_, flatten}
 use mathlib.Core.Option.{Option}
 use lib.IntN.{ℤ}
-use lib.ListN.{length, take}
+use lib.ListN.{length, take, replicate}
 use lib.Dec.{leb, eqb}
-use Rattle.lists.specs.Lists.{select, total}
+use Rattle.lists.specs.Lists.{select, total, every}
 use Rattle.metric_rules.specs.declared.Profile.{Profile}
-use Rattle.metric_rules.specs.Row.{Row, tagOf, profileOf, dayOf, measure}
+use Rattle.metric_rules.specs.Row.{Row, tagOf, profileOf, dayOf, measure, thresholdOf}
 use Rattle.metric_rules.specs.Validity.{validTag, validMeasures, validDay}
 use Rattle.metric_rules.specs.declared.Space.{Space}
 use Rattle.metric_rules.specs.Distance.{distance}
 use Rattle.search_rules.specs.Range.{Entry, entry, entryDistance, ordered}
-use Rattle.table_rules.specs.Refusals.{badTag, badMeasure, badDay, noCount, noRoom, alreadyLive, notLive, full, shortArea, unless, when}
+use Rattle.table_rules.specs.Refusals.{badTag, badMeasure, badDay, noCount, noRoom, alreadyLive, notLive, full, shortArea, unless, when, orElse}
 use Rattle.table_rules.specs.Geometry.{room, tableRows, workRows}
 use Rattle.table_rules.specs.LookUp.{noProfile}
 use Rattle.image_rules.specs.Read.{orderIn, spaceIn}
@@ -27,10 +27,11 @@ use Rattle.dues_rules.specs.Listed.{weightsRefusal, duesOf}
 use Rattle.call_rules.specs.Calls.{Begin, beginReply, Change, Ask, AskAreas, Call, Areas}
 use Rattle.call_rules.specs.Calls.Begin.{fresh, load, restore}
 use Rattle.call_rules.specs.Calls.Change.{add, remove, readList}
-use Rattle.call_rules.specs.Calls.Ask.{lookUp, range, nearest, dues}
+use Rattle.call_rules.specs.Calls.Ask.{lookUp, range, nearest, dues, rangeBatch}
 use Rattle.call_rules.specs.Calls.Call.{begin, change, ask, write}
 use Rattle.history.specs.Trace.{Step, Payload, Shown, zeroed, shows, beginShown}
-use Rattle.history.specs.Trace.Payload.{bare, aWeighing, someEntries, aListRead, someDues}
+use Rattle.history.specs.Trace.Payload.{bare, aWeighing, someEntries, aListRead, someDues, someLists}
+use Rattle.batch_rules.specs.Batch.{mostQueries, firstDayOf, queriesRefusal}
 
 -- RULES 2.7: an item as handed over; and the item of a slot's row
 pub record Item : Type 0 where
@@ -53,12 +54,14 @@ AskLengths (lookUp tag) = Unit {0}
 AskLengths (range q r firstDay) = ℕ
 AskLengths (nearest q k firstDay) = ℕ
 AskLengths (dues tags) = ℕ
+AskLengths (rangeBatch queries) = ℕ
 
 abbrev pub askLengths : (q : Ask) → AskAreas q → AskLengths q
 askLengths (lookUp tag) none = tt
 askLengths (range q r firstDay) result = length result
 askLengths (nearest q k firstDay) result = length result
 askLengths (dues tags) area = length area
+askLengths (rangeBatch queries) result = length result
 
 abbrev pub Lengths : Call → Type 0
 Lengths (begin b) = Unit {0}
@@ -108,6 +111,10 @@ weightOf (i ∷ is) = Option.some (measure (i .profile) 0)
 unfoldable pub weightsIn : Model → List ℕ → List (Option ℤ)
 weightsIn m tags = map (λ tag. weightOf (withTag tag (m .items))) tags
 
+-- the scan for each of several queries, each with its own radius and first day
+unfoldable pub modelRanges : Model → List Row → List (List Entry)
+modelRanges m queries = map (λ query. modelRange m (profileOf query) (thresholdOf query) (firstDayOf query)) queries
+
 -- a table area of so many rows, and in add and remove a work area, are long enough; else 23
 unfoldable pub canRead : Model → ℕ → Bool
 canRead m rows = leb (tableRows (m .order)) rows
@@ -140,7 +147,7 @@ removeRefusalOf m rows work tag = unless (canChange m rows work) shortArea (tagR
 unfoldable pub fits : ℕ → List Entry → ℕ
 fits area entries = unless (leb (length entries) area) noRoom 0
 
--- the questions, after 23: look up 1, 21; range 2, 6; nearest 2, 5, 6; dues 21, 39, 6, by the weights of its own items
+-- the questions, after 23: look up 1, 21; range 2, 6; nearest 2, 5, 6; dues 21, 39, 6, by the weights of its own items; a batch 40, 2, 6
 unfoldable pub questionRefusal : Model → (q : Ask) → AskLengths q → ℕ
 questionRefusal m (lookUp tag) none = tagRefusal m tag
 questionRefusal m (range q r firstDay) area =
@@ -151,6 +158,9 @@ questionRefusal m (nearest q k firstDay) area =
     (when (eqb k 0) noCount
     (fits area (modelNearest m q k firstDay)))
 questionRefusal m (dues tags) area = weightsRefusal (weightsIn m tags) area
+questionRefusal m (rangeBatch queries) area =
+    orElse (queriesRefusal queries)
+    (unless (every (λ entries. leb (length entries) (area / length queries)) (modelRanges m queries)) noRoom 0)
 
 unfoldable pub askRefusal : Model → (q : Ask) → ℕ → AskLengths q → ℕ
 askRefusal m q rows n = unless (canRead m rows) shortArea (questionRefusal m q n)
@@ -162,11 +172,16 @@ found entries = someEntries (length entries) entries
 unfoldable pub paid : List ℕ → Payload
 paid each = someDues (total each) each
 
+-- the numbers of several lists, with zeros to 16, and the lists one after the other
+unfoldable pub foundEach : List (List Entry) → Payload
+foundEach lists = someLists (map length lists ++ replicate (mostQueries - length lists) 0) (flatten lists)
+
 unfoldable pub answerTo : Model → Ask → Payload
 answerTo m (lookUp tag) = weighedIn (withTag tag (m .items))
 answerTo m (range q r firstDay) = found (modelRange m q r firstDay)
 answerTo m (nearest q k firstDay) = found (modelNearest m q k firstDay)
 answerTo m (dues tags) = paid (duesOf (weightsIn m tags))
+answerTo m (rangeBatch queries) = foundEach (modelRanges m queries)
 
 unfoldable pub showsUnless : ℕ → Payload → Shown
 showsUnless zero payload = shows 0 payload

@@ -1,7 +1,7 @@
 -- RULES 17.2, 17.6, 17.7, a list of calls on one table: what each shows, and the table with its sums between calls.
 use Prim.Native.Nat.{ℕ, zero, suc, _+_, _-_}
 use mathlib.Core.List.{List, [], _∷_, _++_}
-use lib.ListN.{length, take, drop}
+use lib.ListN.{length, take, drop, replicate}
 use Rattle.metric_rules.specs.declared.Profile.{Profile}
 use Rattle.search_rules.specs.Range.{Entry}
 use Rattle.table_rules.specs.Table.{Table}
@@ -9,10 +9,11 @@ use Rattle.table_rules.specs.LookUp.{noProfile}
 use Rattle.image_rules.specs.Read.{slotsIn}
 use Rattle.image_rules.specs.Load.{liveRows}
 use Rattle.state_rules.specs.Parts.{partOf, savedImage}
+use Rattle.batch_rules.specs.Batch.{mostQueries, partSize}
 use Rattle.call_rules.specs.Calls.{Begin, BeginReply, Change, ChangeReply, Ask, AskAreas, AskReply, Call, Areas, Reply, replyTo, tableAfter, areasAfter}
 use Rattle.call_rules.specs.Calls.Begin.{fresh, load, restore}
 use Rattle.call_rules.specs.Calls.Change.{add, remove, readList}
-use Rattle.call_rules.specs.Calls.Ask.{lookUp, range, nearest, dues}
+use Rattle.call_rules.specs.Calls.Ask.{lookUp, range, nearest, dues, rangeBatch}
 use Rattle.call_rules.specs.Calls.Call.{begin, change, ask, write}
 
 -- RULES 17.2, one call of a list: each may be lent other areas of any length and content
@@ -36,6 +37,7 @@ pub data Payload : Type 0 where
   aSlot : (slot : ℕ) → Payload
   aWeighing : Profile → (day : ℕ) → Payload
   someEntries : (found : ℕ) → List Entry → Payload
+  someLists : (found : List ℕ) → List Entry → Payload
   aListRead : (line added : ℕ) → Payload
   someDues : (total : ℕ) → List ℕ → Payload
 
@@ -45,6 +47,7 @@ zeroed bare = bare
 zeroed (aSlot slot) = aSlot 0
 zeroed (aWeighing p day) = aWeighing noProfile 0
 zeroed (someEntries found entries) = someEntries 0 []
+zeroed (someLists found entries) = someLists (replicate mostQueries 0) []
 zeroed (aListRead line added) = aListRead 0 0
 zeroed (someDues total each) = someDues 0 []
 
@@ -55,6 +58,11 @@ pub record Shown : Type 0 where
 
 abbrev pub shows : ℕ → Payload → Shown
 shows n payload = record { refusal = n; payload = payload }
+
+-- the lists in the parts of an area, one after the other: of each part the first entries, as many as were found
+unfoldable pub listedIn : ℕ → List ℕ → List Entry → List Entry
+listedIn size [] area = []
+listedIn size (found ∷ founds) area = take found area ++ listedIn size founds (drop size area)
 
 -- of a reply, with the call's areas after it
 unfoldable pub beginShown : (b : Begin) → BeginReply b → Shown
@@ -77,6 +85,7 @@ askShown (lookUp tag) l none = shows (l .refusal) (aWeighing (l .profile) (l .da
 askShown (range q r firstDay) s result = shows (s .refusal) (someEntries (s .found) (take (s .found) result))
 askShown (nearest q k firstDay) s result = shows (s .refusal) (someEntries (s .found) (take (s .found) result))
 askShown (dues tags) d area = shows (d .refusal) (someDues (d .total) (duesIn (d .refusal) tags area))
+askShown (rangeBatch queries) r result = shows (r .refusal) (someLists (r .found) (listedIn (partSize result queries) (r .found) result))
 
 -- RULES 17.6: the refusal of a call that writes is excepted
 unfoldable pub shown : (c : Call) → Reply c → Areas c → Shown

@@ -19,17 +19,17 @@ use Rattle.search_rules.specs.Reached.{reachedWithin, reached}
 use Rattle.search_rules.proofs.RangeLaws.{ifEntered, rangeStep}
 
 -- how many of the first n numbers pass a test
-passing : (ℕ → Bool) → ℕ → ℕ
+unfoldable pub passing : (ℕ → Bool) → ℕ → ℕ
 passing test zero = 0
 passing test (suc n) = elim (test 0) [ true ↦ 1 | false ↦ 0 ] + passing (λ i. test (suc i)) n
 
-passing-alike : (p q : ℕ → Bool) (n : ℕ) → ((i : ℕ) → i < n → p i ≡ q i) → passing p n ≡ passing q n
+pub passing-alike : (p q : ℕ → Bool) (n : ℕ) → ((i : ℕ) → i < n → p i ≡ q i) → passing p n ≡ passing q n
 unfolding passing
 passing-alike p q zero h = refl
 passing-alike p q (suc n) h =
     ap₂ (λ (b : Bool) (m : ℕ). elim b [ true ↦ 1 | false ↦ 0 ] + m) (h 0 (omega arith)) (passing-alike (λ i. p (suc i)) (λ i. q (suc i)) n (λ i g. h (suc i) (omega arith)))
 
-passing-none : (n : ℕ) → passing (λ i. false) n ≡ 0
+pub passing-none : (n : ℕ) → passing (λ i. false) n ≡ 0
 unfolding passing
 passing-none zero = refl
 passing-none (suc n) = omega (arith, passing-none n)
@@ -45,7 +45,7 @@ passing-split p (suc m) n =
     ∙ omega arith)
 
 -- the numbers from a on that pass
-selected-passing : (p : ℕ → Bool) (a n : ℕ) → length (select p (countFrom a n)) ≡ passing (λ i. p (a + i)) n
+pub selected-passing : (p : ℕ → Bool) (a n : ℕ) → length (select p (countFrom a n)) ≡ passing (λ i. p (a + i)) n
 unfolding select countFrom passing
 selected-passing p a zero = refl
 selected-passing p a (suc n) =
@@ -60,7 +60,7 @@ selected-passing p a (suc n) =
     go false e = omega arith
 
 -- below l one test, from there on another that starts anew
-passing-choice : (p q : ℕ → Bool) (l n : ℕ) → passing (λ i. elim (ltb i l) [ true ↦ p i | false ↦ q (i - l) ]) (l + n) ≡ passing p l + passing q n
+pub passing-choice : (p q : ℕ → Bool) (l n : ℕ) → passing (λ i. elim (ltb i l) [ true ↦ p i | false ↦ q (i - l) ]) (l + n) ≡ passing p l + passing q n
 passing-choice p q l n =
     let test : ℕ → Bool = (λ i. elim (ltb i l) [ true ↦ p i | false ↦ q (i - l) ]) in
     passing-split test l n
@@ -76,10 +76,10 @@ unfolding ifEntered
 half-passing true met p n e = e
 half-passing false met p n e = sym (passing-none n)
 
-parts : (l : ℕ) (rest : List Row) → l ≤ length rest → l + length (drop l rest) ≡ length rest
+pub parts : (l : ℕ) (rest : List Row) → l ≤ length rest → l + length (drop l rest) ≡ length rest
 parts l rest h = simp length-drop (omega arith)
 
-left-within : (n : ℕ) → leftSize (suc n) ≤ n
+pub left-within : (n : ℕ) → leftSize (suc n) ≤ n
 unfolding leftSize
 left-within n = omega arith
 

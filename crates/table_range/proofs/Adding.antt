@@ -24,11 +24,11 @@ use Rattle.table_rules.proofs.Down.{below, below-next, below-none}
 use Rattle.table_range.specs.Below.{metBelow, noneFound}
 
 module _ (asked : List Row) (t : Table) where
-  met-next : (n : ℕ) → metBelow asked t (suc n) ≡ both (rangeAsked asked (slotsOf t n)) (metBelow asked t n)
+  pub met-next : (n : ℕ) → metBelow asked t (suc n) ≡ both (rangeAsked asked (slotsOf t n)) (metBelow asked t n)
   unfolding metBelow below
   met-next n = ap (foldr (λ k met. both (rangeAsked asked (slotsOf t k)) met) nothing) (below-next n)
 
-  met-none : metBelow asked t 0 ≡ nothing
+  pub met-none : metBelow asked t 0 ≡ nothing
   unfolding metBelow below
   met-none = ap (foldr (λ k met. both (rangeAsked asked (slotsOf t k)) met) nothing) below-none
 

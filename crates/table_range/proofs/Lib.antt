@@ -1,3 +1,3 @@
 -- The buckets' visits add up to the table's, and what they leave is the reply.
-mod Adding
+pub mod Adding
 mod Replying

@@ -48,7 +48,7 @@ fn range_buckets(table: &[Row], order: Order, area: &mut [Entry], asked: &Asked)
 }
 
 // The reply of a range search that found these hits: in order, with zeros after them, where the area holds them all.
-fn reply_with(area: &mut [Entry], found: Found) -> Searched
+pub fn reply_with(area: &mut [Entry], found: Found) -> Searched
     requires { ⌜ (found .hits < 2 ^ 32) × (found .count < 2 ^ 32) ⌝ }
     ensures held { λ r. ⌜ (found .hits ≤ length (now (area .entry)) → r ≡ record { refusal = 0; found = found .hits; distances = found .count }) ⌝ }
     ensures sorted { λ _. ⌜ (found .hits ≤ length (now (area .entry)) → All Pair (take (found .hits) (now (area .entry))) → now (area .exit) ≡ ordered (take (found .hits) (now (area .entry))) ++ replicate (length (now (area .entry)) - found .hits) zeroEntry) ⌝ }

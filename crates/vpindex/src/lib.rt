@@ -5,7 +5,8 @@ ghost use lib.ListN.{length};
 ghost use Rattle.call_rules.specs.Calls.{Ask, beginReply, tableBegun, changeReply, tableChanged, workChanged, askReply, areasAnswered, Write, writtenReply, bytesWritten};
 ghost use Rattle.call_rules.specs.Calls.Begin.{fresh, load, restore};
 ghost use Rattle.call_rules.specs.Calls.Change.{add, remove, readList};
-ghost use Rattle.call_rules.specs.Calls.Ask.{lookUp, range, nearest};
+ghost use Rattle.call_rules.specs.Calls.Ask.{lookUp, range, nearest, rangeBatch};
+use batch_rules::Ranges;
 use dues_rules::Dues;
 use image_rules::Loaded;
 use image_rules::Written;
@@ -100,6 +101,20 @@ pub extern "C" fn vpindex_nearest(
     ensures result { λ _. ⌜ now (result .exit) ≡ areasAnswered (nearest query k «first_day») (now (table .entry)) (now (result .entry)) ⌝ }
 {
     table_nearest::nearest(table, result, query, k, first_day as u32)
+}
+
+// Range for 1 to 16 queries at once, each a row with its profile, its radius and its first day: each query's list in its own part of the area, its number
+// in the reply, and a slot visited once if any of them visits it.
+#[no_mangle]
+pub extern "C" fn vpindex_range_batch(
+    table: &[Row],
+    result: &mut [Entry],
+    queries: &[Row],
+) -> Ranges
+    ensures reply { λ r. ⌜ r ≡ askReply (rangeBatch (now (queries .entry))) (now (table .entry)) (now (result .entry)) ⌝ }
+    ensures result { λ _. ⌜ now (result .exit) ≡ areasAnswered (rangeBatch (now (queries .entry))) (now (table .entry)) (now (result .entry)) ⌝ }
+{
+    table_range_batch::range_batch(table, result, queries)
 }
 
 // The image of the table, its length in the reply; bytes after it are unchanged.

@@ -13,7 +13,7 @@ use crate::random::Random;
 pub struct Areas {
     /// Rows of the table.
     pub table: Vec<Row>,
-    /// Rows of the work area.
+    /// Rows of the work area, or the queries of a batch.
     pub work: Vec<Row>,
     /// Entries of the result area.
     pub result: Vec<Entry>,
@@ -54,6 +54,7 @@ pub enum Call {
     LookUp { tag: u64 },
     Range { query: Profile, radius: u32, first_day: u16 },
     Nearest { query: Profile, k: u32, first_day: u16 },
+    RangeBatch,
     Write,
     ReadList { day: u16 },
     Save { name: u32 },
@@ -69,6 +70,7 @@ pub struct Reply {
     pub slot: u32,
     pub bucket: u32,
     pub found: u32,
+    pub each_found: [u16; 16],
     pub length: u32,
     pub line: u32,
     pub added: u32,
@@ -116,6 +118,9 @@ pub fn by_reference(call: &Call, areas: &mut Areas) -> Reply {
             accepted(plain::range(table, result, query, radius, first_day), searched)
         }
         Call::Nearest { query, k, first_day } => accepted(plain::nearest(table, result, query, k, first_day), searched),
+        Call::RangeBatch => {
+            accepted(plain::range_batch(table, result, work), |(found, distances)| ranges(found, distances))
+        }
         Call::Write => accepted(plain::write(table, bytes), |length| Reply { length, ..Reply::default() }),
         Call::ReadList { day } => {
             let ListRead { refusal, line, added, distances } = plain::read_list(table, work, bytes, day);
@@ -144,6 +149,18 @@ fn begun(ffi::Loaded { refusal, slot }: ffi::Loaded) -> Reply {
     Reply { refusal, slot, ..Reply::default() }
 }
 
+// the numbers are at most that of the slots of a table
+fn ranges(found: [u32; 16], distances: u32) -> Reply {
+    Reply { each_found: found.map(|n| n.try_into().expect("few")), distances, ..Reply::default() }
+}
+
+// With a frame of its own, which no other call's stack is measured with.
+#[inline(never)]
+fn batch_by_archive(table: &[Row], result: &mut [Entry], queries: &[Row]) -> Reply {
+    let ffi::Ranges { refusal, distances, found } = ffi::range_batch(table, result, queries);
+    Reply { refusal, ..ranges(found, distances) }
+}
+
 /// The call by the archive, on areas as they are.
 pub fn by_archive(call: &Call, areas: Lent<'_>) -> Reply {
     let Lent { table, work, result, bytes, tags, dues } = areas;
@@ -164,6 +181,7 @@ pub fn by_archive(call: &Call, areas: Lent<'_>) -> Reply {
         Call::LookUp { tag } => looked_up(ffi::look_up(table, tag)),
         Call::Range { query, radius, first_day } => hits(ffi::range(table, result, raw(query), radius, first_day)),
         Call::Nearest { query, k, first_day } => hits(ffi::nearest(table, result, raw(query), k, first_day)),
+        Call::RangeBatch => batch_by_archive(table, result, work),
         Call::Write => {
             let ffi::Written { refusal, length } = ffi::write(table, bytes);
             Reply { refusal, length, ..Reply::default() }

@@ -4,7 +4,7 @@
 use reference::book::Book;
 use reference::dues::total;
 use reference::image::is_sound;
-use reference::item::{Item, Row, Slot};
+use reference::item::{Entry, Item, Row, Slot};
 use reference::list::ListRead;
 use reference::refusal::Unloaded;
 use reference::table::{Bucket, Table};
@@ -87,7 +87,7 @@ impl History {
         history
     }
 
-    /// One call more, any of the twelve.
+    /// One call more, any of the thirteen.
     pub fn step(&mut self) {
         let mut areas = lent(&mut self.random, &self.left, self.book.order);
         let call = next(&mut self.random, &mut areas, self.book.order, self.book.space, &self.states);
@@ -104,10 +104,10 @@ impl History {
     fn call(&mut self, call: &Call, mut areas: Areas) -> Reply {
         let lengths = [areas.table.len(), areas.work.len(), areas.result.len()];
         let reply = compare(call, &mut areas, &mut self.random);
-        let hits = areas.result.iter().take(reply.found as usize).map(|entry| (entry[1] as u32, entry[0])).collect();
+        let hits = hits_in(&areas.result, reply.found);
         match call {
             Call::Dues => self.check_dues(&areas, &reply),
-            _ => self.check_shown(call, &areas.bytes, lengths, &reply, hits),
+            _ => self.check_shown(call, &areas, lengths, &reply, hits),
         }
         self.sums.note(call, &reply, &areas.table);
         self.tally.note(call, &reply);
@@ -118,16 +118,16 @@ impl History {
     }
 
     // Table and book are alike in the refusal (writing and saving excepted), a load's slot, look up's profile and day,
-    // the number found and the entries, and of a herd list in the line and the number added.
+    // the number found and the entries, of a batch in each query's, and of a herd list in the line and the number added.
     fn check_shown(
         &mut self,
         call: &Call,
-        bytes: &[u8],
+        areas: &Areas,
         [rows, work, room]: [usize; 3],
         reply: &Reply,
         hits: Vec<Hit>,
     ) {
-        let book = &mut self.book;
+        let (book, bytes) = (&mut self.book, &areas.bytes);
         let nothing = |()| (Item::default(), vec![]);
         let found = |hits| (Item::default(), hits);
         let expected = match *call {
@@ -141,6 +141,12 @@ impl History {
             Call::LookUp { tag } => book.look_up(rows, tag).map(|item| (Item { tag: 0, ..item }, vec![])),
             Call::Range { query, radius, first_day } => book.range(rows, room, &query, radius, first_day).map(found),
             Call::Nearest { query, k, first_day } => book.nearest(rows, room, &query, k, first_day).map(found),
+            Call::RangeBatch => {
+                let lists = book.range_batch(rows, room, &areas.work);
+                let got = if reply.refusal == 0 { Ok(listed(areas, reply)) } else { Err(reply.refusal) };
+                assert_eq!(got, lists, "table, then book: {call:?}");
+                return;
+            }
             Call::Write | Call::Save { .. } => return,
             Call::ReadList { day } => {
                 let expected = book.read_list(rows, work, bytes, day);
@@ -184,6 +190,16 @@ impl History {
 fn same_slot(call: &Call, reply: &Reply, expected: Result<(), Unloaded>) {
     let got = if reply.refusal == 0 { Ok(()) } else { Err(Unloaded { refusal: reply.refusal, slot: reply.slot }) };
     assert_eq!(got, expected, "table, then book: {call:?}");
+}
+
+fn hits_in(area: &[Entry], found: u32) -> Vec<Hit> {
+    area.iter().take(found as usize).map(|entry| (entry[1] as u32, entry[0])).collect()
+}
+
+// The lists in the parts of a batch's area.
+fn listed(areas: &Areas, reply: &Reply) -> Vec<Vec<Hit>> {
+    let part = areas.result.len() / areas.work.len();
+    (0..areas.work.len()).map(|j| hits_in(&areas.result[j * part..], reply.each_found[j] as u32)).collect()
 }
 
 fn by_tag(mut items: Vec<Item>) -> Vec<Item> {

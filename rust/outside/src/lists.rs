@@ -25,7 +25,7 @@ pub struct Tally {
 }
 
 /// The numbers that each call can be refused by, and 0.
-pub const NUMBERS: [(&str, &[u32]); 12] = [
+pub const NUMBERS: [(&str, &[u32]); 13] = [
     ("fresh", &[0, 3, 4, 23, 32]),
     ("load", &[0, 3, 4, 7, 8, 23, 24, 32, 33, 36, 37, 38]),
     ("add", &[0, 1, 2, 20, 22, 23, 24, 33]),
@@ -33,6 +33,7 @@ pub const NUMBERS: [(&str, &[u32]); 12] = [
     ("look up", &[0, 1, 21, 23, 24]),
     ("range", &[0, 2, 6, 23, 24]),
     ("nearest", &[0, 2, 5, 6, 23, 24]),
+    ("range batch", &[0, 2, 6, 23, 24, 40]),
     ("write", &[0, 6, 23, 24]),
     ("read list", &[0, 1, 2, 20, 22, 23, 24, 30, 31, 33]),
     ("save", &[0, 6, 23, 24, 34]),
@@ -72,6 +73,7 @@ fn name(call: &Call) -> &'static str {
         Call::LookUp { .. } => "look up",
         Call::Range { .. } => "range",
         Call::Nearest { .. } => "nearest",
+        Call::RangeBatch => "range batch",
         Call::Write => "write",
         Call::ReadList { .. } => "read list",
         Call::Save { .. } => "save",
@@ -153,7 +155,7 @@ pub fn lent(random: &mut Random, left: &[Row], order: u32) -> Areas {
 
 /// The next call, with the image, the list or the states that it reads or the bytes or dues that it writes to.
 pub fn next(random: &mut Random, areas: &mut Areas, order: u32, space: Space, states: &[u8]) -> Call {
-    match random.below(46) {
+    match random.below(51) {
         0 => fresh(random, order, space.metric),
         1..4 => load(random, areas, order, space),
         4 | 5 => write(random, areas, order),
@@ -168,6 +170,7 @@ pub fn next(random: &mut Random, areas: &mut Areas, order: u32, space: Space, st
         31 | 32 => save(random, areas, states),
         33..38 => restore(random, areas, order, space, states),
         38..41 => dues(random, areas, order),
+        41..46 => range_batch(random, areas, order),
         _ => {
             let (query, first_day) = (query(random, areas, order), random.first_day());
             Call::Nearest { query, k: count(random, order), first_day }
@@ -303,6 +306,33 @@ fn a_slot(random: &mut Random, areas: &Areas, order: u32) -> Option<Row> {
     let k = *used.get(random.below(used.len()))?;
     let built = areas.table[1 + k][0] as usize;
     areas.table.get(first_row(order, k) + random.below(built)).copied()
+}
+
+/// A batch of a number of queries at or near an end, or of any; often several are alike. The area has parts that are long
+/// enough, or about as long as a few entries, and entries left over.
+pub fn range_batch(random: &mut Random, areas: &mut Areas, order: u32) -> Call {
+    let n = match random.below(8) {
+        0 => random.pick(&[0, 17, 18]),
+        1..4 => random.pick(&[1, 2, 15, 16]),
+        _ => 1 + random.below(16),
+    };
+    let mut queries: Vec<Row> = vec![];
+    for _ in 0..n {
+        let again = !queries.is_empty() && random.one_in(4);
+        queries.push(if again { random.pick(&queries) } else { batch_query(random, areas, order) });
+    }
+    let part = if random.one_in(3) { random.below(4) } else { length(random, capacity(order)) };
+    let room = n * part + random.below(n.max(1));
+    areas.result = random.fill(room, |random| [random.word(), random.word()]);
+    areas.work = queries;
+    Call::RangeBatch
+}
+
+// The words that are ignored hold anything.
+fn batch_query(random: &mut Random, areas: &Areas, order: u32) -> Row {
+    let profile = if random.one_in(4) { random.profile() } else { query(random, areas, order) };
+    let day = (random.word() as u32) << 16 | random.first_day() as u32;
+    Slot { tag: random.word(), profile, threshold: random.reach(), mark: random.word() as u32, day }.row()
 }
 
 // any valid one, one like a slot's, or one that is refused

@@ -1,6 +1,7 @@
 //! Each call at order 12 in a thread with a 256 KiB stack, and how much of it the call used: load and restore at most
-//! 72 KiB, where the array of 4,096 entries is, dues at most 20 KiB, where 4,096 numbers are, and every other at most 6
-//! KiB. Save uses no more than write does, and restore no more than load, but for a small frame of their own.
+//! 72 KiB, where the array of 4,096 entries is, dues at most 20 KiB, where 4,096 numbers are, a batch of 16 queries at
+//! most 8 KiB, and every other at most 6 KiB. Save uses no more than write does, and restore no more than load, but for
+//! a small frame of their own.
 
 use std::collections::HashMap;
 
@@ -94,6 +95,7 @@ fn every_call_in_a_small_stack() {
             ("look up", Call::LookUp { tag: first.tag }, &thin),
             ("range", Call::Range { query, radius: u32::MAX, first_day: 0 }, &full),
             ("nearest", Call::Nearest { query, k: u32::MAX, first_day: 0 }, &full),
+            ("range batch", Call::RangeBatch, &full),
             ("write", Call::Write, &full),
             ("read list", Call::ReadList { day: 1 }, &one_short),
             ("save", Call::Save { name: 8 }, &full),
@@ -103,6 +105,11 @@ fn every_call_in_a_small_stack() {
         let mut seen = HashMap::new();
         for (name, call, table) in calls {
             let mut areas = areas(table);
+            if let Call::RangeBatch = call {
+                let query = Slot { profile: query, threshold: u32::MAX, ..Slot::default() };
+                areas.work = vec![query.row(); 16];
+                areas.result = vec![[0; 2]; 16 * capacity(ORDER)];
+            }
             if matches!(call, Call::ReadList { .. }) {
                 areas.bytes = item_lists::of(&[item_lists::line(tag, query.measures)]);
             }
@@ -112,6 +119,7 @@ fn every_call_in_a_small_stack() {
             let most = match call {
                 Call::Load | Call::Restore { .. } => 72 * 1024,
                 Call::Dues => 20 * 1024,
+                Call::RangeBatch => 8 * 1024,
                 _ => 6 * 1024,
             };
             let used = measure(&format!("{name}, metric {metric}"), call, areas);

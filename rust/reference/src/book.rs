@@ -1,10 +1,12 @@
 //! RULES 16, the reference model: an order, a metric, four weights and a list of items, with neither buckets nor trees.
 //! It is fed a call's arguments and the lengths of the lent areas, never an answer or what the table holds.
 
+use crate::calls::{batch_query, check_batch};
 use crate::dues;
 use crate::image;
 use crate::item::{
-    Item, MAX_METRIC, MAX_ORDER, Profile, Slot, Space, check_day, check_measures, check_tag, check_weights, distance,
+    Item, MAX_METRIC, MAX_ORDER, Profile, Row, Slot, Space, check_day, check_measures, check_tag, check_weights,
+    distance,
 };
 use crate::list::{self, ListRead};
 use crate::refusal::{
@@ -123,6 +125,18 @@ impl Book {
         hits.retain(|hit| hit.0 <= radius);
         ensure(hits.len() <= room, NO_ROOM)?;
         Ok(hits)
+    }
+
+    /// For each query of a batch all within its radius, each in its part of the room.
+    pub fn range_batch(&self, rows: usize, room: usize, queries: &[Row]) -> Result<Vec<Vec<Hit>>, Refused> {
+        self.check_table(rows)?;
+        check_batch(queries)?;
+        let part = room / queries.len();
+        let list = |row| {
+            let (query, radius, first_day) = batch_query(row);
+            self.range(rows, part, &query, radius, first_day)
+        };
+        queries.iter().map(list).collect()
     }
 
     /// The first k of those.

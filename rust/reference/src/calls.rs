@@ -1,4 +1,4 @@
-//! The twelve calls, on lent areas.
+//! The thirteen calls, on lent areas.
 
 use crate::dues;
 use crate::image;
@@ -8,16 +8,22 @@ use crate::item::{
 };
 use crate::list::{self, ListRead};
 use crate::refusal::{
-    ALREADY_LIVE, BAD_METRIC, BAD_ORDER, FULL, NO_COUNT, NO_ROOM, NOT_LIVE, Refused, SHORT_AREA, Unloaded, ensure,
+    ALREADY_LIVE, BAD_BATCH, BAD_METRIC, BAD_ORDER, FULL, NO_COUNT, NO_ROOM, NOT_LIVE, Refused, SHORT_AREA, Unloaded,
+    ensure,
 };
 use crate::states;
 use crate::table::{Bucket, Table, capacity, first_row, put_bucket, put_sizes, put_table, table_rows};
-use crate::tree::{Search, Wanted, cost, layout};
+use crate::tree::{Hit, Search, Wanted, cost, layout, mark_met};
 
 /// Bucket that was built, and distances of the build.
 pub type Added = (u32, u32);
 /// Number found, and distances.
 pub type Searched = (u32, u32);
+/// Number found by each query, and slots that some query meets.
+pub type Ranges = ([u32; MAX_QUERIES], u32);
+
+/// The most queries of a batch.
+pub const MAX_QUERIES: usize = 16;
 
 /// An empty table of this order, metric and weights.
 pub fn fresh(table: &mut [Row], order: u32, space: Space) -> Result<(), Refused> {
@@ -162,10 +168,51 @@ fn search(table: &Table, result: &mut [Entry], mut search: Search) -> Result<Sea
     }
     result.fill([0; 2]);
     ensure(search.hits.len() <= result.len(), NO_ROOM)?;
-    for (entry, (distance, tag)) in result.iter_mut().zip(&search.hits) {
+    put_hits(result, &search.hits);
+    Ok((search.hits.len() as u32, search.count))
+}
+
+fn put_hits(area: &mut [Entry], hits: &[Hit]) {
+    for (entry, (distance, tag)) in area.iter_mut().zip(hits) {
         *entry = [*tag, *distance as u64];
     }
-    Ok((search.hits.len() as u32, search.count))
+}
+
+/// The query of a batch that a row is: a profile, a radius and a first day.
+pub fn batch_query(row: &Row) -> (Profile, u32, u16) {
+    let slot = Slot::of(row);
+    (slot.profile, slot.threshold, slot.day as u16)
+}
+
+/// A batch of 1 to 16 queries whose measures are valid.
+pub fn check_batch(queries: &[Row]) -> Result<(), Refused> {
+    ensure((1..=MAX_QUERIES).contains(&queries.len()), BAD_BATCH)?;
+    queries.iter().try_for_each(|row| check_measures(&Slot::of(row).profile))
+}
+
+/// Range for each query, each in its part of the area. A slot counts once if any of them meets it.
+pub fn range_batch(rows: &[Row], result: &mut [Entry], queries: &[Row]) -> Result<Ranges, Refused> {
+    let table = Table::open(rows, |_| true)?;
+    check_batch(queries)?;
+    let mut met: Vec<Vec<bool>> = table.buckets.iter().map(|bucket| vec![false; bucket.slots.len()]).collect();
+    let mut lists = vec![];
+    for (query, radius, first_day) in queries.iter().map(batch_query) {
+        let mut search = Search::new(table.space, query, Wanted::Within(radius), first_day);
+        for (bucket, met) in table.buckets.iter().zip(&mut met) {
+            search.visit(&bucket.slots);
+            mark_met(&table.space, &query, radius, &bucket.slots, met);
+        }
+        lists.push(search.hits);
+    }
+    result.fill([0; 2]);
+    let part = result.len() / queries.len();
+    ensure(lists.iter().all(|list| list.len() <= part), NO_ROOM)?;
+    let mut found = [0; MAX_QUERIES];
+    for (j, list) in lists.iter().enumerate() {
+        put_hits(&mut result[j * part..], list);
+        found[j] = list.len() as u32;
+    }
+    Ok((found, met.iter().flatten().filter(|met| **met).count() as u32))
 }
 
 /// Writes the image and gives its length.

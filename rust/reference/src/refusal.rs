@@ -47,6 +47,9 @@ pub const BAD_THRESHOLD: u32 = 38;
 /// A listed item weighs below 0, or the list is too long.
 pub const NO_DUES: u32 = 39;
 
+/// No query in a batch, or more than 16.
+pub const BAD_BATCH: u32 = 40;
+
 /// A refusal is an error by its number.
 pub type Refused = u32;
 

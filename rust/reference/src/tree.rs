@@ -26,6 +26,21 @@ pub fn cost(n: usize) -> u32 {
     if n < 2 { 0 } else { (n - 1) as u32 + cost(n / 2) + cost(n - 1 - n / 2) }
 }
 
+/// Marks the slots that a search within the radius meets: those all of whose ancestors let their side be entered.
+pub fn mark_met(space: &Space, query: &Profile, radius: u32, slots: &[Slot], met: &mut [bool]) {
+    let Some((first, rest)) = slots.split_first() else { return };
+    met[0] = true;
+    let (left, right) = rest.split_at(slots.len() / 2);
+    let (met_left, met_right) = met[1..].split_at_mut(left.len());
+    let (d, m, r) = (distance(space, &first.profile, query) as u64, first.threshold as u64, radius as u64);
+    if d <= m + r {
+        mark_met(space, query, radius, left, met_left);
+    }
+    if d + r >= m {
+        mark_met(space, query, radius, right, met_right);
+    }
+}
+
 /// A distance and a tag: so they stand in order.
 pub type Hit = (u32, u64);
 

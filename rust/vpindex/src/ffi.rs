@@ -7,6 +7,9 @@ pub const ROW_WORDS: usize = 13;
 /// The first day of a search that leaves no item out: the header's `VPINDEX_ANY_DAY`.
 pub const ANY_DAY: u16 = 0;
 
+/// The most queries of a batch: the header's `VPINDEX_MAX_QUERIES`.
+pub const MAX_QUERIES: usize = 16;
+
 pub type Row = [u32; ROW_WORDS];
 pub type Entry = [u64; 2];
 
@@ -53,6 +56,14 @@ pub struct Searched {
     pub refusal: u32,
     pub found: u32,
     pub distances: u32,
+}
+
+#[repr(C)]
+#[derive(Clone, Copy, Debug, PartialEq, Eq)]
+pub struct Ranges {
+    pub refusal: u32,
+    pub distances: u32,
+    pub found: [u32; MAX_QUERIES],
 }
 
 #[repr(C)]
@@ -126,6 +137,14 @@ mod raw {
             k: u32,
             first_day: u16,
         ) -> Searched;
+        pub fn vpindex_range_batch(
+            table: *const Row,
+            table_rows: usize,
+            result: *mut Entry,
+            result_entries: usize,
+            queries: *const Row,
+            query_count: usize,
+        ) -> Ranges;
         pub fn vpindex_write(table: *const Row, table_rows: usize, image: *mut u8, image_bytes: usize) -> Written;
         pub fn vpindex_read_list(
             table: *mut Row,
@@ -192,6 +211,11 @@ pub fn range(table: &[Row], result: &mut [Entry], query: Profile, radius: u32, f
 pub fn nearest(table: &[Row], result: &mut [Entry], query: Profile, k: u32, first_day: u16) -> Searched {
     let (rows, entries) = (table.len(), result.len());
     unsafe { raw::vpindex_nearest(table.as_ptr(), rows, result.as_mut_ptr(), entries, query, k, first_day) }
+}
+
+pub fn range_batch(table: &[Row], result: &mut [Entry], queries: &[Row]) -> Ranges {
+    let (rows, entries, asked) = (table.len(), result.len(), queries.len());
+    unsafe { raw::vpindex_range_batch(table.as_ptr(), rows, result.as_mut_ptr(), entries, queries.as_ptr(), asked) }
 }
 
 pub fn write(table: &[Row], image: &mut [u8]) -> Written {

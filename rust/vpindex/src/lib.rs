@@ -42,10 +42,10 @@ mod table;
 mod values;
 
 pub use dues::{Cents, Dues};
-pub use hits::{Hit, Hits};
+pub use hits::{Batch, Hit, Hits};
 pub use image::{ImageRefusal, SlotAt};
 pub use list::{ListRead, ListRefusal};
 pub use refusal::Refusal;
 pub use states::States;
 pub use table::{Added, LookedUp, Table};
-pub use values::{Day, Metric, Name, Order, Profile, Tag, Weights};
+pub use values::{Day, Metric, Name, Order, Profile, RangeQuery, Tag, Weights};

@@ -54,6 +54,8 @@ pub enum Refusal {
     BadThreshold,
     /// A listed item weighs below 0, or the list has more than 4,096 tags.
     NoDues,
+    /// A batch has no query, or more than 16.
+    BadBatch,
     /// A refusal by a number that this crate does not know: the archive is newer.
     Other(u32),
 }
@@ -61,7 +63,7 @@ pub enum Refusal {
 use Refusal::*;
 
 impl Refusal {
-    const KNOWN: [Refusal; 23] = [
+    const KNOWN: [Refusal; 24] = [
         BadTag,
         BadMeasure,
         BadOrder,
@@ -85,6 +87,7 @@ impl Refusal {
         MisplacedItem,
         BadThreshold,
         NoDues,
+        BadBatch,
     ];
 
     /// The number by which the archive's calls say it.
@@ -134,6 +137,7 @@ impl Refusal {
             MisplacedItem => (37, "its item is not the one that the tree's layout puts there"),
             BadThreshold => (38, "its threshold is not the one that the tree's layout gives it"),
             NoDues => (39, "a listed item weighs below 0, or the list has more than 4,096 tags"),
+            BadBatch => (40, "a batch has no query, or more than 16"),
             Other(number) => (number, "a refusal that this crate does not know"),
         }
     }
@@ -159,14 +163,14 @@ mod tests {
     #[test]
     fn numbers() {
         assert_eq!(Refusal::check(0), Ok(()));
-        for number in (1..=8).chain(20..=24).chain(30..=39) {
+        for number in (1..=8).chain(20..=24).chain(30..=40) {
             let refusal = Refusal::check(number).expect_err("not 0");
             assert_eq!(refusal.number(), number);
             assert_ne!(refusal, Other(number));
         }
-        for number in [9, 19, 25, 29, 40, u32::MAX] {
+        for number in [9, 19, 25, 29, 41, u32::MAX] {
             assert_eq!(Refusal::check(number), Err(Other(number)));
         }
-        assert_eq!(Other(40).to_string(), "a refusal that this crate does not know: 40");
+        assert_eq!(Other(41).to_string(), "a refusal that this crate does not know: 41");
     }
 }

@@ -2,7 +2,9 @@
 
 use crate::image::{self, ImageRefusal};
 use crate::list::{self, ListRead, ListRefusal};
-use crate::{Cents, Day, Dues, Hits, Metric, Name, Order, Profile, Refusal, States, Tag, Weights, ffi};
+use crate::{
+    Batch, Cents, Day, Dues, Hits, Metric, Name, Order, Profile, RangeQuery, Refusal, States, Tag, Weights, ffi,
+};
 
 /// What an add did.
 #[derive(Clone, Copy, Debug, PartialEq, Eq)]
@@ -26,8 +28,8 @@ pub struct LookedUp {
 
 /// Items that can be asked for by likeness.
 ///
-/// A table allocates when it is made, and [`Table::image`] and [`Table::dues`] what they return; no other call
-/// allocates. The areas of one of order T are 52·(3·2^T + T + 1) + 16·2^T bytes, some 689 KiB at order 12.
+/// A table allocates when it is made, and [`Table::image`], [`Table::dues`] and [`Table::range_batch`] what they return;
+/// no other call allocates. The areas of one of order T are 52·(3·2^T + T + 1) + 16·2^T bytes, some 689 KiB at order 12.
 #[derive(Clone, Debug)]
 pub struct Table {
     header: Header,
@@ -231,6 +233,34 @@ impl Table {
         Refusal::check(reply.refusal)?;
         let each = each.into_iter().map(|cents| Cents::of(cents.into())).collect();
         Ok(Dues { each, total: Cents::of(reply.total) })
+    }
+
+    /// For each of 1 to 16 queries what [`Table::range`] gives; a slot that several of them meet is met once.
+    /// [`Refusal::BadBatch`] for no query or more than 16. No other refusal can come back: a query's measures were
+    /// checked when its profile was made, and each part of the result area holds every item.
+    ///
+    /// ```
+    /// use vpindex::{Day, Metric, Order, Profile, RangeQuery, Table, Tag};
+    ///
+    /// let mut table = Table::new(Order::new(4)?, Metric::SumOfDifferences);
+    /// table.add(Tag::new(36, 1)?, &Profile::new([41_250, 12_900, 18_500, 95], [0, 0])?, Day::new(210)?)?;
+    /// table.add(Tag::new(36, 2)?, &Profile::new([39_800, 12_700, 18_100, 90], [0, 0])?, Day::new(305)?)?;
+    ///
+    /// let profile = Profile::new([41_000, 12_900, 18_400, 95], [0, 0])?;
+    /// let near = RangeQuery { profile, radius: 500, first_day: None };
+    /// let later = RangeQuery { radius: 5_000, first_day: Some(Day::new(300)?), ..near };
+    /// let batch = table.range_batch(&[near, later])?;
+    /// assert_eq!((batch[0][0].tag(), batch[1][0].tag()), (Tag::new(36, 1)?, Tag::new(36, 2)?));
+    /// assert_eq!((batch[0].len(), batch[1].len(), batch.distances()), (1, 1, 2));
+    /// # Ok::<(), vpindex::Refusal>(())
+    /// ```
+    pub fn range_batch(&self, queries: &[RangeQuery]) -> Result<Batch, Refusal> {
+        let rows: Vec<ffi::Row> = queries.iter().map(RangeQuery::raw).collect();
+        let room = if rows.len() <= ffi::MAX_QUERIES { rows.len() * self.order().capacity() } else { 0 };
+        let mut result = vec![[0; 2]; room];
+        let reply = ffi::range_batch(&self.rows, &mut result, &rows);
+        Refusal::check(reply.refusal)?;
+        Ok(Batch::new(&result, rows.len(), &reply))
     }
 
     // of an accepted search

@@ -90,6 +90,28 @@ impl Profile {
     }
 }
 
+/// A query of [`crate::Table::range_batch`]: a profile with a radius and a first day of its own.
+#[derive(Clone, Copy, Debug, PartialEq, Eq)]
+pub struct RangeQuery {
+    /// From which distances are worked out.
+    pub profile: Profile,
+    /// The largest distance that is found.
+    pub radius: u32,
+    /// The first day; `None` is any day.
+    pub first_day: Option<Day>,
+}
+
+impl RangeQuery {
+    // the row of the header's `vpindex_range_batch`
+    pub(crate) fn raw(&self) -> ffi::Row {
+        let ffi::Profile { measures: [a, b, c, d], code } = self.profile.raw();
+        let halves = code.map(|word| [word as u32, (word >> 32) as u32]);
+        let [[e, f], [g, h]] = halves;
+        let day = Day::raw_first(self.first_day) as u32;
+        [0, 0, a as u32, b as u32, c as u32, d as u32, e, f, g, h, self.radius, 0, day]
+    }
+}
+
 /// The day on which an item was weighed, 1 to 65,535, counted from a date that the caller chooses.
 #[derive(Clone, Copy, Debug, PartialEq, Eq, PartialOrd, Ord, Hash)]
 pub struct Day(u16);

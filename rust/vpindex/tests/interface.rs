@@ -1,8 +1,8 @@
 //! What a Rust caller meets: values that are checked when they are made, and refusals.
 
 use vpindex::{
-    Day, ImageRefusal, ListRead, ListRefusal, Metric, Name, Order, Profile, Refusal, SlotAt, States, Table, Tag,
-    Weights,
+    Day, ImageRefusal, ListRead, ListRefusal, Metric, Name, Order, Profile, RangeQuery, Refusal, SlotAt, States, Table,
+    Tag, Weights,
 };
 
 #[test]
@@ -356,4 +356,33 @@ fn states_refused() {
     assert_eq!(damaged(3, 1), Some(Refusal::BadLength));
     assert_eq!(damaged(4, 13), Some(Refusal::BadOrder));
     assert_eq!(damaged(5, 3), Some(Refusal::BadMetric));
+}
+
+// A batch gives each query what its range gives; no query and more than 16 are refused.
+#[test]
+fn batches() {
+    let mut table = Table::new(Order::new(5).expect("in range"), Metric::SumOfDifferences);
+    let profile = |first: i32| Profile::new([first, -first, 0, 7], [first as u64, u64::MAX]).expect("in range");
+    for national in 0..20 {
+        let day = Day::new(1 + national as u16).expect("not 0");
+        table.add(Tag::new(36, national).expect("valid"), &profile(national as i32 * 3 - 30), day).expect("room");
+    }
+    let query = |n: i32| {
+        let first_day = (n % 3 != 0).then(|| Day::new(n as u16).expect("not 0"));
+        RangeQuery { profile: profile(5 * n - 40), radius: 4 * n as u32, first_day }
+    };
+    let queries: Vec<RangeQuery> = (0..16).map(query).collect();
+    for n in [1, 2, 15, 16] {
+        let batch = table.range_batch(&queries[..n]).expect("1 to 16 queries");
+        assert_eq!(batch.len(), n);
+        let mut distances = 0;
+        for (list, query) in batch.iter().zip(&queries) {
+            let hits = table.range(&query.profile, query.radius, query.first_day);
+            assert_eq!(list[..], hits[..]);
+            distances += hits.distances();
+        }
+        assert!(batch.distances() <= distances && (n > 1 || batch.distances() == distances));
+    }
+    assert_eq!(table.range_batch(&[]).err(), Some(Refusal::BadBatch));
+    assert_eq!(table.range_batch(&[queries[0]; 17]).err(), Some(Refusal::BadBatch));
 }
