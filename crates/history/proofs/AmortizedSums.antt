@@ -13,6 +13,7 @@ use Rattle.history.specs.Represents.{rebuildBound}
 use Rattle.history.proofs.Amortized.{below-same}
 use Rattle.history.proofs.AmortizedCredit.{credit, potential}
 use Rattle.history.proofs.AmortizedRebuild.{potentialOf}
+use Rattle.history.proofs.StepsKeep.{counts}
 
 -- what adds and removals paid
 unfoldable pub due : ℕ → Sums → ℕ
@@ -31,9 +32,6 @@ pub record Paid (t : Table) (sums : Sums) : Type 0 where
 
 pub paid-bound : {t : Table} {sums : Sums} → Paid t sums → sums .distances ≤ rebuildBound (orderOf t) sums
 paid-bound {t} {sums} p = omega (arith, p .within, due-bound (orderOf t) sums)
-
-abbrev pub counts : ℕ → ℕ → ℕ → Sums
-counts adds removals distances = record { adds = adds; removals = removals; distances = distances }
 
 -- a call that leaves the table as u and adds a, r and d to the sums
 pub paid-plus :

@@ -11,13 +11,13 @@ pub mod Imaged
 pub mod FirstFaults
 pub mod Nationals
 pub mod Alike
+pub mod EndsAlike
 mod Invariant
 mod Amortized
 mod AmortizedMoved
 mod AmortizedCredit
 mod AmortizedRebuild
 mod AmortizedCalls
-mod AmortizedReading
 mod AmortizedSums
 mod AmortizedSteps
 mod AmortizedHistory
@@ -56,3 +56,9 @@ mod ImagesHistory
 mod RefinesHistory
 mod InvariantFresh
 mod Changing
+mod Binary
+mod StepsKeep
+mod Counting
+mod CountingHistory
+mod Independence
+mod IndependenceBatch

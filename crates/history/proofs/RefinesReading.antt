@@ -125,13 +125,8 @@ reads-alike (takesIn tag p day here accepted next rest) =
     let same = reads-alike rest in
     record { refusal = same .refusal; line = same .line; added = ap suc (same .added) }
 
--- what a reading leaves matches the model again, of the same order
+-- what a reading leaves matches the model again
 pub reads-matches : {t : Table} {work : List Row} {m : Model} {r : Reading} {a : ListAnswered} → Reads t work m r a → Matches t m → Matches (r .table) (a .model)
 unfolding stopped stopsAt oneMore oneMoreAdded
 reads-matches (stops refusal line) ok = ok
 reads-matches (takesIn tag p day here accepted next rest) ok = reads-matches rest next
-
-pub reads-order : {t : Table} {work : List Row} {m : Model} {r : Reading} {a : ListAnswered} → Reads t work m r a → a .model .order ≡ m .order
-unfolding stopsAt oneMoreAdded with
-reads-order (stops refusal line) = refl
-reads-order (takesIn tag p day here accepted next rest) = reads-order rest

@@ -30,14 +30,17 @@ use Rattle.image_rules.specs.Load.{fieldsRefusal}
 use Rattle.image_rules.specs.Translate.{translated}
 use Rattle.state_rules.specs.Parts.{validName, lengthBytes, partBytes}
 use Rattle.call_rules.specs.Calls.{beginReply, tableBegun}
-use Rattle.call_rules.specs.Calls.Begin.{load}
+use Rattle.call_rules.specs.Calls.Begin.{fresh, load}
 use Rattle.batch_rules.specs.Batch.{singleAnswer, batchCount}
 use Rattle.history.specs.Model.{Model, itemOf, modelRange, modelNearest}
-use Rattle.history.specs.History.{History, finalState, finalModel}
+use Rattle.history.specs.Trace.{overlaid, stateAfter}
+use Rattle.history.specs.History.{before, opening, History, finalState, finalModel}
 use Rattle.history.specs.Images.{imageSize, LoadsBack, GivesBack, RestoresBack, KeepsStates}
 use Rattle.history.specs.Represents.{Holds}
 use Rattle.history.specs.Reports.{ReportsBuilds}
 use Rattle.history.specs.Trees.{TreeFacts}
+use Rattle.history.specs.Agreement.{SameItems, SameAnswers}
+use Rattle.history.specs.Counter.{OnlyAdded, CountsAdds}
 
 -- Of those answers, two numbers that the rules also give in words, for every table, foreign ones too. RULES 11.6: the count of range is the number
 -- of slots all of whose ancestors let their side be entered. The first day plays no part in it.
@@ -160,3 +163,22 @@ OlderTranslates =
     → (other : Table)
     → (beginReply (load image) (length other) ≡ beginReply (load (translated image)) (length other))
     × (tableBegun (load image) other ≡ tableBegun (load (translated image)) other)
+
+-- W12 (RULES 17.9), independence of history. For any two lists of calls, of whatever orders, whose tables have the same metric and weights and the same live
+-- items, days included: lent table areas that are long enough for their orders and result areas that hold the reply, range and nearest for the same
+-- query and a batch of the same queries are refused alike, find as many, and leave the same entries.
+-- Theorem: `independent-of-history`
+abbrev pub IndependentOfHistory : Type 0
+IndependentOfHistory =
+    (h g : History) → SameItems (finalState h .table) (finalState g .table) → (area area′ : Table)
+    → tableRows (orderOf (finalState h .table)) ≤ length area → tableRows (orderOf (finalState g .table)) ≤ length area′
+    → SameAnswers (overlaid (finalState h .table) area) (overlaid (finalState g .table) area′)
+
+-- W12 (RULES 17.10), a binary counter. For a list of calls that an accepted fresh began, with n items added since, a herd list's accepted lines among them, n at
+-- least 1, and no accepted fresh, load, restore or removal: bucket k is in use exactly if bit k of n is one, it then holds 2^k live items and no dead one, and
+-- all builds together took at most n·L·(L+1)/2 distances, L being the place of the highest one bit of n.
+-- Theorem: `binary-counter`
+abbrev pub BinaryCounter : Type 0
+BinaryCounter =
+    (h : History) (order : ℕ) (space : Space) → h .first ≡ fresh order space
+    → OnlyAdded (stateAfter (before (h .initial)) (opening (h .first) (h .area))) (h .rest) → 1 ≤ finalState h .sums .adds → CountsAdds (finalState h)

@@ -5,4 +5,6 @@ pub mod Images
 pub mod Represents
 pub mod Reports
 pub mod Trees
+pub mod Agreement
+pub mod Counter
 pub mod Demands

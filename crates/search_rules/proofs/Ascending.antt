@@ -1,18 +1,32 @@
--- What the entries' key says in plain numbers: an entry whose key is not after another's has the smaller distance, or the same and no larger tag. So entries
--- in the order of their keys ascend by distance, then tag.
+-- What the entries' key says in plain numbers: it is the distance and, last, the tag, so it tells entries apart; and an entry whose key is not after another's has the
+-- smaller distance, or the same and no larger tag. So entries in the order of their keys ascend by distance, then tag.
 use Prim.Native.Nat.{ℕ, _≤_}
 use native.Mathlib.Omega.{arith}
 use mathlib.Core.Path.{_≡_, refl, sym, ap, ap₂, _∙_}
 use mathlib.Core.Logic.{inl, inr, ⊎-elim}
-use mathlib.Core.Bool.{true}
 use mathlib.Core.List.{List, [], _∷_}
-use lib.ListN.{take}
+use lib.ListN.{getD}
 use borrow.Author.Tests.{leb-true}
+use Rattle.lists.specs.Lists.{last}
 use Rattle.lists.proofs.Lists.{pairs-take}
 use Rattle.search_rules.specs.Range.{Entry, Pair, entry, entryTag, entryDistance, entryKey, ordered, Precedes, Ascending}
 use Rattle.search_rules.specs.Nearest.{keep}
-use Rattle.tree_rules.specs.Sorting.{keyLe}
-use Rattle.tree_rules.proofs.Sorting.{NotAfter, Sorted, Determined, sort-sorted, key-le-cases, key-le-last, key-le-refl}
+use Rattle.tree_rules.proofs.Sorting.{NotAfter, Sorted, Determined, sort-sorted, key-le-cases, key-le-last}
+
+pair-form : (e : Entry) → Pair e → e ≡ entry (entryTag e) (entryDistance e)
+unfolding entry entryTag entryDistance
+pair-form [] h = absurd (omega arith)
+pair-form (a ∷ []) h = absurd (omega arith)
+pair-form (a ∷ b ∷ []) h = refl
+pair-form (a ∷ b ∷ c ∷ e) h = absurd (omega arith)
+
+-- two entries with the same key are the same, so nothing shows in which order they were met
+pub pairs-determined : (x y : Entry) → Pair x → Pair y → Determined entryKey x y
+unfolding entryKey last
+pairs-determined x y p q same =
+    let distances : entryDistance x ≡ entryDistance y = ap (λ (key : List ℕ). getD key 0 0) same in
+    let tags : entryTag x ≡ entryTag y = ap (last 0) same in
+    pair-form x p ∙ ap₂ entry tags distances ∙ sym (pair-form y q)
 
 -- by distance, then tag
 pub key-precedes : (x y : Entry) → NotAfter entryKey x y → Precedes x y
@@ -24,25 +38,6 @@ key-precedes x y h =
 
 pub precedes-distance : (x y : Entry) → Precedes x y → entryDistance x ≤ entryDistance y
 precedes-distance x y h = ⊎-elim (λ near. omega arith) (λ tied. omega arith) h
-
-precedes-tag : (x y : Entry) → Precedes x y → Precedes y x → entryTag x ≤ entryTag y
-precedes-tag x y h g = ⊎-elim (λ near. absurd (omega (arith, precedes-distance y x g))) (λ tied. tied .1) h
-
-pair-form : (e : Entry) → Pair e → e ≡ entry (entryTag e) (entryDistance e)
-unfolding entry entryTag entryDistance
-pair-form [] h = absurd (omega arith)
-pair-form (a ∷ []) h = absurd (omega arith)
-pair-form (a ∷ b ∷ []) h = refl
-pair-form (a ∷ b ∷ c ∷ e) h = absurd (omega arith)
-
--- two entries with the same key are the same
-pub pairs-determined : (x y : Entry) → Pair x → Pair y → Determined entryKey x y
-pairs-determined x y p q same =
-    let there : Precedes x y = key-precedes x y (ap (keyLe (entryKey x)) (sym same) ∙ key-le-refl (entryKey x)) in
-    let back : Precedes y x = key-precedes y x (ap (keyLe (entryKey y)) same ∙ key-le-refl (entryKey y)) in
-    let tags : entryTag x ≡ entryTag y = omega (arith, precedes-tag x y there back, precedes-tag y x back there) in
-    let distances : entryDistance x ≡ entryDistance y = omega (arith, precedes-distance x y there, precedes-distance y x back) in
-    pair-form x p ∙ ap₂ entry tags distances ∙ sym (pair-form y q)
 
 -- a list in the order of its keys
 pub sorted-ascends : (es : List Entry) → Sorted entryKey es → Ascending es

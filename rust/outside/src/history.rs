@@ -4,10 +4,10 @@
 use reference::book::Book;
 use reference::dues::total;
 use reference::image::is_sound;
-use reference::item::{Entry, Item, Row, Slot};
+use reference::item::{Entry, Item, Row, Slot, Space};
 use reference::list::ListRead;
 use reference::refusal::Unloaded;
-use reference::table::{Bucket, Table};
+use reference::table::{Bucket, Table, capacity};
 use reference::tree::Hit;
 
 use crate::calls::{Areas, Call, Reply, compare};
@@ -79,6 +79,11 @@ impl History {
     pub fn new(seed: u64, order: u32, metric: u32) -> History {
         let mut random = Random::new(seed);
         let space = random.space(metric);
+        History::begun(random, order, space)
+    }
+
+    /// Begun by an accepted fresh of this metric and these weights.
+    pub fn begun(mut random: Random, order: u32, space: Space) -> History {
         let left = random.fill(reference::table::table_rows(order), any_row);
         let (book, sums, tally) = (Book::default(), Sums::default(), Tally::default());
         let mut history = History { random, left, states: vec![], book, sums, tally, share: 0 };
@@ -99,6 +104,29 @@ impl History {
         let mut areas = lent(&mut self.random, &self.left, self.book.order);
         let call = change(&mut self.random, &mut areas, self.book.order);
         self.call(&call, areas);
+    }
+
+    /// This call, in areas as long as the order needs, the bytes being these.
+    pub fn make(&mut self, call: &Call, bytes: Vec<u8>) -> Reply {
+        let room = capacity(self.book.order);
+        let (work, result) = (self.random.fill(room, any_row), vec![[1; 2]; room]);
+        let areas = Areas { table: self.left.clone(), work, result, bytes, ..Areas::default() };
+        self.call(call, areas)
+    }
+
+    /// The table's rows as the last call left them.
+    pub fn rows(&self) -> &[Row] {
+        &self.left
+    }
+
+    /// The book beside it.
+    pub fn book(&self) -> &Book {
+        &self.book
+    }
+
+    /// What was added up since the last fresh or load.
+    pub fn sums(&self) -> Sums {
+        self.sums
     }
 
     fn call(&mut self, call: &Call, mut areas: Areas) -> Reply {
