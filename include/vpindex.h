@@ -299,7 +299,7 @@ vpindex_loaded vpindex_restore(uint32_t (*table)[VPINDEX_ROW_WORDS], size_t tabl
 
 /* Gives what the items with these tags pay at the gate, in cents: the dues area gets a number for each tag, in their
  * order, and numbers past them keep their content. An item pays one rate on its whole weight, its first measure as
- * kilos: up to 400.00 kg, 2 cents a kilo; up to 600.00 kg, 3 cents; above, 4 cents; to the nearest cent, half up. The
+ * kilos: below 400.00 kg, 2 cents a kilo; below 600.00 kg, 3 cents; else 4 cents; to the nearest cent, half up. The
  * total is the sum of these. A tag that is listed twice pays twice, and no tags cost 0. A refused call leaves the dues
  * area as it was.
  * Refusals: SHORT_AREA (no rows), BAD_TABLE (order, metric), SHORT_AREA, BAD_TABLE (weights, sizes); then, each of the

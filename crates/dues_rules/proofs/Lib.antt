@@ -2,4 +2,5 @@
 mod WorkedWeights
 mod WorkedLists
 pub mod Rates
+mod EarlierBoard
 pub mod Replies

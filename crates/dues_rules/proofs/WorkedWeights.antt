@@ -9,6 +9,6 @@ weights : List ℕ
 weights = 0 ∷ 24 ∷ 25 ∷ 39_999 ∷ 40_000 ∷ 40_001 ∷ 59_999 ∷ 60_000 ∷ 60_001 ∷ (2 ^ 31 - 1) ∷ []
 
 -- RULES 20.2, 20.3
-paid : map (duesBy board) weights ≡ 0 ∷ 0 ∷ 1 ∷ 800 ∷ 800 ∷ 1_200 ∷ 1_800 ∷ 1_800 ∷ 2_400 ∷ 85_899_346 ∷ []
+paid : map (duesBy board) weights ≡ 0 ∷ 0 ∷ 1 ∷ 800 ∷ 1_200 ∷ 1_200 ∷ 1_800 ∷ 2_400 ∷ 2_400 ∷ 85_899_346 ∷ []
 unfolding weights board within rateBy duesAt duesBy
 paid = refl

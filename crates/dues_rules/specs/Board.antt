@@ -17,9 +17,9 @@ band least most rate = record { least = least; most = most; rate = rate }
 -- RULES 20.2: the board. Where two bands meet the weight is within both, and the one that stands first applies
 unfoldable pub board : List Band
 board =
-    band 0 (some 40_000) 2
+    band 60_000 none 4
     ∷ band 40_000 (some 60_000) 3
-    ∷ band 60_000 none 4
+    ∷ band 0 (some 40_000) 2
     ∷ []
 
 unfoldable pub within : Band → ℕ → Bool

@@ -30,10 +30,10 @@ const MOST_LISTED: usize = 4096;
 fn rate_of(weight: u32) -> u64
     ensures { λ r. ⌜ r ≡ rateBy board weight ⌝ }
 {
-    if weight <= 40_000 {
+    if weight < 40_000 {
         return 2;
     }
-    if weight <= 60_000 {
+    if weight < 60_000 {
         return 3;
     }
     4

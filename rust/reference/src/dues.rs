@@ -5,11 +5,11 @@ use crate::refusal::{NO_DUES, NO_ROOM, NOT_LIVE, Refused, ensure};
 /// The most tags of a list.
 pub const MOST_LISTED: usize = 4096;
 
-/// What a weight in hundredths of a kilo pays, in cents. A weight where two bands meet pays by the lower one.
+/// What a weight in hundredths of a kilo pays, in cents. A weight where two bands meet pays by the heavier one.
 pub fn cents(weight: u32) -> u32 {
     let rate = match weight {
-        0..=40_000 => 2,
-        40_001..=60_000 => 3,
+        0..40_000 => 2,
+        40_000..60_000 => 3,
         _ => 4,
     };
     let (whole, rest) = (weight as u64 * rate / 100, weight as u64 * rate % 100);

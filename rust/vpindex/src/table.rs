@@ -207,7 +207,7 @@ impl Table {
     }
 
     /// What these items pay at the gate: each one rate on its whole weight, its first measure as kilos, to the nearest
-    /// cent. Up to 400.00 kg it is 2 cents a kilo, up to 600.00 kg 3, above 4. A tag that is listed twice pays twice.
+    /// cent. Below 400.00 kg it is 2 cents a kilo, below 600.00 kg 3, else 4. A tag that is listed twice pays twice.
     ///
     /// ```
     /// use vpindex::{Day, Metric, Order, Profile, Table, Tag};
@@ -217,10 +217,10 @@ impl Table {
     /// table.add(tags[0], &Profile::new([41_250, 12_900, 18_500, 95], [0, 0])?, Day::MIN)?;
     /// table.add(tags[1], &Profile::new([40_000, 12_700, 18_100, 90], [0, 0])?, Day::MIN)?;
     ///
-    /// // 412.50 kg at 3 cents a kilo, 400.00 kg at 2
+    /// // both at 3 cents a kilo
     /// let dues = table.dues(&tags)?;
-    /// assert_eq!(dues.each.iter().map(|cents| cents.to_string()).collect::<Vec<_>>(), ["12.38", "8.00"]);
-    /// assert_eq!(dues.total.to_string(), "20.38");
+    /// assert_eq!(dues.each.iter().map(|cents| cents.to_string()).collect::<Vec<_>>(), ["12.38", "12.00"]);
+    /// assert_eq!(dues.total.to_string(), "24.38");
     /// # Ok::<(), vpindex::Refusal>(())
     /// ```
     ///
