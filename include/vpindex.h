@@ -45,6 +45,8 @@ extern "C" {
 #define VPINDEX_MAX_DAY 65535            /* a day is 1 to 65,535, counted from a date that the caller chooses */
 #define VPINDEX_ANY_DAY 0                /* the first day of a search that leaves no item out */
 #define VPINDEX_MAX_LISTED 4096          /* the most tags of a list that vpindex_dues takes */
+#define VPINDEX_MAX_RADII 32             /* the most radii that vpindex_lots takes */
+#define VPINDEX_SUMMARY_WORDS 2          /* an entry of its summary: the number of lots, the size of the largest */
 #define VPINDEX_MIN_TAG VPINDEX_TAG(1, 0)
 #define VPINDEX_MAX_NATIONAL UINT64_C(274877906943)  /* the largest national number: 38 bits, as ISO 11784 stores it */
 #define VPINDEX_MAX_TAG VPINDEX_TAG(999, VPINDEX_MAX_NATIONAL)
@@ -69,6 +71,9 @@ extern "C" {
 /* As many entries as any search of a table that these calls left can find. */
 #define VPINDEX_RESULT_ENTRIES(order) ((size_t)1 << (order))
 
+/* The work area lent to vpindex_lots, and as many entries as its listing can have. */
+#define VPINDEX_LOTS_ENTRIES(order) ((size_t)1 << (order))
+
 /* As many bytes as any image of this order can have: every slot of every bucket built. */
 #define VPINDEX_IMAGE_BYTES(order) (8 + 4 * ((size_t)(order) + 1) + 50 * (((size_t)2 << (order)) - 1))
 
@@ -87,10 +92,10 @@ extern "C" {
 
 /* ---- Refusals ----------------------------------------------------------------------------------------------------
  * A refused call returns the number of its refusal, with zeros in every other field of the reply, and changes no area.
- * There are three exceptions: VPINDEX_NO_ROOM from vpindex_range, vpindex_nearest or vpindex_range_batch leaves the
- * result area all zero, vpindex_read_list keeps what it added before the line that it refuses, and says so, and by the
- * three numbers of a tree vpindex_load and vpindex_restore name the slot. Where several conditions hold, the first in
- * the order given at the call is returned. */
+ * There are four exceptions: VPINDEX_NO_ROOM from vpindex_range, vpindex_nearest or vpindex_range_batch leaves the
+ * result area all zero, and from vpindex_lots the summary and the listing; vpindex_read_list keeps what it added before
+ * the line that it refuses, and says so; and by the three numbers of a tree vpindex_load and vpindex_restore name the
+ * slot. Where several conditions hold, the first in the order given at the call is returned. */
 
 #define VPINDEX_ACCEPTED 0
 
@@ -100,7 +105,7 @@ extern "C" {
 #define VPINDEX_BAD_ORDER 3              /* order above 12 */
 #define VPINDEX_BAD_METRIC 4             /* metric above 2 */
 #define VPINDEX_NO_COUNT 5               /* nearest with k = 0 */
-#define VPINDEX_NO_ROOM 6                /* a result, dues, image or snapshot is longer than its area or part */
+#define VPINDEX_NO_ROOM 6                /* a result, dues, lots, image or snapshot is longer than its area or part */
 #define VPINDEX_BAD_LENGTH 7             /* the image's length is wrong, or past the part that it is restored from */
 #define VPINDEX_BAD_IMAGE 8              /* an image of no known form, or a field of some slot breaks a rule */
 #define VPINDEX_BAD_WEIGHT 32            /* a weight above 100 */
@@ -108,9 +113,10 @@ extern "C" {
 #define VPINDEX_BAD_NAME 34              /* a name outside 1 to 8 */
 #define VPINDEX_NO_DUES 39               /* a listed item weighs below 0, or more than VPINDEX_MAX_LISTED tags */
 #define VPINDEX_BAD_BATCH 40             /* no query, or more than 16 */
+#define VPINDEX_BAD_RADII 41             /* no radius, more than VPINDEX_MAX_RADII, or a place not in their list */
 
 /* by a tree of an image, with the slot */
-#define VPINDEX_DUPLICATE_TAG 36         /* an earlier slot of the bucket has the tag, or a live tag an earlier live one */
+#define VPINDEX_DUPLICATE_TAG 36         /* the tag is in an earlier slot of the bucket, or live here and earlier */
 #define VPINDEX_MISPLACED_ITEM 37        /* the slot's item is not the one that the tree's layout puts there */
 #define VPINDEX_BAD_THRESHOLD 38         /* the slot's threshold is not the layout's */
 
@@ -177,8 +183,8 @@ typedef struct {
 
 typedef struct {
     uint32_t refusal;
-    uint32_t slot;                       /* by VPINDEX_DUPLICATE_TAG, VPINDEX_MISPLACED_ITEM and VPINDEX_BAD_THRESHOLD the
-                                            slot, counted from 0 over all slots of the image; by all others 0 */
+    uint32_t slot;                       /* by the three numbers of a tree, 36 to 38, the slot, counted from 0 over all
+                                            slots of the image; by all others 0 */
 } vpindex_loaded;
 
 typedef struct {
@@ -211,8 +217,8 @@ uint32_t vpindex_fresh(uint32_t (*table)[VPINDEX_ROW_WORDS], size_t table_rows, 
  * days, loads with day 1 in every item; form 0, from before there were weights, with day 1 and weights 1.
  * Refusals: BAD_LENGTH (under 4 bytes), BAD_ORDER, BAD_METRIC, BAD_IMAGE (form above 2), in forms 1 and 2 BAD_LENGTH
  * (weights cut short) and BAD_WEIGHT, BAD_LENGTH (sizes cut short), BAD_TABLE (sizes), BAD_LENGTH (not the length that
- * the sizes give), SHORT_AREA, in form 2 BAD_DAY (in any record, a removed item's too), BAD_IMAGE (tags, measures, marks
- * and their number, of any slot). Then slot by slot, by bucket from 0 up and as they stand in it, in each slot
+ * the sizes give), SHORT_AREA, in form 2 BAD_DAY (in any record, a removed item's too), BAD_IMAGE (tags, measures,
+ * marks and their number, of any slot). Then slot by slot, by bucket from 0 up and as they stand in it, in each slot
  * DUPLICATE_TAG, MISPLACED_ITEM, BAD_THRESHOLD: the lowest slot that one applies to is named. */
 vpindex_loaded vpindex_load(uint32_t (*table)[VPINDEX_ROW_WORDS], size_t table_rows, const uint8_t *image,
                             size_t image_bytes);
@@ -306,6 +312,22 @@ vpindex_loaded vpindex_restore(uint32_t (*table)[VPINDEX_ROW_WORDS], size_t tabl
  * whole list before the next, NOT_LIVE, NO_DUES, NO_ROOM (dues area too short). The form of a tag is not asked. */
 vpindex_dues_reply vpindex_dues(VPINDEX_READ uint32_t (*table)[VPINDEX_ROW_WORDS], size_t table_rows,
                                 const uint64_t *tags, size_t tag_count, uint32_t *dues, size_t dues_numbers);
+
+/* Drafts the items into lots by each of 1 to VPINDEX_MAX_RADII radii, in any order, also one twice. By a radius the
+ * item of the lowest tag that is in no lot yet leads one: itself and every other in no lot yet whose distance from it
+ * is at most the radius; and so on until all are in a lot. The summary gets an entry for each radius, in their order:
+ * the number of lots, and the size of the largest, both 0 where there are no items. `chosen` is a place in the list of
+ * radii, 1 being the first; the listing gets an entry for each item, tag then the number of its lot by that radius,
+ * lots being numbered from 1 in the order in which they were led, by lot and then tag. Zeros follow both to their end.
+ * Days play no part, and the table is not changed. The work area, of entries, is zero after an accepted call as far as
+ * VPINDEX_LOTS_ENTRIES reaches, and entries past that keep their content. It returns the refusal.
+ * Refusals: SHORT_AREA (no rows), BAD_TABLE (order, metric), SHORT_AREA (the work area too), BAD_TABLE (weights, sizes,
+ * marks), BAD_RADII, NO_ROOM (fewer entries in the summary than radii, or in the listing than items): both are then all
+ * zero, and the work area is kept. */
+uint32_t vpindex_lots(VPINDEX_READ uint32_t (*table)[VPINDEX_ROW_WORDS], size_t table_rows,
+                      uint64_t (*work)[VPINDEX_ENTRY_WORDS], size_t work_entries, const uint32_t *radii,
+                      size_t radius_count, uint32_t (*summary)[VPINDEX_SUMMARY_WORDS], size_t summary_entries,
+                      uint64_t (*listing)[VPINDEX_ENTRY_WORDS], size_t listing_entries, uint32_t chosen);
 
 #ifdef __cplusplus
 }

@@ -67,6 +67,11 @@ impl Archive {
         [reply.found.iter().sum(), reply.distances]
     }
 
+    /// Its table.
+    pub fn table(&self) -> &[ffi::Row] {
+        &self.table
+    }
+
     fn searched(&mut self, reply: ffi::Searched) -> u32 {
         assert_eq!(reply.refusal, 0);
         self.found = reply.found as usize;

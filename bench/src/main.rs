@@ -2,10 +2,13 @@
 //! way. `bench FOLDER [SEED]` writes calls.md and growth.svg into the folder; bench/run.sh runs it. `bench nearest
 //! SEED..` prints what nearest takes beside the scan, a line for each herd, metric and seed; bench/nearest.sh runs it.
 //! `bench batch [SEED]` prints what batches of 16 queries take beside as many single calls; bench/batch.sh runs it.
+//! `bench lots [SEED]` prints what a drafting takes, a line for each herd, metric and list of radii; bench/lots.sh runs
+//! it.
 
 mod changes;
 mod index;
 mod items;
+mod lots;
 mod measure;
 mod plain;
 mod plot;
@@ -27,14 +30,19 @@ fn main() {
     let words: Vec<String> = env::args().skip(1).collect();
     match words.split_first() {
         Some((word, seeds)) if word == "nearest" => print_nearest(seeds),
-        Some((word, seeds)) if word == "batch" => print_batches(seeds.first().map_or(SEED, |word| seed_of(word))),
-        Some((folder, seeds)) => write_all(folder, seeds.first().map_or(SEED, |word| seed_of(word))),
-        None => eprintln!("usage: bench FOLDER [SEED], or bench nearest SEED.., or bench batch [SEED]"),
+        Some((word, seeds)) if word == "batch" => print_batches(first_seed(seeds)),
+        Some((word, seeds)) if word == "lots" => print_lots(first_seed(seeds)),
+        Some((folder, seeds)) => write_all(folder, first_seed(seeds)),
+        None => eprintln!("usage: bench FOLDER [SEED], bench nearest SEED.., bench batch [SEED], or bench lots [SEED]"),
     }
 }
 
 fn seed_of(word: &str) -> u64 {
     u64::from_str_radix(word, 16).expect("a seed in hexadecimal")
+}
+
+fn first_seed(seeds: &[String]) -> u64 {
+    seeds.first().map_or(SEED, |word| seed_of(word))
 }
 
 fn write_all(folder: &str, seed: u64) {
@@ -74,6 +82,22 @@ fn print_batches(seed: u64) {
                         spread.name
                     );
                 }
+            }
+        }
+    }
+}
+
+fn print_lots(seed: u64) {
+    println!("| herd | metric | radii | distances | calls ms | plain ms | /plain |\n|---|---|---|---|---|---|---|");
+    for spread in [SPREADS[0], SPREADS[3]] {
+        for metric in METRICS {
+            for line in lots::lines(seed, spread, metric) {
+                let lots::Line { radii, distances, calls, plain } = line;
+                let name = spread.name;
+                println!(
+                    "| {name} | {metric} | {radii} | {distances} | {calls:.2} | {plain:.2} | {:.2} |",
+                    calls / plain
+                );
             }
         }
     }

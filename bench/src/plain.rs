@@ -41,7 +41,7 @@ impl Space {
 }
 
 // A sum of four differences of 32 bits, each by a weight up to 100, fits 64 bits.
-fn distance(space: &Space, a: &Profile, b: &Profile) -> u32 {
+pub fn distance(space: &Space, a: &Profile, b: &Profile) -> u32 {
     let weighted = (0..4).map(|i| a.measures[i].abs_diff(b.measures[i]) as u64 * space.weights[i] as u64);
     match space.metric {
         0 => weighted.sum::<u64>().min(u32::MAX as u64) as u32,

@@ -29,6 +29,8 @@ use Rattle.list_rules.specs.declared.ListRead.{ListRead}
 use Rattle.list_rules.specs.ReadList.{readListReply, tableAfterReadList, workAfterReadList}
 use Rattle.dues_rules.specs.declared.Dues.{Dues}
 use Rattle.dues_rules.specs.Listed.{duesReply, duesAfter}
+use Rattle.lots_rules.specs.Lots.{Summary}
+use Rattle.lots_rules.specs.Drafting.{lotsRefusal, workAfterLots, summaryAfterLots, listingAfterLots}
 
 -- RULES 7, 12.3, 19.6: the calls that begin a table. They read nothing of what lay there but its length; a load's image and the states that a restore reads are
 -- arguments
@@ -78,14 +80,24 @@ workChanged (add tag profile day) t work = workAfterAdd t work tag profile day
 workChanged (remove tag) t work = workAfterRemove t work tag
 workChanged (readList list day) t work = workAfterReadList t work list day
 
--- RULES 10, 11, 20: the calls that only ask. They leave the table as it is. Each is lent areas of its own to answer in; the list of tags whose dues are asked is an
--- argument
+-- RULES 21.3: the areas lent to a drafting: a work area, and those for the summary and the listing
+pub record DraftAreas : Type 0 where
+  pub work : List Entry
+  pub summary : List Summary
+  pub listing : List Entry
+
+abbrev pub draftAreas : List Entry → List Summary → List Entry → DraftAreas
+draftAreas work summary listing = record { work = work; summary = summary; listing = listing }
+
+-- RULES 10, 11, 20, 21: the calls that only ask. They leave the table as it is. Each is lent areas of its own to answer in; the list of tags whose dues are asked and the
+-- radii of a drafting are arguments
 pub data Ask : Type 0 where
   lookUp : (tag : ℕ) → Ask
   range : (query : Profile) (radius : ℕ) (firstDay : ℕ) → Ask
   nearest : (query : Profile) (k : ℕ) (firstDay : ℕ) → Ask
   dues : (tags : List ℕ) → Ask
   rangeBatch : (queries : List Row) → Ask
+  lots : (radii : List ℕ) (chosen : ℕ) → Ask
 
 abbrev pub AskAreas : Ask → Type 0
 AskAreas (lookUp tag) = Unit {0}
@@ -93,6 +105,7 @@ AskAreas (range query radius firstDay) = List Entry
 AskAreas (nearest query k firstDay) = List Entry
 AskAreas (dues tags) = List ℕ
 AskAreas (rangeBatch queries) = List Entry
+AskAreas (lots radii chosen) = DraftAreas
 
 abbrev pub AskReply : Ask → Type 0
 AskReply (lookUp tag) = LookedUp
@@ -100,6 +113,7 @@ AskReply (range query radius firstDay) = Searched
 AskReply (nearest query k firstDay) = Searched
 AskReply (dues tags) = Dues
 AskReply (rangeBatch queries) = Ranges
+AskReply (lots radii chosen) = ℕ
 
 abbrev pub askReply : (q : Ask) → Table → AskAreas q → AskReply q
 askReply (lookUp tag) t none = lookUpReply t tag
@@ -107,6 +121,7 @@ askReply (range query radius firstDay) t result = rangeReply t result query radi
 askReply (nearest query k firstDay) t result = nearestReply t result query k firstDay
 askReply (dues tags) t area = duesReply t tags area
 askReply (rangeBatch queries) t result = rangeBatchReply t result queries
+askReply (lots radii chosen) t areas = lotsRefusal t (areas .work) (areas .summary) (areas .listing) radii chosen
 
 abbrev pub areasAnswered : (q : Ask) → Table → AskAreas q → AskAreas q
 areasAnswered (lookUp tag) t none = none
@@ -114,6 +129,12 @@ areasAnswered (range query radius firstDay) t result = resultAfterRange t result
 areasAnswered (nearest query k firstDay) t result = resultAfterNearest t result query k firstDay
 areasAnswered (dues tags) t area = duesAfter t tags area
 areasAnswered (rangeBatch queries) t result = resultAfterBatch t result queries
+areasAnswered (lots radii chosen) t areas =
+    record {
+      work = workAfterLots t (areas .work) (areas .summary) (areas .listing) radii chosen;
+      summary = summaryAfterLots t (areas .work) (areas .summary) (areas .listing) radii chosen;
+      listing = listingAfterLots t (areas .work) (areas .summary) (areas .listing) radii chosen;
+    }
 
 -- RULES 12.2, 19.4: the calls that write a table. They leave it as it is. Each is lent bytes to write in: an area for the image, or the states
 pub data Write : Type 0 where

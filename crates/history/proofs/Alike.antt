@@ -1,4 +1,4 @@
--- Demand 3's comparison, tried on one list, on one with weights, on one with named states, on one with dues and on one with batches: at every call, refused ones and short areas among them, table and model show what was worked out by hand,
+-- Demand 3's comparison, tried on one list, on one with weights, on one with named states, on one with dues, on one with batches and on one with lots: at every call, refused ones and short areas among them, table and model show what was worked out by hand,
 -- and after it the sums and the model's items are those worked out by hand. Each side is a run that antt computes.
 use Prim.Native.Nat.{ℕ, _+_, _*_}
 use mathlib.Core.Path.{_≡_, refl}
@@ -10,13 +10,14 @@ use Rattle.search_rules.specs.Range.{Entry}
 use Rattle.text_rules.specs.Text.{lineFeed}
 use Rattle.table_rules.specs.LookUp.{noProfile}
 use Rattle.state_rules.specs.Parts.{snapshotOf}
-use Rattle.call_rules.specs.Calls.{Call}
-use Rattle.history.specs.Trace.{Step, Shown, zeroed, shows, overlaid, leftBy, beginShown, changeShown, duesIn, askShown, shown, noSums, plus, imageSums, starting, begunSums, ifAccepted, counted, sumsAfter, stateAfter, shownAt, stateAfterAll, trace, listedIn}
-use Rattle.history.specs.Trace.Payload.{bare, aSlot, aWeighing, someEntries, aListRead, someDues, someLists}
-use Rattle.history.specs.Model.{itemOf, withTag, isIn, with, without, weighedIn, scanned, modelRange, modelNearest, weightOf, weightsIn, canRead, canChange, tagRefusal, itemRefusal, addRefusalOf, removeRefusalOf, fits, questionRefusal, askRefusal, found, paid, answerTo, showsUnless, afterUnless, stopsAt, oneMoreAdded, linesAnswered, listAnswered, imageModel, modelBegun, beginAnswer, changeAnswer, answer, answerAt, modelAfterAll, modelTrace, modelRanges, foundEach}
+use Rattle.lots_rules.specs.Lots.{Summary}
+use Rattle.call_rules.specs.Calls.{Call, draftAreas}
+use Rattle.history.specs.Trace.{Step, Shown, zeroed, shows, overlaid, leftBy, beginShown, changeShown, duesIn, listedIn, draftedIn, draftIn, askShown, shown, noSums, plus, imageSums, starting, begunSums, ifAccepted, counted, sumsAfter, stateAfter, shownAt, stateAfterAll, trace}
+use Rattle.history.specs.Trace.Payload.{bare, aSlot, aWeighing, someEntries, aListRead, someDues, someLists, aDraft}
+use Rattle.history.specs.Model.{itemOf, withTag, isIn, with, without, weighedIn, scanned, modelRange, modelNearest, weightOf, weightsIn, modelLots, modelSummaries, modelListing, canRead, canChange, tagRefusal, itemRefusal, addRefusalOf, removeRefusalOf, fits, questionRefusal, askRefusal, found, paid, answerTo, showsUnless, afterUnless, stopsAt, oneMoreAdded, linesAnswered, listAnswered, imageModel, modelBegun, beginAnswer, changeAnswer, answer, answerAt, modelAfterAll, modelTrace, modelRanges, foundEach}
 use Rattle.history.specs.History.{before, blankModel}
 use Rattle.history.proofs.Computing.{performed}
-use Rattle.history.proofs.Running.{fresh, load, restore, write, save, add, remove, readList, lookUp, range, nearest, dues, weighing, by, tag, valued, measured, areasFor, scratch, adding, removing, listOf, itemLine, rangeBatch}
+use Rattle.history.proofs.Running.{fresh, load, restore, write, save, add, remove, readList, lookUp, range, nearest, dues, lots, weighing, by, tag, valued, measured, areasFor, scratch, adding, removing, listOf, itemLine, rangeBatch}
 use Rattle.history.proofs.Imaged.{oneAs, oneImage, deadImage, unweightedImage}
 
 -- calls in roomy areas, each lent its own; and one in areas of these lengths
@@ -127,12 +128,12 @@ expected =
 
 tableShows : trace (before scratch) steps ≡ expected
 unfolding
-    performed steps expected before overlaid leftBy beginShown changeShown duesIn askShown shown noSums plus imageSums starting begunSums ifAccepted counted sumsAfter stateAfter shownAt trace scratch
+    performed steps expected before overlaid leftBy beginShown changeShown duesIn listedIn draftedIn draftIn askShown shown noSums plus imageSums starting begunSums ifAccepted counted sumsAfter stateAfter shownAt trace scratch
 tableShows = refl
 
 modelShows : modelTrace blankModel steps ≡ expected
 unfolding
-    performed steps expected zeroed beginShown itemOf withTag isIn with without weighedIn scanned modelRange modelNearest weightOf weightsIn canRead canChange tagRefusal
+    performed steps expected zeroed beginShown itemOf withTag isIn with without weighedIn scanned modelRange modelNearest weightOf weightsIn modelLots modelSummaries modelListing canRead canChange tagRefusal
     itemRefusal addRefusalOf removeRefusalOf fits questionRefusal askRefusal found paid answerTo showsUnless afterUnless stopsAt oneMoreAdded
     linesAnswered listAnswered imageModel modelBegun beginAnswer changeAnswer answer answerAt modelTrace blankModel
 modelShows = refl
@@ -304,3 +305,60 @@ batchTable = refl
 batchModel : modelTrace blankModel batchSteps ≡ batchShow
 unfolding modelShows modelRanges foundEach batchSteps batchShow
 batchModel = refl
+
+-- no items; then four, put in by no order of their tags, of 10, 20, 16 and 13: some radii, one of them twice, with lots listed by two of them; no radius, too many, and places
+-- that are not in the list; a table and a work area that are too short, a summary and a listing of one entry too few, and areas of just enough, also for as many radii as there may be; and the lots of three
+lotsSteps : List Step
+unfolding roomy lentOnly scratch tag valued
+lotsSteps =
+    roomy
+    (fresh 2 (by 0)
+    ∷ lots (7 ∷ 7 ∷ []) 2
+    ∷ add (tag 3) (valued 16) 1
+    ∷ add (tag 1) (valued 10) 1
+    ∷ add (tag 4) (valued 13) 1
+    ∷ add (tag 2) (valued 20) 1
+    ∷ lots (6 ∷ 0 ∷ 4 ∷ 4_294_967_295 ∷ 4 ∷ []) 1
+    ∷ lots (6 ∷ 0 ∷ 4 ∷ 4_294_967_295 ∷ 4 ∷ []) 3
+    ∷ lots (replicate 32 9) 0
+    ∷ lots [] 1
+    ∷ lots (replicate 33 9) 1
+    ∷ lots (9 ∷ []) 2
+    ∷ [])
+    ++ (lentOnly 10 9 (lots [] 0)
+    ∷ lentOnly 11 3 (lots [] 0)
+    ∷ lentOnly 11 4 (lots (1 ∷ 2 ∷ 3 ∷ 4 ∷ 5 ∷ []) 5)
+    ∷ record { call = lots (3 ∷ []) 1; table = scratch; areas = draftAreas (replicate 4 []) (replicate 1 []) (replicate 3 []) }
+    ∷ record { call = lots (3 ∷ []) 1; table = scratch; areas = draftAreas (replicate 4 []) (replicate 1 []) (replicate 4 []) }
+    ∷ record { call = lots (replicate 32 4) 32; table = scratch; areas = draftAreas (replicate 4 []) (replicate 32 []) (replicate 4 []) }
+    ∷ [])
+    ++ roomy (remove (tag 1) ∷ lots (6 ∷ []) 1 ∷ [])
+
+noLotsFor : ℕ → Shown
+noLotsFor n = shows n (aDraft [] [])
+
+-- a summary and a listing, of pairs of numbers
+drafted : List Summary → List Entry → Shown
+drafted summary listing = shows 0 (aDraft summary listing)
+
+inLot : ℕ → List ℕ → List Entry
+inLot n nationals = map (λ i. tag i ∷ n ∷ []) nationals
+
+lotsShow : List Shown
+unfolding changed noLotsFor drafted inLot tag
+lotsShow =
+    let summaries : List Summary = (2 ∷ 3 ∷ []) ∷ (4 ∷ 1 ∷ []) ∷ (2 ∷ 2 ∷ []) ∷ (1 ∷ 4 ∷ []) ∷ (2 ∷ 2 ∷ []) ∷ [] in
+    (changed 0 ∷ drafted ((0 ∷ 0 ∷ []) ∷ (0 ∷ 0 ∷ []) ∷ []) [] ∷ map changed (0 ∷ 0 ∷ 0 ∷ 0 ∷ []))
+    ++ (drafted summaries (inLot 1 (1 ∷ 3 ∷ 4 ∷ []) ++ inLot 2 (2 ∷ [])) ∷ drafted summaries (inLot 1 (1 ∷ 4 ∷ []) ++ inLot 2 (2 ∷ 3 ∷ [])) ∷ [])
+    ++ map noLotsFor (41 ∷ 41 ∷ 41 ∷ 41 ∷ 23 ∷ 23 ∷ 6 ∷ 6 ∷ [])
+    ++ (drafted ((3 ∷ 2 ∷ []) ∷ []) (inLot 1 (1 ∷ 4 ∷ []) ++ inLot 2 (2 ∷ []) ++ inLot 3 (3 ∷ [])) ∷ [])
+    ++ (drafted (replicate 32 (2 ∷ 2 ∷ [])) (inLot 1 (1 ∷ 4 ∷ []) ++ inLot 2 (2 ∷ 3 ∷ [])) ∷ [])
+    ++ (changed 0 ∷ drafted ((2 ∷ 2 ∷ []) ∷ []) (inLot 1 (2 ∷ 3 ∷ []) ++ inLot 2 (4 ∷ [])) ∷ [])
+
+lotsTable : trace (before scratch) lotsSteps ≡ lotsShow
+unfolding tableShows lotsSteps lotsShow
+lotsTable = refl
+
+lotsModel : modelTrace blankModel lotsSteps ≡ lotsShow
+unfolding modelShows lotsSteps lotsShow
+lotsModel = refl

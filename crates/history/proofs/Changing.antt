@@ -16,7 +16,7 @@ use Rattle.metric_rules.specs.declared.Profile.{Profile}
 use Rattle.metric_rules.specs.Row.{IsProfile}
 use Rattle.metric_rules.specs.Validity.{validTag, validMeasures, validDay}
 use Rattle.metric_rules.specs.declared.Space.{Space}
-use Rattle.search_rules.proofs.Selecting.{select-all}
+use Rattle.search_rules.proofs.Selecting.{select-all, select-no}
 use Rattle.table_rules.specs.Refusals.{badTag, badMeasure, badDay, alreadyLive, notLive, full, unless}
 use Rattle.table_rules.specs.Geometry.{room}
 use Rattle.table_rules.specs.Table.{Table}
@@ -45,7 +45,7 @@ use Rattle.history.proofs.BuildsKeep.{item-placed, new-item}
 use Rattle.history.proofs.InvariantFresh.{Freshable, freshable, invariant-fresh, fresh-live}
 use Rattle.history.proofs.InvariantAdd.{Addable, invariant-added, added-only, added-live}
 use Rattle.history.proofs.InvariantRemove.{invariant-removed, removed-only, removed-live, removed-tag}
-use Rattle.history.proofs.RefinesLists.{select-no, select-perm}
+use Rattle.history.proofs.RefinesLists.{select-perm}
 use Rattle.history.proofs.RefinesRepresents.{tags-once}
 use Rattle.history.proofs.ImagesLoaded.{loaded-invariant}
 use Rattle.history.proofs.RefinesItems.{Matches, live-total}

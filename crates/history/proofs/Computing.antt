@@ -34,6 +34,8 @@ use Rattle.list_rules.specs.ReadList.{stopped, oneMore, reading, listReading, r
 use Rattle.dues_rules.specs.Board.{board, within, rateBy, duesAt, duesBy}
 use Rattle.dues_rules.specs.Listed.{weightAt, isFound, isWeight, pays, weightsRefusal, totalOf, weightsReply, areaAfter, duesRefusal, duesReply, duesAfter}
 use Rattle.batch_rules.specs.Batch.{mostQueries, validNumber, firstDayOf, singleAnswer, singleAnswers, some, reachedBySome, batchCount, partSize, queriesRefusal, partsRefusal, batchRefusal, foundBy, rangesReply, partWith, partsWith, resultAfterParts, rangeBatchReply, resultAfterBatch}
+use Rattle.lots_rules.specs.Lots.{largestOf, byTag, near, lotsWithin, lots, summaryOf, numbered, listingOf}
+use Rattle.lots_rules.specs.Drafting.{mostRadii, radiiPass, chosenRadius, draftedItems, betweenRows, tableLots, tableSummaries, tableListing, draftFits, lotsRefusal, answerIn, zeroSummary, summaryAfterLots, listingAfterLots, workAfterLots}
 use Rattle.call_rules.specs.Calls.{Call, Areas, Reply, replyTo, tableAfter, areasAfter}
 
 pub record Performed (c : Call) : Type 0 where
@@ -66,5 +68,6 @@ unfolding
     linesFrom linesOf itemLines stopped oneMore reading listReading readListReply tableAfterReadList workAfterReadList board within rateBy duesAt duesBy
     weightAt isFound isWeight pays weightsRefusal totalOf weightsReply areaAfter duesRefusal duesReply duesAfter
     reachedWithin mostQueries validNumber firstDayOf singleAnswer singleAnswers some reachedBySome batchCount partSize queriesRefusal partsRefusal batchRefusal foundBy rangesReply
-    partWith partsWith resultAfterParts rangeBatchReply resultAfterBatch
+    partWith partsWith resultAfterParts rangeBatchReply resultAfterBatch largestOf byTag near lotsWithin lots summaryOf numbered listingOf
+    mostRadii radiiPass chosenRadius draftedItems betweenRows tableLots tableSummaries tableListing draftFits lotsRefusal answerIn zeroSummary summaryAfterLots listingAfterLots workAfterLots
 performed c t areas = record { reply = replyTo c t areas; table = tableAfter c t areas; areas = areasAfter c t areas }

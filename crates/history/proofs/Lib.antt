@@ -37,6 +37,7 @@ mod RefinesTable
 mod RefinesFinding
 mod RefinesItems
 mod RefinesRefusals
+mod RefinesLots
 mod RefinesReading
 mod RefinesBatch
 mod RefinesShown

@@ -24,7 +24,7 @@ use Rattle.tree_rules.proofs.Placed.{tag-placed}
 use Rattle.tree_rules.proofs.Layouts.{layout-length, layout-permutes}
 use Rattle.tree_rules.proofs.InPlace.{layout-is-layout}
 use Rattle.tree_rules.proofs.Built.{Fresh, layout-fresh}
-use Rattle.search_rules.proofs.Selecting.{select-all}
+use Rattle.search_rules.proofs.Selecting.{select-all, all-selected}
 use Rattle.table_rules.specs.Table.{Table, orderOf, tableSpace, builtOf, liveOf, slotsOf, liveSlots, emptied}
 use Rattle.table_rules.specs.Checks.{sizePasses}
 use Rattle.table_rules.specs.Rebuild.{liveItems, rebuilt}
@@ -35,7 +35,6 @@ use Rattle.table_rules.proofs.Sizes.{size-none, size-used}
 use Rattle.table_rules.proofs.Adding.{Target}
 use Rattle.image_rules.specs.Load.{fieldsPass}
 use Rattle.history.specs.Model.{Item, itemOf}
-use Rattle.history.proofs.RefinesLists.{select-all as all-selected}
 use Rattle.history.proofs.Invariant.{Weighed}
 use Rattle.history.proofs.BuildsKeep.{tree-all}
 use Rattle.history.proofs.ByBucket.{Good, GoodBucket, ByBucket, good-none, by-bucket-roomy, by-bucket-changed}

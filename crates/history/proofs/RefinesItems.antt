@@ -18,6 +18,7 @@ use Rattle.metric_rules.specs.Distance.{distance}
 use Rattle.search_rules.specs.Range.{Entry, entry, ordered, entryOf, toQuery}
 use Rattle.search_rules.specs.Nearest.{keep}
 use Rattle.search_rules.proofs.Keep.{keep-permuted}
+use Rattle.search_rules.proofs.Selecting.{select-map}
 use Rattle.table_rules.specs.Geometry.{bucketsOf}
 use Rattle.table_rules.proofs.ByNumber.{length-flatten}
 use Rattle.table_rules.specs.Table.{Table, orderOf, tableSpace, liveOf, liveTotal, slotsOf, liveSlots}
@@ -30,7 +31,7 @@ use Rattle.history.specs.Model.{Item, itemOf, Model, withTag, scanned, m
 use Rattle.batch_rules.specs.Batch.{firstDayOf, singleAnswer, singleAnswers}
 use Rattle.history.specs.Represents.{itemsIn}
 use Rattle.history.proofs.Invariant.{Invariant}
-use Rattle.history.proofs.RefinesLists.{select-perm, select-map, select-once, perm-of-one}
+use Rattle.history.proofs.RefinesLists.{select-perm, select-once, perm-of-one}
 use Rattle.history.proofs.RefinesSearch.{within-permuted, entry-pairs}
 use Rattle.history.proofs.RefinesTable.{since, liveEntries, range-scans, nearest-scans}
 use Rattle.history.proofs.RefinesFinding.{tagged, rowFound, find-row}

@@ -11,26 +11,9 @@ use borrow.Author.Tests.{eqb-true, not-true}
 use Rattle.lists.specs.Lists.{select, every, distinct, All}
 use Rattle.lists.proofs.Lists.{all-weaken, all-perm, all-of-map, perm-both, perm-length, perm-of-eq}
 use Rattle.lists.proofs.Tests.{and-first, and-second, every-all}
-use Rattle.search_rules.proofs.Selecting.{select-append, select-none}
+use Rattle.search_rules.proofs.Selecting.{select-append, select-none, select-yes, select-no}
 
 module _ {A : Type 0} (test : A → Bool) where
-  pub select-yes : (x : A) (xs : List A) → test x ≡ true → select test (x ∷ xs) ≡ x ∷ select test xs
-  unfolding select
-  select-yes x xs e = ap (λ (b : Bool). elim b [ true ↦ x ∷ select test xs | false ↦ select test xs ]) e
-
-  pub select-no : (x : A) (xs : List A) → test x ≡ false → select test (x ∷ xs) ≡ select test xs
-  unfolding select
-  select-no x xs e = ap (λ (b : Bool). elim b [ true ↦ x ∷ select test xs | false ↦ select test xs ]) e
-
-  pub select-all : (P : A → Type 0) (xs : List A) → All P xs → All P (select test xs)
-  unfolding select
-  select-all P [] h = tt
-  select-all P (x ∷ xs) h = go (test x) (select-all P xs (h .1))
-    where
-      go : (b : Bool) → All P (select test xs) → All P (elim b [ true ↦ x ∷ select test xs | false ↦ select test xs ])
-      go true r = (h .0, r)
-      go false r = r
-
   select-cons-perm : (x : A) (xs ys : List A) → List·Permᴰ (select test xs) (select test ys) → List·Permᴰ (select test (x ∷ xs)) (select test (x ∷ ys))
   unfolding select
   select-cons-perm x xs ys p = go (test x)
@@ -95,8 +78,8 @@ module _ {A : Type 0} (test : A → Bool) where
       go : (a b : Bool) → test x ≡ b → select test (select first xs) ≡ select (λ z. first z && test z) xs
           → select test (elim a [ true ↦ x ∷ select first xs | false ↦ select first xs ])
           ≡ elim (a && b) [ true ↦ x ∷ select (λ z. first z && test z) xs | false ↦ select (λ z. first z && test z) xs ]
-      go true true f e = select-yes x (select first xs) f ∙ ap (λ (l : List A). x ∷ l) e
-      go true false f e = select-no x (select first xs) f ∙ e
+      go true true f e = select-yes test x (select first xs) f ∙ ap (λ (l : List A). x ∷ l) e
+      go true false f e = select-no test x (select first xs) f ∙ e
       go false b f e = e
 
   -- what each of some lists gives is what all of them give
@@ -104,18 +87,6 @@ module _ {A : Type 0} (test : A → Bool) where
   unfolding flatten
   select-flatten f [] = sym (select-none test [] tt)
   select-flatten f (k ∷ ks) = ap (λ (l : List A). select test (f k) ++ l) (select-flatten f ks) ∙ sym (select-append test (f k) (flatten (map f ks)))
-
-  -- an image is selected where its element is
-  pub select-map : {B : Type 0} (f : B → A) (xs : List B) → select test (map f xs) ≡ map f (select (λ x. test (f x)) xs)
-  unfolding select
-  select-map f [] = refl
-  select-map {B} f (x ∷ xs) = go (test (f x)) (select-map f xs)
-    where
-      go : (b : Bool) → select test (map f xs) ≡ map f (select (λ z. test (f z)) xs)
-          → elim b [ true ↦ f x ∷ select test (map f xs) | false ↦ select test (map f xs) ]
-          ≡ map f (elim b as (λ _. List B) [ true ↦ x ∷ select (λ z. test (f z)) xs | false ↦ select (λ z. test (f z)) xs ])
-      go true e = ap (λ (l : List A). f x ∷ l) e
-      go false e = e
 
 -- functions that agree on a list's elements
 pub every-where : {A : Type 0} (f g : A → Bool) (xs : List A) → All (λ x. f x ≡ g x) xs → every f xs ≡ every g xs

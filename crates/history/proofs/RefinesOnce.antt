@@ -10,8 +10,7 @@ use lib.Seq.{append-snoc}
 use native.Mathlib.Omega.{arith}
 use borrow.Author.Tests.{eq-eqb}
 use Rattle.lists.specs.Lists.{select, every, All}
-use Rattle.search_rules.proofs.Selecting.{select-append, select-none}
-use Rattle.history.proofs.RefinesLists.{select-yes, select-no}
+use Rattle.search_rules.proofs.Selecting.{select-append, select-none, select-yes, select-no}
 
 -- every element is among those with its number
 pub select-own : {A : Type 0} (f : A → ℕ) (front xs : List A) → All (λ x. 1 ≤ length (select (λ y. eqb (f y) (f x)) (front ++ xs))) xs

@@ -153,31 +153,32 @@ module _ (m : Model) (t : Table) where
   read-refusal (inr short) =
       ap (λ (n : ℕ). orElse n (unless (headerPasses t) badTable 0)) (short-frame t m short) ∙ ap (λ (b : Bool). unless b shortArea 0) (sym (cannot-read short))
 
+  -- of a call that is lent a work area of n rows or entries
+  pub change-refusal : (n : ℕ) → Lendable t m → changeRefusal n t ≡ unless (canChange m (length t) n) shortArea 0
+  unfolding changeRefusal canChange
+  change-refusal n (inl ok) =
+      invariant-changes n t (ok .invariant)
+      ∙ asked (leb (workRows (orderOf t)) n) (leb (workRows (m .order)) n) (ap (λ (order : ℕ). leb (workRows order) n) (ok .order))
+      ∙ ap (λ (b : Bool). unless (b && leb (workRows (m .order)) n) shortArea 0) (sym (can-read ok))
+  change-refusal n (inr short) =
+      ap (λ (stop : ℕ). orElse stop (unless (leb (workRows (orderOf t)) n) shortArea (unless (headerPasses t) badTable (unless (marksPass t) badTable 0))))
+      (short-frame t m short)
+      ∙ ap (λ (b : Bool). unless (b && leb (workRows (m .order)) n) shortArea 0) (sym (cannot-read short))
+
   module _ (work : List Row) where
     pub changeable : Lendable t m → canChange m (length t) (length work) ≡ true → Matches t m
     unfolding canChange
     changeable lendable e = readable lendable (and-first (canRead m (length t)) _ e)
 
-    change-refusal : Lendable t m → changeRefusal (length work) t ≡ unless (canChange m (length t) (length work)) shortArea 0
-    unfolding changeRefusal canChange
-    change-refusal (inl ok) =
-        invariant-changes (length work) t (ok .invariant)
-        ∙ asked (leb (workRows (orderOf t)) (length work)) (leb (workRows (m .order)) (length work)) (ap (λ (n : ℕ). leb (workRows n) (length work)) (ok .order))
-        ∙ ap (λ (b : Bool). unless (b && leb (workRows (m .order)) (length work)) shortArea 0) (sym (can-read ok))
-    change-refusal (inr short) =
-        ap (λ (n : ℕ). orElse n (unless (leb (workRows (orderOf t)) (length work)) shortArea (unless (headerPasses t) badTable (unless (marksPass t) badTable 0))))
-        (short-frame t m short)
-        ∙ ap (λ (b : Bool). unless (b && leb (workRows (m .order)) (length work)) shortArea 0) (sym (cannot-read short))
-
     pub add-refusal : Lendable t m → (tag : ℕ) (p : Profile) (day : ℕ) → addRefusal t work tag p day ≡ addRefusalOf m (length t) (length work) tag p day
     unfolding addRefusal addRefusalOf
     add-refusal lendable tag p day =
-        stopped (changeRefusal (length work) t) _ _ (itemRefusal m tag p day) (change-refusal lendable) (λ e. item-alike (changeable lendable e) tag p day)
+        stopped (changeRefusal (length work) t) _ _ (itemRefusal m tag p day) (change-refusal (length work) lendable) (λ e. item-alike (changeable lendable e) tag p day)
 
     pub remove-refusal : Lendable t m → (tag : ℕ) → removeRefusal t work tag ≡ removeRefusalOf m (length t) (length work) tag
     unfolding removeRefusal removeRefusalOf
     remove-refusal lendable tag =
-        stopped (changeRefusal (length work) t) _ _ (tagRefusal m tag) (change-refusal lendable) (λ e. tag-alike (changeable lendable e) tag)
+        stopped (changeRefusal (length work) t) _ _ (tagRefusal m tag) (change-refusal (length work) lendable) (λ e. tag-alike (changeable lendable e) tag)
 
   module _ (lendable : Lendable t m) where
     pub look-up-refusal : (tag : ℕ) → lookUpRefusal t tag ≡ askRefusal m (lookUp tag) (length t) tt

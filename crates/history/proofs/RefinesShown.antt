@@ -1,6 +1,6 @@
 -- At every call a table that matches the model, or is too short for its order, shows what the model shows: refusal, profile and day, number found, entries, a herd
--- list's line and number added, dues and their total. Each call by its refusal, which is the model's; an accepted look up has found the item, an accepted search shows
--- its entries and no zeros, accepted dues are of the model's own weights, and a herd list goes as the model's.
+-- list's line and number added, dues and their total, a drafting's summary and listing. Each call by its refusal, which is the model's; an accepted look up has found the item, an accepted search shows
+-- its entries and no zeros, accepted dues are of the model's own weights, an accepted drafting tells the lots of the model's own items, and a herd list goes as the model's.
 use Prim.Native.Nat.{ℕ, zero, suc, _-_}
 use mathlib.Core.Path.{_≡_, refl, sym, _∙_, ap, ap₂}
 use mathlib.Core.Bool.{Bool, true, false}
@@ -30,16 +30,17 @@ use Rattle.dues_rules.specs.Listed.{weightsAt, duesOf, totalOf, duesRefusal, du
 use Rattle.dues_rules.proofs.Replies.{paid-each, refused, accepted}
 use Rattle.call_rules.specs.Calls.{Change, changeReply, Ask, AskAreas, askReply, areasAnswered, Call, Areas, replyTo, areasAfter}
 use Rattle.call_rules.specs.Calls.Change.{add, remove, readList}
-use Rattle.call_rules.specs.Calls.Ask.{lookUp, range, nearest, dues, rangeBatch}
+use Rattle.call_rules.specs.Calls.Ask.{lookUp, range, nearest, dues, rangeBatch, lots}
 use Rattle.call_rules.specs.Calls.Call.{begin, change, ask, write}
 use Rattle.history.specs.Trace.{Shown, zeroed, shows, changeShown, duesIn, askShown, shown}
 use Rattle.history.specs.Trace.Payload.{bare, aWeighing, someEntries, aListRead, someDues}
-use Rattle.history.specs.Model.{Item, itemOf, Model, AskLengths, askLengths, lengthsOf, withTag, isIn, weighedIn, modelRange, modelNearest, weightsIn, canRead, tagRefusal, questionRefusal, askRefusal, found, paid, answerTo, showsUnless, beginAnswer, changeAnswer, answer, modelRanges, foundEach}
+use Rattle.history.specs.Model.{Item, itemOf, Model, AskLengths, askLengths, lengthsOf, withTag, isIn, weighedIn, modelRange, modelNearest, weightsIn, canRead, tagRefusal, questionRefusal, askRefusal, found, paid, answerTo, showsUnless, beginAnswer, changeAnswer, answer, modelRanges, foundEach, modelSummaries, modelListing}
 use Rattle.history.specs.History.{IsChange, IsCall}
 use Rattle.history.proofs.RefinesFinding.{rowFound}
 use Rattle.history.proofs.RefinesItems.{Matches, range-alike, nearest-alike, found-items, weights-alike, ranges-alike}
 use Rattle.history.proofs.RefinesRefusals.{Lendable, readable, long-accepts, add-refusal, remove-refusal, look-up-refusal, range-refusal, nearest-refusal, dues-refusal, batch-refusal}
 use Rattle.history.proofs.RefinesBatch.{batch-shows}
+use Rattle.history.proofs.RefinesLots.{shows-draft, lots-refusal, summaries-alike, listing-alike}
 use Rattle.history.proofs.RefinesReading.{reads, reads-alike}
 
 -- a search shows its entries where it is accepted
@@ -166,6 +167,10 @@ module _ (m : Model) (t : Table) (lendable : Lendable t m) where
       let same = batch-refusal m t lendable queries result in
       batch-shows t result queries (batchRefusal t result queries) refl (modelRanges m queries) (λ z. ranges-alike (accepted-ask (rangeBatch queries) (length result) (sym same ∙ z)) queries)
       ∙ ap (λ (n : ℕ). showsUnless n (foundEach (modelRanges m queries))) same
+  ask-shown (lots radii chosen) areas =
+      let lengths = askLengths (lots radii chosen) areas in
+      shows-draft t radii chosen areas (modelSummaries m radii) (modelListing m radii chosen) (askRefusal m (lots radii chosen) (length t) lengths) (lots-refusal m t lendable radii chosen areas)
+      (λ e. let ok = accepted-ask (lots radii chosen) lengths e in (summaries-alike ok radii, listing-alike ok radii chosen))
 
   -- what each call shows; a call that begins a table reads nothing of it but its length
   pub shown-alike : (c : Call) → IsCall c → (areas : Areas c) → shown c (replyTo c t areas) (areasAfter c t areas) ≡ answer m c (length t) (lengthsOf c areas) .shows

@@ -1,5 +1,5 @@
 -- Every refusal number of RULES 14.1 at least once, with what the areas then hold: a refusal replies its number and zeros, but for a load's slot, and leaves every area
--- as it was, but 6 on range and nearest leaves the result area all zero. Each is a run that antt computes.
+-- as it was, but 6 on range and nearest leaves the result area all zero, and 6 on lots the summary and the listing. Each is a run that antt computes.
 use Prim.Native.Nat.{ℕ, _+_, _-_, _^_}
 use mathlib.Core.Path.{_≡_, refl}
 use mathlib.Core.List.{List, [], _∷_, _++_, map}
@@ -10,10 +10,10 @@ use Rattle.metric_rules.specs.Row.{rowWidth, zeroRow, rowOf, withMark}
 use Rattle.table_rules.specs.Geometry.{firstSlot}
 use Rattle.table_rules.specs.Table.{Table, rowAt, pairRow, putSizes}
 use Rattle.table_rules.specs.LookUp.{notFound, lookUpReply}
-use Rattle.call_rules.specs.Calls.{Call, Areas}
+use Rattle.call_rules.specs.Calls.{Call, Areas, draftAreas}
 use Rattle.history.proofs.Computing.{performed}
 use Rattle.history.proofs.Imaged.{deadImage}
-use Rattle.history.proofs.Running.{fresh, load, restore, write, save, add, remove, readList, lookUp, range, nearest, dues, weighing, by, tag, valued, areasFor, areaRows, replyNumbers, listOf, itemLine, table}
+use Rattle.history.proofs.Running.{fresh, load, restore, write, save, add, remove, readList, lookUp, range, nearest, dues, lots, weighing, by, tag, valued, areasFor, areaRows, replyNumbers, listOf, itemLine, table}
 
 -- the table of the four items, written out, so that no try works it out again; and that it is theirs
 laid : Table
@@ -206,6 +206,13 @@ tries =
     ∷ record { call = dues (tag 2 ∷ tag 1 ∷ []); table = weighing1 (negsuc 0); areas = 4 ∷ [] }
     ∷ on (weighing1 (negsuc (2 ^ 31 - 1))) (dues (tag 1 ∷ []))
     ∷ record { call = dues (tag 1 ∷ tag 2 ∷ []); table = weighing1 (pos 0); areas = 4 ∷ [] }
+    ∷ on [] (lots [] 0)
+    ∷ on (headed 2 3) (lots [] 0)
+    ∷ on (take 10 laid) (lots [] 0)
+    ∷ record { call = lots [] 0; table = weighted 1 101; areas = draftAreas (replicate 3 (9 ∷ 9 ∷ [])) [] [] }
+    ∷ record { call = lots [] 0; table = weighted 1 101; areas = draftAreas (replicate 4 (9 ∷ 9 ∷ [])) [] [] }
+    ∷ on misMarked (lots [] 0)
+    ∷ record { call = lots [] 0; table = laid; areas = draftAreas (replicate 4 (9 ∷ 9 ∷ [])) [] [] }
     ∷ []
 
 -- in the order of the tries: the first number that applies
@@ -300,6 +307,13 @@ expected =
     ∷ noDues 39
     ∷ noDues 39
     ∷ noDues 6
+    ∷ number 23
+    ∷ number 24
+    ∷ number 23
+    ∷ number 23
+    ∷ number 24
+    ∷ number 24
+    ∷ number 41
     ∷ []
 
 unchanged : outcomes tries ≡ refusals expected tries
@@ -334,3 +348,35 @@ paying :
     ∷ []
 unfolding outcomes on weighing1
 paying = refl
+
+-- the same with tag 1 in two slots, which only a foreign table holds, and the lots of a radius of 2: equal tags go by slot, so that the first leads a lot of its own and the
+-- second another. The work area is zero in its first four entries, and summary and listing past theirs
+twins : Table
+unfolding firstSlot rowOf tag valued laid
+twins = set laid (firstSlot 2 2 + 1) (rowOf (tag 1) (valued 13) 0 0 1)
+
+drafting :
+    outcomes (record { call = lots (2 ∷ []) 1; table = twins; areas = draftAreas (replicate 5 (9 ∷ 9 ∷ [])) (replicate 2 (3 ∷ 3 ∷ [])) (replicate 5 (8 ∷ 8 ∷ [])) } ∷ [])
+    ≡ record {
+      reply = number 0;
+      table = twins;
+      areas = replicate 4 (0 ∷ 0 ∷ [])
+          ++ ((9 ∷ 9 ∷ []) ∷ (3 ∷ 2 ∷ []) ∷ (0 ∷ 0 ∷ []) ∷ (tag 1 ∷ 1 ∷ []) ∷ (tag 1 ∷ 2 ∷ []) ∷ (tag 3 ∷ 2 ∷ []) ∷ (tag 4 ∷ 3 ∷ []) ∷ (0 ∷ 0 ∷ []) ∷ []);
+    }
+    ∷ []
+unfolding outcomes twins tag number
+drafting = refl
+
+-- 6 on a drafting, for the summary and for the listing: both are zero, and the work area is kept
+undrafted : List (List ℕ) → Left
+unfolding laid number
+undrafted areas = record { reply = number 6; table = laid; areas = replicate 4 (9 ∷ 9 ∷ []) ++ areas }
+
+draftsShort :
+    outcomes
+    (record { call = lots (2 ∷ 2 ∷ []) 1; table = laid; areas = draftAreas (replicate 4 (9 ∷ 9 ∷ [])) (replicate 1 (3 ∷ 3 ∷ [])) (replicate 4 (8 ∷ 8 ∷ [])) }
+    ∷ record { call = lots (2 ∷ []) 1; table = laid; areas = draftAreas (replicate 4 (9 ∷ 9 ∷ [])) (replicate 1 (3 ∷ 3 ∷ [])) (replicate 3 (8 ∷ 8 ∷ [])) }
+    ∷ [])
+    ≡ undrafted (replicate 5 (0 ∷ 0 ∷ [])) ∷ undrafted (replicate 4 (0 ∷ 0 ∷ [])) ∷ []
+unfolding outcomes undrafted
+draftsShort = refl

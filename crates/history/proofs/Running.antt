@@ -73,6 +73,9 @@ dues tags = ask (Ask.dues tags)
 abbrev pub rangeBatch : List Row → Call
 rangeBatch queries = ask (Ask.rangeBatch queries)
 
+abbrev pub lots : List ℕ → ℕ → Call
+lots radii chosen = ask (Ask.lots radii chosen)
+
 -- a table area for order 3; and areas of n rows, entries, bytes or numbers for a call. All hold other content before
 unfoldable pub scratch : Table
 scratch = replicate 21 (replicate rowWidth 6)
@@ -83,6 +86,7 @@ askAreas n (Ask.range q r firstDay) = replicate n (8 ∷ 8 ∷ [])
 askAreas n (Ask.nearest q k firstDay) = replicate n (8 ∷ 8 ∷ [])
 askAreas n (Ask.dues tags) = replicate n 4
 askAreas n (Ask.rangeBatch queries) = replicate n (8 ∷ 8 ∷ [])
+askAreas n (Ask.lots radii chosen) = record { work = replicate n (9 ∷ 9 ∷ []); summary = replicate n (3 ∷ 3 ∷ []); listing = replicate n (8 ∷ 8 ∷ []) }
 
 unfoldable pub areasFor : ℕ → (c : Call) → Areas c
 unfolding askAreas
@@ -98,6 +102,7 @@ askRows (Ask.range q r firstDay) result = result
 askRows (Ask.nearest q k firstDay) result = result
 askRows (Ask.dues tags) area = area ∷ []
 askRows (Ask.rangeBatch queries) result = result
+askRows (Ask.lots radii chosen) areas = areas .work ++ areas .summary ++ areas .listing
 
 unfoldable pub areaRows : (c : Call) → Areas c → List (List ℕ)
 unfolding askRows
@@ -124,6 +129,7 @@ askNumbers (Ask.range q r firstDay) s result = s .refusal ∷ s .found ∷ s .di
 askNumbers (Ask.nearest q k firstDay) s result = s .refusal ∷ s .found ∷ s .distances ∷ flatten (take (s .found) result)
 askNumbers (Ask.dues tags) d area = d .refusal ∷ d .total ∷ []
 askNumbers (Ask.rangeBatch queries) r result = r .refusal ∷ r .distances ∷ r .found ++ flatten result
+askNumbers (Ask.lots radii chosen) n areas = n ∷ []
 
 unfoldable pub replyNumbers : (c : Call) → Reply c → Areas c → List ℕ
 unfolding beginNumbers changeNumbers askNumbers

@@ -12,7 +12,9 @@ use Rattle.table_rules.specs.Search.{bucketsDown}
 use Rattle.image_rules.proofs.Accepting.{trees-decide}
 use Rattle.image_rules.proofs.Translating.{translates}
 use Rattle.batch_rules.proofs.Counts.{batch-count-sum, batch-count-one}
-use Rattle.history.specs.Demands.{CountsVisits, CountsTogether, KeepsEnough, AnswersAscend, AnyDistance, EachMetric, WeightsOne, EveryList, EveryReport, WrittenLoads, SavedRestores, OlderTranslates, AcceptsTrees}
+use Rattle.lots_rules.proofs.Claims.{lots-of, drafts-lots, one-lot-each, one-lot-of-all}
+use Rattle.history.specs.Model.{betweenItems, modelLots}
+use Rattle.history.specs.Demands.{CountsVisits, CountsTogether, KeepsEnough, AnswersAscend, AnyDistance, EachMetric, WeightsOne, LotsHold, RadiiExtreme, EveryList, EveryReport, WrittenLoads, SavedRestores, OlderTranslates, AcceptsTrees}
 use Rattle.history.proofs.AnyDistance.{tree-facts}
 use Rattle.history.proofs.RefinesTable.{reported-slots}
 use Rattle.history.proofs.RefinesHistory.{history-traces, history-matches, history-represents}
@@ -51,6 +53,13 @@ each-metric = distance-metric
 pub weights-one : WeightsOne
 unfolding distance
 weights-one p q = (ones-sum p q, ones-worst p q, worst-exact p q, λ weights. refl)
+
+pub lots-hold : LotsHold
+unfolding modelLots
+lots-hold radius = ((λ t. drafts-lots t radius), (λ m. lots-of (betweenItems m) radius (λ i. i .tag) (m .items)))
+
+pub radii-extreme : RadiiExtreme
+radii-extreme t = (one-lot-each t, one-lot-of-all t)
 
 pub every-list : EveryList
 every-list h = record { traces = history-traces h; represents = history-represents h; bound = history-bound h }

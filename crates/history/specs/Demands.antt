@@ -32,7 +32,8 @@ use Rattle.state_rules.specs.Parts.{validName, lengthBytes, partBytes}
 use Rattle.call_rules.specs.Calls.{beginReply, tableBegun}
 use Rattle.call_rules.specs.Calls.Begin.{fresh, load}
 use Rattle.batch_rules.specs.Batch.{singleAnswer, batchCount}
-use Rattle.history.specs.Model.{Model, itemOf, modelRange, modelNearest}
+use Rattle.lots_rules.specs.Claims.{Lots, DraftsLots, OneEach, OneLot}
+use Rattle.history.specs.Model.{Model, itemOf, modelRange, modelNearest, betweenItems, modelLots}
 use Rattle.history.specs.Trace.{overlaid, stateAfter}
 use Rattle.history.specs.History.{before, opening, History, finalState, finalModel}
 use Rattle.history.specs.Images.{imageSize, LoadsBack, GivesBack, RestoresBack, KeepsStates}
@@ -101,6 +102,18 @@ WeightsOne =
     × (distance (record { metric = 2; weights = weightsOne }) p q ≡ saturated (largest (gap p q)))
     × (IsProfile p → IsProfile q → distance (record { metric = 2; weights = weightsOne }) p q ≡ largest (gap p q))
     × ((weights : Weights) → distance (record { metric = 1; weights = weights }) p q ≡ codeDistance p q)
+
+-- RULES 21.9: what "the lots" are, for every table, foreign ones too, for every model and by every radius. Every live item is in exactly one lot, and the sizes add up to the
+-- live items; each item is within the radius of its lot's leader, whose tag is the lowest there; no item of a later lot, so no later leader, is within the radius of an
+-- earlier leader; the largest is the largest of the sizes; and the listing stands by lot, then tag (`Lots`).
+-- Theorem: `lots-hold`
+abbrev pub LotsHold : Type 0
+LotsHold = (radius : ℕ) → ((t : Table) → DraftsLots t radius) × ((m : Model) → Lots (betweenItems m) radius (λ i. i .tag) (m .items) (modelLots m radius))
+
+-- RULES 21.9: by radius 0 items at a positive distance from each other are a lot each; by the largest radius, 4,294,967,295, all are one lot, where there are any.
+-- Theorem: `radii-extreme`
+abbrev pub RadiiExtreme : Type 0
+RadiiExtreme = (t : Table) → OneEach t × OneLot t
 
 -- Demands 2 and 3, one claim over every list of calls on one table, refused ones and herd lists read too, that an accepted fresh, load or restore began (`History`):
 -- at each call table and reference model show the same; after the list the table is a valid one of the published method (which buckets a call builds is

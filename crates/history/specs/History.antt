@@ -9,7 +9,7 @@ use Rattle.table_rules.specs.Table.{Table}
 use Rattle.call_rules.specs.Calls.{Begin, Change, Ask, Write, Call}
 use Rattle.call_rules.specs.Calls.Begin.{fresh, load, restore}
 use Rattle.call_rules.specs.Calls.Change.{add, remove, readList}
-use Rattle.call_rules.specs.Calls.Ask.{lookUp, range, nearest, dues, rangeBatch}
+use Rattle.call_rules.specs.Calls.Ask.{lookUp, range, nearest, dues, rangeBatch, lots}
 use Rattle.call_rules.specs.Calls.Call.{begin, change, ask, write}
 use Rattle.history.specs.Trace.{Step, State, noSums, shownAt, stateAfterAll}
 use Rattle.history.specs.Model.{Model, modelAfterAll}
@@ -31,6 +31,7 @@ IsAsk (range q r firstDay) = IsProfile q × (r < 2 ^ 32) × (firstDay < 2 ^ 16)
 IsAsk (nearest q k firstDay) = IsProfile q × (k < 2 ^ 32) × (firstDay < 2 ^ 16)
 IsAsk (dues tags) = All (λ tag. tag < 2 ^ 64) tags
 IsAsk (rangeBatch queries) = All IsRow queries
+IsAsk (lots radii chosen) = All (λ r. r < 2 ^ 32) radii × (chosen < 2 ^ 32)
 
 abbrev pub IsWrite : Write → Type 0
 IsWrite Write.image = Unit {0}

@@ -24,14 +24,16 @@ use Rattle.list_rules.specs.Lines.{ListLine, hasHeader, itemLines}
 use Rattle.list_rules.specs.Lines.ListLine.{anItem, malformed}
 use Rattle.list_rules.specs.ReadList.{badListHeader, badListLine}
 use Rattle.dues_rules.specs.Listed.{weightsRefusal, duesOf}
+use Rattle.batch_rules.specs.Batch.{mostQueries, firstDayOf, queriesRefusal}
+use Rattle.lots_rules.specs.Lots.{Summary, byTag, lots, summaryOf, listingOf}
+use Rattle.lots_rules.specs.Drafting.{badRadii, radiiPass, chosenRadius}
 use Rattle.call_rules.specs.Calls.{Begin, beginReply, Change, Ask, AskAreas, Call, Areas}
 use Rattle.call_rules.specs.Calls.Begin.{fresh, load, restore}
 use Rattle.call_rules.specs.Calls.Change.{add, remove, readList}
 use Rattle.call_rules.specs.Calls.Ask.{lookUp, range, nearest, dues, rangeBatch}
 use Rattle.call_rules.specs.Calls.Call.{begin, change, ask, write}
 use Rattle.history.specs.Trace.{Step, Payload, Shown, zeroed, shows, beginShown}
-use Rattle.history.specs.Trace.Payload.{bare, aWeighing, someEntries, aListRead, someDues, someLists}
-use Rattle.batch_rules.specs.Batch.{mostQueries, firstDayOf, queriesRefusal}
+use Rattle.history.specs.Trace.Payload.{bare, aWeighing, someEntries, aListRead, someDues, someLists, aDraft}
 
 -- RULES 2.7: an item as handed over; and the item of a slot's row
 pub record Item : Type 0 where
@@ -48,13 +50,19 @@ pub record Model : Type 0 where
   pub space : Space
   pub items : List Item
 
--- of the areas lent to a call it is told the lengths alone
+-- of the areas lent to a call it is told the lengths alone; of a drafting those of the work area, of the summary and of the listing
+pub record DraftLengths : Type 0 where
+  pub work : ℕ
+  pub summary : ℕ
+  pub listing : ℕ
+
 abbrev pub AskLengths : Ask → Type 0
 AskLengths (lookUp tag) = Unit {0}
 AskLengths (range q r firstDay) = ℕ
 AskLengths (nearest q k firstDay) = ℕ
 AskLengths (dues tags) = ℕ
 AskLengths (rangeBatch queries) = ℕ
+AskLengths (Ask.lots radii chosen) = DraftLengths
 
 abbrev pub askLengths : (q : Ask) → AskAreas q → AskLengths q
 askLengths (lookUp tag) none = tt
@@ -62,6 +70,7 @@ askLengths (range q r firstDay) result = length result
 askLengths (nearest q k firstDay) result = length result
 askLengths (dues tags) area = length area
 askLengths (rangeBatch queries) result = length result
+askLengths (Ask.lots radii chosen) areas = record { work = length (areas .work); summary = length (areas .summary); listing = length (areas .listing) }
 
 abbrev pub Lengths : Call → Type 0
 Lengths (begin b) = Unit {0}
@@ -115,6 +124,19 @@ weightsIn m tags = map (λ tag. weightOf (withTag tag (m .items))) tags
 unfoldable pub modelRanges : Model → List Row → List (List Entry)
 modelRanges m queries = map (λ query. modelRange m (profileOf query) (thresholdOf query) (firstDayOf query)) queries
 
+-- RULES 16.7: its own items by tag, drafted by the distance of its metric and weights; the summary of each radius, and the listing of the chosen one
+abbrev pub betweenItems : Model → Item → Item → ℕ
+betweenItems m a b = distance (m .space) (a .profile) (b .profile)
+
+unfoldable pub modelLots : Model → ℕ → List (List Item)
+modelLots m radius = lots (betweenItems m) radius (byTag (λ i. i .tag) (m .items))
+
+unfoldable pub modelSummaries : Model → List ℕ → List Summary
+modelSummaries m radii = map (λ r. summaryOf (modelLots m r)) radii
+
+unfoldable pub modelListing : Model → List ℕ → ℕ → List Entry
+modelListing m radii chosen = listingOf (λ i. i .tag) (modelLots m (chosenRadius radii chosen))
+
 -- a table area of so many rows, and in add and remove a work area, are long enough; else 23
 unfoldable pub canRead : Model → ℕ → Bool
 canRead m rows = leb (tableRows (m .order)) rows
@@ -147,7 +169,8 @@ removeRefusalOf m rows work tag = unless (canChange m rows work) shortArea (tagR
 unfoldable pub fits : ℕ → List Entry → ℕ
 fits area entries = unless (leb (length entries) area) noRoom 0
 
--- the questions, after 23: look up 1, 21; range 2, 6; nearest 2, 5, 6; dues 21, 39, 6, by the weights of its own items; a batch 40, 2, 6
+-- the questions, after 23: look up 1, 21; range 2, 6; nearest 2, 5, 6; dues 21, 39, 6, by the weights of its own items; a batch 40, 2, 6; lots 23 for the
+-- work area, 41, 6
 unfoldable pub questionRefusal : Model → (q : Ask) → AskLengths q → ℕ
 questionRefusal m (lookUp tag) none = tagRefusal m tag
 questionRefusal m (range q r firstDay) area =
@@ -161,6 +184,11 @@ questionRefusal m (dues tags) area = weightsRefusal (weightsIn m tags) area
 questionRefusal m (rangeBatch queries) area =
     orElse (queriesRefusal queries)
     (unless (every (λ entries. leb (length entries) (area / length queries)) (modelRanges m queries)) noRoom 0)
+questionRefusal m (Ask.lots radii chosen) n =
+    unless (leb (workRows (m .order)) (n .work)) shortArea
+    (unless (radiiPass radii chosen) badRadii
+    (unless (leb (length radii) (n .summary) && leb (length (m .items)) (n .listing)) noRoom
+    0))
 
 unfoldable pub askRefusal : Model → (q : Ask) → ℕ → AskLengths q → ℕ
 askRefusal m q rows n = unless (canRead m rows) shortArea (questionRefusal m q n)
@@ -182,6 +210,7 @@ answerTo m (range q r firstDay) = found (modelRange m q r firstDay)
 answerTo m (nearest q k firstDay) = found (modelNearest m q k firstDay)
 answerTo m (dues tags) = paid (duesOf (weightsIn m tags))
 answerTo m (rangeBatch queries) = foundEach (modelRanges m queries)
+answerTo m (Ask.lots radii chosen) = aDraft (modelSummaries m radii) (modelListing m radii chosen)
 
 unfoldable pub showsUnless : ℕ → Payload → Shown
 showsUnless zero payload = shows 0 payload

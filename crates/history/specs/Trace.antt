@@ -1,19 +1,23 @@
 -- RULES 17.2, 17.6, 17.7, a list of calls on one table: what each shows, and the table with its sums between calls.
 use Prim.Native.Nat.{ℕ, zero, suc, _+_, _-_}
+use mathlib.Core.Bool.{not}
 use mathlib.Core.List.{List, [], _∷_, _++_}
+use lib.Dec.{eqb}
 use lib.ListN.{length, take, drop, replicate}
+use Rattle.lists.specs.Lists.{select}
 use Rattle.metric_rules.specs.declared.Profile.{Profile}
-use Rattle.search_rules.specs.Range.{Entry}
+use Rattle.search_rules.specs.Range.{Entry, entryDistance}
 use Rattle.table_rules.specs.Table.{Table}
 use Rattle.table_rules.specs.LookUp.{noProfile}
 use Rattle.image_rules.specs.Read.{slotsIn}
 use Rattle.image_rules.specs.Load.{liveRows}
 use Rattle.state_rules.specs.Parts.{partOf, savedImage}
 use Rattle.batch_rules.specs.Batch.{mostQueries, partSize}
-use Rattle.call_rules.specs.Calls.{Begin, BeginReply, Change, ChangeReply, Ask, AskAreas, AskReply, Call, Areas, Reply, replyTo, tableAfter, areasAfter}
+use Rattle.lots_rules.specs.Lots.{Summary}
+use Rattle.call_rules.specs.Calls.{Begin, BeginReply, Change, ChangeReply, DraftAreas, Ask, AskAreas, AskReply, Call, Areas, Reply, replyTo, tableAfter, areasAfter}
 use Rattle.call_rules.specs.Calls.Begin.{fresh, load, restore}
 use Rattle.call_rules.specs.Calls.Change.{add, remove, readList}
-use Rattle.call_rules.specs.Calls.Ask.{lookUp, range, nearest, dues, rangeBatch}
+use Rattle.call_rules.specs.Calls.Ask.{lookUp, range, nearest, dues, rangeBatch, lots}
 use Rattle.call_rules.specs.Calls.Call.{begin, change, ask, write}
 
 -- RULES 17.2, one call of a list: each may be lent other areas of any length and content
@@ -31,7 +35,7 @@ unfoldable pub leftBy : Table → Table → Table
 leftBy left area = area ++ drop (length area) left
 
 -- RULES 17.6: what a call shows besides its refusal, by kind: a load's slot, look up's profile and day, the number found and the entries, a herd list's line and the
--- number added, the total of some dues and what each tag pays
+-- number added, the total of some dues and what each tag pays, a drafting's summary and its listing
 pub data Payload : Type 0 where
   bare : Payload
   aSlot : (slot : ℕ) → Payload
@@ -40,6 +44,7 @@ pub data Payload : Type 0 where
   someLists : (found : List ℕ) → List Entry → Payload
   aListRead : (line added : ℕ) → Payload
   someDues : (total : ℕ) → List ℕ → Payload
+  aDraft : (summary : List Summary) (listing : List Entry) → Payload
 
 -- the zeros that a refusal has in its place
 unfoldable pub zeroed : Payload → Payload
@@ -50,6 +55,7 @@ zeroed (someEntries found entries) = someEntries 0 []
 zeroed (someLists found entries) = someLists (replicate mostQueries 0) []
 zeroed (aListRead line added) = aListRead 0 0
 zeroed (someDues total each) = someDues 0 []
+zeroed (aDraft summary listing) = aDraft [] []
 
 -- RULES 17.6: what table and model are alike in at a call
 pub record Shown : Type 0 where
@@ -80,12 +86,22 @@ unfoldable pub duesIn : ℕ → List ℕ → List ℕ → List ℕ
 duesIn zero tags area = take (length tags) area
 duesIn (suc n) tags area = []
 
+-- RULES 21.5, 21.6: the summary of each radius, and the entries of the listing that have a lot's number, as an accepted call wrote them: zeros follow both. A refused one
+-- tells nothing
+unfoldable pub draftedIn : List Entry → List Entry
+draftedIn listing = select (λ e. not (eqb (entryDistance e) 0)) listing
+
+unfoldable pub draftIn : ℕ → List ℕ → DraftAreas → Payload
+draftIn zero radii areas = aDraft (take (length radii) (areas .summary)) (draftedIn (areas .listing))
+draftIn (suc n) radii areas = aDraft [] []
+
 unfoldable pub askShown : (q : Ask) → AskReply q → AskAreas q → Shown
 askShown (lookUp tag) l none = shows (l .refusal) (aWeighing (l .profile) (l .day))
 askShown (range q r firstDay) s result = shows (s .refusal) (someEntries (s .found) (take (s .found) result))
 askShown (nearest q k firstDay) s result = shows (s .refusal) (someEntries (s .found) (take (s .found) result))
 askShown (dues tags) d area = shows (d .refusal) (someDues (d .total) (duesIn (d .refusal) tags area))
 askShown (rangeBatch queries) r result = shows (r .refusal) (someLists (r .found) (listedIn (partSize result queries) (r .found) result))
+askShown (lots radii chosen) n areas = shows n (draftIn n radii areas)
 
 -- RULES 17.6: the refusal of a call that writes is excepted
 unfoldable pub shown : (c : Call) → Reply c → Areas c → Shown

@@ -2,7 +2,7 @@
 // the caller. Each contract is its call of crates/call_rules/specs/Calls, the one that the demands' theorems speak of.
 ghost use mathlib.Core.Path.{_≡_};
 ghost use lib.ListN.{length};
-ghost use Rattle.call_rules.specs.Calls.{Ask, beginReply, tableBegun, changeReply, tableChanged, workChanged, askReply, areasAnswered, Write, writtenReply, bytesWritten};
+ghost use Rattle.call_rules.specs.Calls.{draftAreas, Ask, beginReply, tableBegun, changeReply, tableChanged, workChanged, askReply, areasAnswered, Write, writtenReply, bytesWritten};
 ghost use Rattle.call_rules.specs.Calls.Begin.{fresh, load, restore};
 ghost use Rattle.call_rules.specs.Calls.Change.{add, remove, readList};
 ghost use Rattle.call_rules.specs.Calls.Ask.{lookUp, range, nearest, rangeBatch};
@@ -11,6 +11,7 @@ use dues_rules::Dues;
 use image_rules::Loaded;
 use image_rules::Written;
 use list_rules::ListRead;
+use lots_rules::Summary;
 use metric_rules::Profile;
 use metric_rules::Row;
 use metric_rules::Space;
@@ -166,4 +167,22 @@ pub extern "C" fn vpindex_dues(table: &[Row], tags: &[u64], dues: &mut [u32]) ->
     ensures dues { λ _. ⌜ now (dues .exit) ≡ areasAnswered (Ask.dues (now (tags .entry))) (now (table .entry)) (now (dues .entry)) ⌝ }
 {
     table_dues::dues(table, tags, dues)
+}
+
+// The live items drafted into lots by each of some radii: the number of lots and the size of the largest for each, and the lots by the chosen one listed.
+#[no_mangle]
+pub extern "C" fn vpindex_lots(
+    table: &[Row],
+    work: &mut [Entry],
+    radii: &[u32],
+    summary: &mut [Summary],
+    listing: &mut [Entry],
+    chosen: u32,
+) -> u32
+    ensures reply { λ r. ⌜ r ≡ askReply (Ask.lots (now (radii .entry)) chosen) (now (table .entry)) (draftAreas (now (work .entry)) (now (summary .entry)) (now (listing .entry))) ⌝ }
+    ensures work { λ _. ⌜ now (work .exit) ≡ areasAnswered (Ask.lots (now (radii .entry)) chosen) (now (table .entry)) (draftAreas (now (work .entry)) (now (summary .entry)) (now (listing .entry))) .work ⌝ }
+    ensures summary { λ _. ⌜ now (summary .exit) ≡ areasAnswered (Ask.lots (now (radii .entry)) chosen) (now (table .entry)) (draftAreas (now (work .entry)) (now (summary .entry)) (now (listing .entry))) .summary ⌝ }
+    ensures listing { λ _. ⌜ now (listing .exit) ≡ areasAnswered (Ask.lots (now (radii .entry)) chosen) (now (table .entry)) (draftAreas (now (work .entry)) (now (summary .entry)) (now (listing .entry))) .listing ⌝ }
+{
+    table_lots::lots(table, work, radii, summary, listing, chosen)
 }

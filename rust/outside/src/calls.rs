@@ -3,6 +3,7 @@
 use reference::calls as plain;
 use reference::item::{Entry, Item, Profile, Row, Space};
 use reference::list::ListRead;
+use reference::lots::Summary;
 use reference::refusal::Unloaded;
 use vpindex::ffi;
 
@@ -23,6 +24,14 @@ pub struct Areas {
     pub tags: Vec<u64>,
     /// Numbers of the dues area.
     pub dues: Vec<u32>,
+    /// Radii, which a drafting reads.
+    pub radii: Vec<u32>,
+    /// Entries of a drafting's work area.
+    pub draft: Vec<Entry>,
+    /// Entries of its summary.
+    pub summary: Vec<Summary>,
+    /// Entries of its listing.
+    pub listing: Vec<Entry>,
 }
 
 /// The same as slices.
@@ -33,13 +42,17 @@ pub struct Lent<'a> {
     bytes: &'a mut [u8],
     tags: &'a [u64],
     dues: &'a mut [u32],
+    radii: &'a [u32],
+    draft: &'a mut [Entry],
+    summary: &'a mut [Summary],
+    listing: &'a mut [Entry],
 }
 
 impl Areas {
     /// All of them, lent.
     pub fn lent(&mut self) -> Lent<'_> {
-        let Areas { table, work, result, bytes, tags, dues } = self;
-        Lent { table, work, result, bytes, tags, dues }
+        let Areas { table, work, result, bytes, tags, dues, radii, draft, summary, listing } = self;
+        Lent { table, work, result, bytes, tags, dues, radii, draft, summary, listing }
     }
 }
 
@@ -60,6 +73,7 @@ pub enum Call {
     Save { name: u32 },
     Restore { name: u32 },
     Dues,
+    Lots { chosen: u32 },
 }
 
 /// What a call returned; fields that it has not are zero.
@@ -98,7 +112,7 @@ fn loaded(result: Result<(), Unloaded>) -> Reply {
 
 /// The call by the reference.
 pub fn by_reference(call: &Call, areas: &mut Areas) -> Reply {
-    let Areas { table, work, result, bytes, tags, dues } = areas;
+    let Areas { table, work, result, bytes, tags, dues, radii, draft, summary, listing } = areas;
     let nothing = |()| Reply::default();
     match *call {
         Call::Fresh { order, space } => accepted(plain::fresh(table, order, space), nothing),
@@ -129,6 +143,7 @@ pub fn by_reference(call: &Call, areas: &mut Areas) -> Reply {
         Call::Save { name } => accepted(plain::save(table, bytes, name), |length| Reply { length, ..Reply::default() }),
         Call::Restore { name } => loaded(plain::restore(table, bytes, name)),
         Call::Dues => accepted(plain::dues(table, tags, dues), |total| Reply { total, ..Reply::default() }),
+        Call::Lots { chosen } => accepted(plain::lots(table, draft, radii, summary, listing, chosen), nothing),
     }
 }
 
@@ -163,7 +178,7 @@ fn batch_by_archive(table: &[Row], result: &mut [Entry], queries: &[Row]) -> Rep
 
 /// The call by the archive, on areas as they are.
 pub fn by_archive(call: &Call, areas: Lent<'_>) -> Reply {
-    let Lent { table, work, result, bytes, tags, dues } = areas;
+    let Lent { table, work, result, bytes, tags, dues, radii, draft, summary, listing } = areas;
     match *call {
         Call::Fresh { order, space } => {
             let weights = ffi::Weights { each: space.weights };
@@ -198,6 +213,9 @@ pub fn by_archive(call: &Call, areas: Lent<'_>) -> Reply {
         Call::Dues => {
             let ffi::Dues { refusal, total } = ffi::dues(table, tags, dues);
             Reply { refusal, total, ..Reply::default() }
+        }
+        Call::Lots { chosen } => {
+            Reply { refusal: ffi::lots(table, draft, radii, summary, listing, chosen), ..Reply::default() }
         }
     }
 }
@@ -238,6 +256,10 @@ pub fn by_archive_guarded(call: &Call, areas: &mut Areas, random: &mut Random) -
     let mut bytes = Guarded::new(&areas.bytes, random, |word| word as u8);
     let mut tags = Guarded::new(&areas.tags, random, |word| word);
     let mut dues = Guarded::new(&areas.dues, random, |word| word as u32);
+    let mut radii = Guarded::new(&areas.radii, random, |word| word as u32);
+    let mut draft = Guarded::new(areas.draft.as_flattened(), random, |word| word);
+    let mut summary = Guarded::new(areas.summary.as_flattened(), random, |word| word as u32);
+    let mut listing = Guarded::new(areas.listing.as_flattened(), random, |word| word);
     let lent = Lent {
         table: table.lent().as_chunks_mut().0,
         work: work.lent().as_chunks_mut().0,
@@ -245,6 +267,10 @@ pub fn by_archive_guarded(call: &Call, areas: &mut Areas, random: &mut Random) -
         bytes: bytes.lent(),
         tags: tags.lent(),
         dues: dues.lent(),
+        radii: radii.lent(),
+        draft: draft.lent().as_chunks_mut().0,
+        summary: summary.lent().as_chunks_mut().0,
+        listing: listing.lent().as_chunks_mut().0,
     };
     let reply = by_archive(call, lent);
     *areas = Areas {
@@ -254,6 +280,10 @@ pub fn by_archive_guarded(call: &Call, areas: &mut Areas, random: &mut Random) -
         bytes: bytes.back(),
         tags: tags.back(),
         dues: dues.back(),
+        radii: radii.back(),
+        draft: draft.back().as_chunks().0.to_vec(),
+        summary: summary.back().as_chunks().0.to_vec(),
+        listing: listing.back().as_chunks().0.to_vec(),
     };
     reply
 }
@@ -271,6 +301,10 @@ pub fn compare(call: &Call, areas: &mut Areas, random: &mut Random) -> Reply {
     same("bytes", call, &areas.bytes, &expected.bytes);
     same("tags", call, &areas.tags, &expected.tags);
     same("dues area", call, &areas.dues, &expected.dues);
+    same("radii", call, &areas.radii, &expected.radii);
+    same("work area of entries", call, &areas.draft, &expected.draft);
+    same("summary", call, &areas.summary, &expected.summary);
+    same("listing", call, &areas.listing, &expected.listing);
     reply
 }
 

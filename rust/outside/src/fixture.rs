@@ -34,6 +34,10 @@ impl Fixture {
             bytes: vec![1; 4096],
             tags: vec![],
             dues: vec![],
+            radii: vec![],
+            draft: vec![[1; 2]; capacity(order)],
+            summary: vec![],
+            listing: vec![[1; 2]; capacity(order)],
         };
         Fixture { areas, random: Random::new(11) }
     }

@@ -6,6 +6,7 @@ use reference::dues::total;
 use reference::image::is_sound;
 use reference::item::{Entry, Item, Row, Slot, Space};
 use reference::list::ListRead;
+use reference::lots::Draft;
 use reference::refusal::Unloaded;
 use reference::table::{Bucket, Table, capacity};
 use reference::tree::Hit;
@@ -92,7 +93,7 @@ impl History {
         history
     }
 
-    /// One call more, any of the thirteen.
+    /// One call more, any of the fourteen.
     pub fn step(&mut self) {
         let mut areas = lent(&mut self.random, &self.left, self.book.order);
         let call = next(&mut self.random, &mut areas, self.book.order, self.book.space, &self.states);
@@ -135,6 +136,7 @@ impl History {
         let hits = hits_in(&areas.result, reply.found);
         match call {
             Call::Dues => self.check_dues(&areas, &reply),
+            Call::Lots { chosen } => self.check_lots(&areas, *chosen, &reply),
             _ => self.check_shown(call, &areas, lengths, &reply, hits),
         }
         self.sums.note(call, &reply, &areas.table);
@@ -182,7 +184,7 @@ impl History {
                 assert_eq!(got, expected, "table, then book: {call:?}");
                 return;
             }
-            Call::Dues => unreachable!("held to the book by its own areas"),
+            Call::Dues | Call::Lots { .. } => unreachable!("held to the book by their own areas"),
         };
         let shown = Item { tag: 0, profile: reply.profile, day: reply.day };
         let got = if reply.refusal == 0 { Ok((shown, hits)) } else { Err(reply.refusal) };
@@ -196,6 +198,16 @@ impl History {
         let got = if reply.refusal == 0 { Ok(dues) } else { Err(reply.refusal) };
         assert_eq!(got, expected, "table, then book: dues of {:?}", areas.tags);
         assert_eq!(reply.total, expected.map_or(0, |dues| total(&dues)), "the total of {:?}", areas.tags);
+    }
+
+    // In the refusal, the summary and the listing.
+    fn check_lots(&self, areas: &Areas, chosen: u32, reply: &Reply) {
+        let lengths = [areas.draft.len(), areas.summary.len(), areas.listing.len()];
+        let expected = self.book.lots(areas.table.len(), lengths, &areas.radii, chosen);
+        let summary = areas.summary.iter().copied().take(areas.radii.len()).collect();
+        let listing = areas.listing.iter().copied().take_while(|entry| entry[1] != 0).collect();
+        let got = if reply.refusal == 0 { Ok(Draft { summary, listing }) } else { Err(reply.refusal) };
+        assert_eq!(got, expected, "table, then book: lots by {:?}", areas.radii);
     }
 
     // The book's items, each once, are those in the built slots of mark 0; the distances keep within the bound.

@@ -25,7 +25,7 @@ pub struct Tally {
 }
 
 /// The numbers that each call can be refused by, and 0.
-pub const NUMBERS: [(&str, &[u32]); 13] = [
+pub const NUMBERS: [(&str, &[u32]); 14] = [
     ("fresh", &[0, 3, 4, 23, 32]),
     ("load", &[0, 3, 4, 7, 8, 23, 24, 32, 33, 36, 37, 38]),
     ("add", &[0, 1, 2, 20, 22, 23, 24, 33]),
@@ -39,6 +39,7 @@ pub const NUMBERS: [(&str, &[u32]); 13] = [
     ("save", &[0, 6, 23, 24, 34]),
     ("restore", &[0, 3, 4, 7, 8, 23, 24, 32, 33, 34, 35, 36, 37, 38]),
     ("dues", &[0, 6, 21, 23, 24, 39]),
+    ("lots", &[0, 6, 23, 24, 41]),
 ];
 
 impl Tally {
@@ -79,6 +80,7 @@ fn name(call: &Call) -> &'static str {
         Call::Save { .. } => "save",
         Call::Restore { .. } => "restore",
         Call::Dues => "dues",
+        Call::Lots { .. } => "lots",
     }
 }
 
@@ -153,9 +155,9 @@ pub fn lent(random: &mut Random, left: &[Row], order: u32) -> Areas {
     }
 }
 
-/// The next call, with the image, the list or the states that it reads or the bytes or dues that it writes to.
+/// The next call, with the image, the list or the states that it reads or the bytes, dues or lots that it writes to.
 pub fn next(random: &mut Random, areas: &mut Areas, order: u32, space: Space, states: &[u8]) -> Call {
-    match random.below(51) {
+    match random.below(54) {
         0 => fresh(random, order, space.metric),
         1..4 => load(random, areas, order, space),
         4 | 5 => write(random, areas, order),
@@ -171,6 +173,7 @@ pub fn next(random: &mut Random, areas: &mut Areas, order: u32, space: Space, st
         33..38 => restore(random, areas, order, space, states),
         38..41 => dues(random, areas, order),
         41..46 => range_batch(random, areas, order),
+        46..49 => lots(random, areas, order),
         _ => {
             let (query, first_day) = (query(random, areas, order), random.first_day());
             Call::Nearest { query, k: count(random, order), first_day }
@@ -214,6 +217,28 @@ fn payers(rows: &[Row]) -> Vec<u64> {
     let Ok(table) = Table::open(rows, |_| true) else { return vec![] };
     let live = table.buckets.iter().flat_map(Bucket::live_items);
     live.filter(|slot| slot.profile.measures[0] >= 0).map(|slot| slot.tag).collect()
+}
+
+// Mostly by few radii, now and then by none, as many as there may be or one more; often one of them twice.
+fn lots(random: &mut Random, areas: &mut Areas, order: u32) -> Call {
+    let count = match random.below(12) {
+        0 => random.pick(&[0, 33, 40]),
+        1 if order < 6 => 32,
+        _ => 1 + random.below(3),
+    };
+    areas.radii = random.fill(count, Random::reach);
+    if count > 1 && random.one_in(2) {
+        areas.radii[count - 1] = areas.radii[0];
+    }
+    let any_entry = |random: &mut Random| [random.word(), random.word()];
+    let (working, told, listed) =
+        (length(random, capacity(order)), length(random, count), length(random, capacity(order)));
+    areas.draft = random.fill(working, any_entry);
+    areas.summary = random.fill(told, |random| [random.word() as u32, random.word() as u32]);
+    areas.listing = random.fill(listed, any_entry);
+    let chosen =
+        if random.one_in(10) { random.pick(&[0, count + 1, u32::MAX as usize]) } else { 1 + random.below(count) };
+    Call::Lots { chosen: chosen as u32 }
 }
 
 // Each argument by itself may be one that is refused.

@@ -8,8 +8,9 @@ use reference::image::{bytes, of_form};
 use reference::item::{Row, Space};
 use reference::table::{Table, capacity, table_rows};
 
-// How many tags dues is given.
+// How many tags dues is given, and radii a drafting.
 const LISTED: usize = 5;
+const RADII: usize = 3;
 
 // A table of some kind, every row of which is one that the order needs.
 fn tables(random: &mut Random, order: u32, space: Space) -> Vec<Vec<Row>> {
@@ -25,6 +26,9 @@ struct Lengths {
     result: usize,
     bytes: usize,
     dues: usize,
+    draft: usize,
+    summary: usize,
+    listing: usize,
 }
 
 fn lent(random: &mut Random, rows: &[Row], lengths: Lengths) -> Areas {
@@ -37,6 +41,10 @@ fn lent(random: &mut Random, rows: &[Row], lengths: Lengths) -> Areas {
         bytes: random.fill(lengths.bytes, |random| random.word() as u8),
         tags: vec![],
         dues: random.fill(lengths.dues, |random| random.word() as u32),
+        radii: vec![],
+        draft: random.fill(lengths.draft, |random| [random.word(), random.word()]),
+        summary: random.fill(lengths.summary, |random| [random.word() as u32, random.word() as u32]),
+        listing: random.fill(lengths.listing, |random| [random.word(), random.word()]),
     }
 }
 
@@ -60,6 +68,7 @@ fn calls(random: &mut Random, rows: &[Row], order: u32, space: Space) -> Vec<Cal
         Call::Save { name: snapshots::name(random) },
         Call::Restore { name: snapshots::name(random) },
         Call::Dues,
+        Call::Lots { chosen: 1 + random.below(RADII) as u32 },
     ]
 }
 
@@ -69,17 +78,19 @@ fn every_length(random: &mut Random, rows: &[Row], order: u32, space: Space) -> 
     let image = 8 + 4 * (order as usize + 1) + 50 * result;
     let of = |at: usize, n: usize| {
         let one = |i: usize, needed: usize| if i == at { n } else { needed };
-        let [table, work, result, bytes, dues] = [table, work, result, image, LISTED];
         Lengths {
             table: one(0, table),
             work: one(1, work),
             result: one(2, result),
-            bytes: one(3, bytes),
-            dues: one(4, dues),
+            bytes: one(3, image),
+            dues: one(4, LISTED),
+            draft: one(5, work),
+            summary: one(6, RADII),
+            listing: one(7, work),
         }
     };
     let mut count = 0;
-    for (at, needed) in [table, work, result, image, LISTED].into_iter().enumerate() {
+    for (at, needed) in [table, work, result, image, LISTED, work, RADII, work].into_iter().enumerate() {
         for n in 0..=needed + 3 {
             for call in calls(random, rows, order, space).into_iter().filter(|call| is_lent(call, at)) {
                 let mut areas = lent(random, rows, of(at, n));
@@ -89,6 +100,9 @@ fn every_length(random: &mut Random, rows: &[Row], order: u32, space: Space) -> 
                 if let Call::Save { name } | Call::Restore { name } = call {
                     let image = Table::open(rows, |_| true).map_or_else(|_| vec![], |table| bytes(&table));
                     areas.bytes = snapshots::holding(random, &image, name);
+                }
+                if matches!(call, Call::Lots { .. }) {
+                    areas.radii = random.fill(RADII, Random::reach);
                 }
                 if call == Call::Dues {
                     areas.tags = live_tags(rows, LISTED);
@@ -108,13 +122,14 @@ fn live_tags(rows: &[Row], count: usize) -> Vec<u64> {
     live.into_iter().cycle().take(count).collect()
 }
 
-// Whether the call is lent this area: table, work, result, bytes, dues.
+// Whether the call is lent this area: table, work, result, bytes, dues, and a drafting's work area, summary and listing.
 fn is_lent(call: &Call, at: usize) -> bool {
     match call {
         Call::Add { .. } | Call::Remove { .. } | Call::ReadList { .. } => at <= 1,
         Call::Range { .. } | Call::Nearest { .. } => at == 0 || at == 2,
         Call::Load | Call::Write => at == 0 || at == 3,
         Call::Dues => at == 0 || at == 4,
+        Call::Lots { .. } => at == 0 || at >= 5,
         _ => at == 0,
     }
 }

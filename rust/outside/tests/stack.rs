@@ -55,6 +55,10 @@ fn areas(table: &Table) -> Areas {
         bytes: reference::image::bytes(table),
         tags: vec![payer(table); 4096],
         dues: vec![0; 4096],
+        radii: vec![1000; 32],
+        draft: vec![[0; 2]; capacity(ORDER)],
+        summary: vec![[0; 2]; 32],
+        listing: vec![[0; 2]; capacity(ORDER)],
     }
 }
 
@@ -101,6 +105,7 @@ fn every_call_in_a_small_stack() {
             ("save", Call::Save { name: 8 }, &full),
             ("restore", Call::Restore { name: 8 }, &full),
             ("dues", Call::Dues, &full),
+            ("lots", Call::Lots { chosen: 32 }, &full),
         ];
         let mut seen = HashMap::new();
         for (name, call, table) in calls {

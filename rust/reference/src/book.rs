@@ -9,6 +9,7 @@ use crate::item::{
     distance,
 };
 use crate::list::{self, ListRead};
+use crate::lots::{self, Draft};
 use crate::refusal::{
     ALREADY_LIVE, BAD_METRIC, BAD_ORDER, FULL, NO_COUNT, NO_ROOM, NOT_LIVE, Refused, SHORT_AREA, Unloaded, ensure,
 };
@@ -100,6 +101,20 @@ impl Book {
     pub fn dues(&self, rows: usize, room: usize, tags: &[u64]) -> Result<Vec<u32>, Refused> {
         self.check_table(rows)?;
         dues::dues(tags, room, |tag| self.find(tag).map(|at| self.items[at].profile.measures[0]))
+    }
+
+    /// Its items drafted by each radius, in areas of these lengths: the work area, the summary and the listing.
+    pub fn lots(
+        &self,
+        rows: usize,
+        [work, summary, listing]: [usize; 3],
+        radii: &[u32],
+        chosen: u32,
+    ) -> Result<Draft, Refused> {
+        self.check_areas(rows, work)?;
+        lots::check_radii(radii, chosen)?;
+        ensure(summary >= radii.len() && listing >= self.items.len(), NO_ROOM)?;
+        Ok(lots::draft(&self.space, &self.items, radii, chosen))
     }
 
     // Every item that is not of a day before the first, by distance, then tag.

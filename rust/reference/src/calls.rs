@@ -1,4 +1,4 @@
-//! The thirteen calls, on lent areas.
+//! The fourteen calls, on lent areas.
 
 use crate::dues;
 use crate::image;
@@ -7,6 +7,7 @@ use crate::item::{
     check_weights,
 };
 use crate::list::{self, ListRead};
+use crate::lots::{self, Summary};
 use crate::refusal::{
     ALREADY_LIVE, BAD_BATCH, BAD_METRIC, BAD_ORDER, FULL, NO_COUNT, NO_ROOM, NOT_LIVE, Refused, SHORT_AREA, Unloaded,
     ensure,
@@ -45,7 +46,7 @@ pub fn load(table: &mut [Row], bytes: &[u8]) -> Result<(), Unloaded> {
 
 /// Adds an item.
 pub fn add(rows: &mut [Row], work: &mut [Row], tag: u64, profile: Profile, day: u16) -> Result<Added, Refused> {
-    let (table, day) = (Table::open_to_change(rows, work)?, day as u32);
+    let (table, day) = (Table::open_to_change(rows, work.len())?, day as u32);
     check_tag(tag)?;
     check_measures(&profile)?;
     check_day(day)?;
@@ -68,7 +69,7 @@ pub fn read_list(rows: &mut [Row], work: &mut [Row], bytes: &[u8], day: u16) -> 
 
 /// Removes an item, and gives the distances of the build.
 pub fn remove(rows: &mut [Row], work: &mut [Row], tag: u64) -> Result<u32, Refused> {
-    let mut table = Table::open_to_change(rows, work)?;
+    let mut table = Table::open_to_change(rows, work.len())?;
     check_tag(tag)?;
     let (k, slot) = table.find(tag).ok_or(NOT_LIVE)?;
     let bucket = &mut table.buckets[k];
@@ -133,6 +134,28 @@ pub fn dues(rows: &[Row], tags: &[u64], area: &mut [u32]) -> Result<u64, Refused
     let dues = dues::dues(tags, area.len(), weight)?;
     area[..dues.len()].copy_from_slice(&dues);
     Ok(dues::total(&dues))
+}
+
+/// Drafts the live items by each radius: writes the summaries, and the listing of the chosen radius.
+pub fn lots(
+    rows: &[Row],
+    work: &mut [Entry],
+    radii: &[u32],
+    summary: &mut [Summary],
+    listing: &mut [Entry],
+    chosen: u32,
+) -> Result<(), Refused> {
+    let table = Table::open_to_change(rows, work.len())?;
+    lots::check_radii(radii, chosen)?;
+    summary.fill([0; 2]);
+    listing.fill([0; 2]);
+    ensure(summary.len() >= radii.len() && listing.len() >= table.live(), NO_ROOM)?;
+    let items: Vec<Item> = table.buckets.iter().flat_map(Bucket::live_items).map(Slot::item).collect();
+    let draft = lots::draft(&table.space, &items, radii, chosen);
+    summary[..radii.len()].copy_from_slice(&draft.summary);
+    listing[..items.len()].copy_from_slice(&draft.listing);
+    work[..capacity(table.order)].fill([0; 2]);
+    Ok(())
 }
 
 /// All within the radius that are not of a day before the first.

@@ -46,6 +46,8 @@ pub const MISPLACED_ITEM: u32 = 37;
 pub const BAD_THRESHOLD: u32 = 38;
 /// A listed item weighs below 0, or the list is too long.
 pub const NO_DUES: u32 = 39;
+/// No radius, too many, or a place that is not in their list.
+pub const BAD_RADII: u32 = 41;
 
 /// No query in a batch, or more than 16.
 pub const BAD_BATCH: u32 = 40;

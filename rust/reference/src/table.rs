@@ -90,9 +90,10 @@ impl Table {
         Ok(Table { order, space: Space { metric, weights }, buckets })
     }
 
-    /// Reads a lent table that is to be changed: the work area is needed, and the marks are checked too.
-    pub fn open_to_change(rows: &[Row], work: &[Row]) -> Result<Table, Refused> {
-        let table = Table::open(rows, |order| work.len() >= capacity(order))?;
+    /// Reads a lent table that is to be changed or drafted: so many rows or entries of a work area are needed, and the
+    /// marks are checked too.
+    pub fn open_to_change(rows: &[Row], work: usize) -> Result<Table, Refused> {
+        let table = Table::open(rows, |order| work >= capacity(order))?;
         ensure(table.buckets.iter().all(Bucket::marks_pass), BAD_TABLE)?;
         Ok(table)
     }

@@ -96,6 +96,9 @@ pub struct Dues {
     pub total: u64,
 }
 
+/// An entry of a drafting's summary: the number of lots, and the size of the largest.
+pub type Summary = [u32; 2];
+
 mod raw {
     use super::*;
 
@@ -177,6 +180,19 @@ mod raw {
             dues: *mut u32,
             dues_numbers: usize,
         ) -> Dues;
+        pub fn vpindex_lots(
+            table: *const Row,
+            table_rows: usize,
+            work: *mut Entry,
+            work_entries: usize,
+            radii: *const u32,
+            radius_count: usize,
+            summary: *mut Summary,
+            summary_entries: usize,
+            listing: *mut Entry,
+            listing_entries: usize,
+            chosen: u32,
+        ) -> u32;
     }
 }
 
@@ -238,4 +254,29 @@ pub fn restore(table: &mut [Row], states: &[u8], name: u32) -> Loaded {
 pub fn dues(table: &[Row], tags: &[u64], dues: &mut [u32]) -> Dues {
     let (rows, listed, numbers) = (table.len(), tags.len(), dues.len());
     unsafe { raw::vpindex_dues(table.as_ptr(), rows, tags.as_ptr(), listed, dues.as_mut_ptr(), numbers) }
+}
+
+pub fn lots(
+    table: &[Row],
+    work: &mut [Entry],
+    radii: &[u32],
+    summary: &mut [Summary],
+    listing: &mut [Entry],
+    chosen: u32,
+) -> u32 {
+    unsafe {
+        raw::vpindex_lots(
+            table.as_ptr(),
+            table.len(),
+            work.as_mut_ptr(),
+            work.len(),
+            radii.as_ptr(),
+            radii.len(),
+            summary.as_mut_ptr(),
+            summary.len(),
+            listing.as_mut_ptr(),
+            listing.len(),
+            chosen,
+        )
+    }
 }

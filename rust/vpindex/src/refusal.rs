@@ -17,7 +17,8 @@ pub enum Refusal {
     BadMetric,
     /// The nearest 0 items were asked for.
     NoCount,
-    /// The result or dues area is shorter than the reply, or the states have no room for the snapshot.
+    /// The result or dues area, or one of a drafting, is shorter than the reply, or the states have no room for the
+    /// snapshot.
     NoRoom,
     /// The image's length is wrong, or past the part of the states that it is in.
     BadLength,
@@ -46,7 +47,8 @@ pub enum Refusal {
     BadName,
     /// Nothing was saved under the name.
     NotSaved,
-    /// Of a slot of the image: an earlier slot of its bucket has its tag, or it is live and an earlier live slot has it.
+    /// Of a slot of the image: an earlier slot of its bucket has its tag, or it is live and an earlier live slot has
+    /// it.
     DuplicateTag,
     /// The item in a slot of the image is not the one that the tree's layout puts there.
     MisplacedItem,
@@ -56,6 +58,8 @@ pub enum Refusal {
     NoDues,
     /// A batch has no query, or more than 16.
     BadBatch,
+    /// There is no radius, or there are more than 32, or the chosen place is not in their list.
+    BadRadii,
     /// A refusal by a number that this crate does not know: the archive is newer.
     Other(u32),
 }
@@ -63,7 +67,7 @@ pub enum Refusal {
 use Refusal::*;
 
 impl Refusal {
-    const KNOWN: [Refusal; 24] = [
+    const KNOWN: [Refusal; 25] = [
         BadTag,
         BadMeasure,
         BadOrder,
@@ -88,6 +92,7 @@ impl Refusal {
         BadThreshold,
         NoDues,
         BadBatch,
+        BadRadii,
     ];
 
     /// The number by which the archive's calls say it.
@@ -111,7 +116,7 @@ impl Refusal {
             BadOrder => (3, "the order is above 12"),
             BadMetric => (4, "there is no metric of this number"),
             NoCount => (5, "the nearest 0 items were asked for"),
-            NoRoom => (6, "the result or dues area is too short for the reply, or the states for the snapshot"),
+            NoRoom => (6, "an area is too short for the reply, or the states for the snapshot"),
             BadLength => (7, "the image's length is wrong, or past the part of the states that it is in"),
             BadImage => {
                 (8, "the image is of no known form, or a tag, a measure, a mark or the number of marks breaks a rule")
@@ -138,6 +143,7 @@ impl Refusal {
             BadThreshold => (38, "its threshold is not the one that the tree's layout gives it"),
             NoDues => (39, "a listed item weighs below 0, or the list has more than 4,096 tags"),
             BadBatch => (40, "a batch has no query, or more than 16"),
+            BadRadii => (41, "there are not 1 to 32 radii, or the chosen place is not in their list"),
             Other(number) => (number, "a refusal that this crate does not know"),
         }
     }
@@ -163,14 +169,14 @@ mod tests {
     #[test]
     fn numbers() {
         assert_eq!(Refusal::check(0), Ok(()));
-        for number in (1..=8).chain(20..=24).chain(30..=40) {
+        for number in (1..=8).chain(20..=24).chain(30..=41) {
             let refusal = Refusal::check(number).expect_err("not 0");
             assert_eq!(refusal.number(), number);
             assert_ne!(refusal, Other(number));
         }
-        for number in [9, 19, 25, 29, 41, u32::MAX] {
+        for number in [9, 19, 25, 29, 42, u32::MAX] {
             assert_eq!(Refusal::check(number), Err(Other(number)));
         }
-        assert_eq!(Other(41).to_string(), "a refusal that this crate does not know: 41");
+        assert_eq!(Other(42).to_string(), "a refusal that this crate does not know: 42");
     }
 }

@@ -3,7 +3,7 @@
 use crate::image::{self, ImageRefusal};
 use crate::list::{self, ListRead, ListRefusal};
 use crate::{
-    Batch, Cents, Day, Dues, Hits, Metric, Name, Order, Profile, RangeQuery, Refusal, States, Tag, Weights, ffi,
+    Batch, Cents, Day, Dues, Hits, Lots, Metric, Name, Order, Profile, RangeQuery, Refusal, States, Tag, Weights, ffi,
 };
 
 /// What an add did.
@@ -28,8 +28,9 @@ pub struct LookedUp {
 
 /// Items that can be asked for by likeness.
 ///
-/// A table allocates when it is made, and [`Table::image`], [`Table::dues`] and [`Table::range_batch`] what they return;
-/// no other call allocates. The areas of one of order T are 52·(3·2^T + T + 1) + 16·2^T bytes, some 689 KiB at order 12.
+/// A table allocates when it is made, [`Table::image`], [`Table::dues`] and [`Table::range_batch`] what they return, and
+/// [`Table::lots`] that and some 128 KiB at order 12 to work in; no other call allocates. The areas of one of order T are
+/// 52·(3·2^T + T + 1) + 16·2^T bytes, some 689 KiB at order 12.
 #[derive(Clone, Debug)]
 pub struct Table {
     header: Header,
@@ -261,6 +262,35 @@ impl Table {
         let reply = ffi::range_batch(&self.rows, &mut result, &rows);
         Refusal::check(reply.refusal)?;
         Ok(Batch::new(&result, rows.len(), &reply))
+    }
+
+    /// The items drafted into lots by each of 1 to 32 radii, with the lots by one of them, chosen by its place in the list
+    /// from 1. By a radius the item of the lowest tag that is in no lot yet leads one, of itself and of every other in no
+    /// lot yet within the radius of it, until all are in one.
+    ///
+    /// ```
+    /// use vpindex::{Day, Metric, Order, Profile, Table, Tag};
+    ///
+    /// let mut table = Table::new(Order::new(4)?, Metric::SumOfDifferences);
+    /// let tags: Vec<Tag> = (1..=4).map(|national| Tag::new(36, national)).collect::<Result<_, _>>()?;
+    /// for (&tag, weight) in tags.iter().zip([41_000, 45_000, 43_500, 41_800]) {
+    ///     table.add(tag, &Profile::new([weight, 0, 0, 0], [0, 0])?, Day::MIN)?;
+    /// }
+    ///
+    /// let lots = table.lots(&[500, 1_500, 2_500], 2)?;
+    /// assert_eq!(lots.by_radius().iter().map(|drafted| drafted.lots).collect::<Vec<_>>(), [4, 2, 2]);
+    /// assert_eq!(lots.iter().collect::<Vec<_>>(), [[tags[0], tags[3]], [tags[1], tags[2]]]);
+    /// # Ok::<(), vpindex::Refusal>(())
+    /// ```
+    ///
+    /// [`Refusal::BadRadii`] if there are not 1 to 32 radii, or the chosen place is not in their list.
+    pub fn lots(&self, radii: &[u32], chosen: u32) -> Result<Lots, Refusal> {
+        let capacity = self.header.order.capacity();
+        let (mut work, mut listing) = (vec![[0; 2]; capacity], vec![[0; 2]; capacity]);
+        let mut summary = vec![[0; 2]; radii.len()];
+        Refusal::check(ffi::lots(&self.rows, &mut work, radii, &mut summary, &mut listing, chosen))?;
+        let listed = listing.iter().take_while(|entry| entry[1] != 0).count();
+        Ok(Lots::new(&summary, &listing[..listed]))
     }
 
     // of an accepted search

@@ -1,0 +1,202 @@
+// Lots over a table: the refusals in their order, and the drafting by every radius of a list, with the lots of one of them listed.
+ghost use mathlib.Core.Path.{_≡_};
+ghost use mathlib.Core.List.{map, _++_};
+ghost use Prim.Native.Nat.{_-_, _≤_, _<_};
+ghost use lib.ListN.{length, getD, replicate};
+ghost use Rattle.lists.specs.Lists.{All};
+ghost use Rattle.metric_rules.specs.Row.{tagOf};
+ghost use Rattle.metric_rules.specs.Distance.{spaceOf};
+ghost use Rattle.table_rules.specs.Geometry.{workRows};
+ghost use Rattle.table_rules.specs.Table.{orderOf, cleared};
+ghost use Rattle.table_rules.specs.Passed.{Passed};
+ghost use Rattle.table_rules.specs.Search.{zeroEntry};
+ghost use Rattle.lots_rules.specs.Lots.{listingOf};
+ghost use Rattle.lots_rules.specs.Drafting.{zeroSummary, radiiPass, draftedItems, tableLots, tableSummaries, tableListing, lotsRefusal, summaryAfterLots, listingAfterLots, workAfterLots};
+ghost use Rattle.lots_draft.specs.Leading.{placeOf, Placed};
+ghost use Rattle.table_lots.specs.Places.{placeSummary, placeListing};
+use lots_draft::draft_by;
+use lots_draft::list_lots;
+use lots_gather::enter_by_tag;
+use lots_rules::BAD_RADII;
+use lots_rules::MOST_RADII;
+use lots_rules::Summary;
+use metric_rules::Row;
+use search_reply::zero_entries;
+use search_rules::Entry;
+use table_checks::change_refusal;
+use table_order::Order;
+use table_rules::NO_ROOM;
+use table_views::HEADER_ROW;
+use table_views::live_total;
+use table_views::order_in;
+
+// Every entry of a summary becomes zero.
+fn zero_summaries(area: &mut [Summary])
+    ensures { λ _. ⌜ now (area .exit) ≡ replicate (length (now (area .entry))) zeroSummary ⌝ }
+{
+    let mut i = 0;
+    while i < area.len() {
+        area[i] = [0u32; 2];
+        i += 1;
+    }
+}
+
+// 1 to 32 radii, and a place in their list from 1 on.
+fn radii_pass(radii: &[u32], chosen: u32) -> bool
+    ensures { λ r. ⌜ r ≡ radiiPass (now (radii .entry)) chosen ⌝ }
+{
+    let count = radii.len();
+    (1 <= count) & (count <= MOST_RADII) & ((1 <= chosen) & (chosen as usize <= count))
+}
+
+// The first refusal that applies, in the call's order, or 0.
+fn lots_refusal(
+    table: &[Row],
+    work: &[Entry],
+    radii: &[u32],
+    summary: &[Summary],
+    listing: &[Entry],
+    chosen: u32,
+) -> u32
+    ensures { λ r. ⌜ r ≡ lotsRefusal (now (table .entry)) (now (work .entry)) (now (summary .entry)) (now (listing .entry)) (now (radii .entry)) chosen ⌝ }
+{
+    let refusal = change_refusal(table, work.len());
+    if refusal != 0 {
+        return refusal;
+    }
+    if !radii_pass(radii, chosen) {
+        return BAD_RADII;
+    }
+    let items = live_total(table, order_in(table));
+    if (radii.len() <= summary.len()) & (items <= listing.len() as u64) {
+        0
+    } else {
+        NO_ROOM
+    }
+}
+
+// The entries drafted by every radius in turn, each with its summary; the lots by the radius at place `at` are listed.
+fn draft_each(
+    table: &[Row],
+    header: &Row,
+    entries: &mut [Entry],
+    radii: &[u32],
+    summary: &mut [Summary],
+    listing: &mut [Entry],
+    at: usize,
+)
+    requires { ⌜ All (Placed (now table)) (now entries) × (length (now entries) ≤ 4096) × (length (now summary) ≡ length (now radii)) × (length (now entries) ≤ length (now listing)) × (at < length (now radii)) ⌝ }
+    ensures summary { λ _. ⌜ now (summary .exit) ≡ map (placeSummary (now (table .entry)) (spaceOf (now (header .entry))) (map placeOf (now (entries .entry)))) (now (radii .entry)) ⌝ }
+    ensures listing { λ _. ⌜ now (listing .exit) ≡ placeListing (now (table .entry)) (spaceOf (now (header .entry))) (map placeOf (now (entries .entry))) (getD (now (radii .entry)) at 0) ++ replicate (length (now (listing .entry)) - length (now (entries .entry))) zeroEntry ⌝ }
+{
+    let mut i = 0;
+    while i < radii.len() {
+        summary[i] = draft_by(table, header, entries, radii[i]);
+        if i == at {
+            list_lots(table, entries, listing);
+        }
+        i += 1;
+    }
+}
+
+// The same in a summary that may be longer: zeros follow to its end.
+fn draft_radii(
+    table: &[Row],
+    header: &Row,
+    entries: &mut [Entry],
+    radii: &[u32],
+    summary: &mut [Summary],
+    listing: &mut [Entry],
+    at: usize,
+)
+    requires { ⌜ All (Placed (now table)) (now entries) × (length (now entries) ≤ 4096) × (length (now radii) ≤ length (now summary)) × (length (now entries) ≤ length (now listing)) × (at < length (now radii)) ⌝ }
+    ensures summary { λ _. ⌜ now (summary .exit) ≡ map (placeSummary (now (table .entry)) (spaceOf (now (header .entry))) (map placeOf (now (entries .entry)))) (now (radii .entry)) ++ replicate (length (now (summary .entry)) - length (now (radii .entry))) zeroSummary ⌝ }
+    ensures listing { λ _. ⌜ now (listing .exit) ≡ placeListing (now (table .entry)) (spaceOf (now (header .entry))) (map placeOf (now (entries .entry))) (getD (now (radii .entry)) at 0) ++ replicate (length (now (listing .entry)) - length (now (entries .entry))) zeroEntry ⌝ }
+{
+    let count = radii.len();
+    draft_each(
+        table,
+        header,
+        entries,
+        radii,
+        &mut summary[..count],
+        listing,
+        at,
+    );
+    zero_summaries(&mut summary[count..]);
+}
+
+// The live items by tag in the work area, drafted by every radius; the work area is zero after it.
+fn draft_items(
+    table: &[Row],
+    order: Order,
+    work: &mut [Entry],
+    radii: &[u32],
+    summary: &mut [Summary],
+    listing: &mut [Entry],
+    at: usize,
+)
+    requires { ⌜ (order .t ≡ orderOf (now table)) × Passed (now table) × (length (draftedItems (now table)) ≤ length (now work)) × (length (draftedItems (now table)) ≤ 4096) × (length (now radii) ≤ length (now summary)) × (length (draftedItems (now table)) ≤ length (now listing)) × (at < length (now radii)) ⌝ }
+    ensures work { λ _. ⌜ now (work .exit) ≡ replicate (length (now (work .entry))) zeroEntry ⌝ }
+    ensures summary { λ _. ⌜ now (summary .exit) ≡ tableSummaries (now (table .entry)) (now (radii .entry)) ++ replicate (length (now (summary .entry)) - length (now (radii .entry))) zeroSummary ⌝ }
+    ensures listing { λ _. ⌜ now (listing .exit) ≡ listingOf tagOf (tableLots (now (table .entry)) (getD (now (radii .entry)) at 0)) ++ replicate (length (now (listing .entry)) - length (draftedItems (now (table .entry)))) zeroEntry ⌝ }
+{
+    let header = table[HEADER_ROW];
+    let n = enter_by_tag(table, order, work);
+    draft_radii(table, &header, &mut work[..n], radii, summary, listing, at);
+    zero_entries(work);
+}
+
+// An accepted drafting, in the first 2^T entries of the work area.
+fn draft_table(
+    table: &[Row],
+    work: &mut [Entry],
+    radii: &[u32],
+    summary: &mut [Summary],
+    listing: &mut [Entry],
+    chosen: u32,
+)
+    requires { ⌜ lotsRefusal (now table) (now work) (now summary) (now listing) (now radii) chosen ≡ 0 ⌝ }
+    ensures work { λ _. ⌜ now (work .exit) ≡ cleared zeroEntry (workRows (orderOf (now (table .entry)))) (now (work .entry)) ⌝ }
+    ensures summary { λ _. ⌜ now (summary .exit) ≡ tableSummaries (now (table .entry)) (now (radii .entry)) ++ replicate (length (now (summary .entry)) - length (now (radii .entry))) zeroSummary ⌝ }
+    ensures listing { λ _. ⌜ now (listing .exit) ≡ tableListing (now (table .entry)) (now (radii .entry)) chosen ++ replicate (length (now (listing .entry)) - length (draftedItems (now (table .entry)))) zeroEntry ⌝ }
+{
+    let order = order_in(table);
+    let rows = order.work_rows();
+    draft_items(
+        table,
+        order,
+        &mut work[..rows],
+        radii,
+        summary,
+        listing,
+        chosen as usize - 1,
+    );
+}
+
+// RULES 21, lots over a table: every value of every argument, a table and areas of any length and content.
+pub fn lots(
+    table: &[Row],
+    work: &mut [Entry],
+    radii: &[u32],
+    summary: &mut [Summary],
+    listing: &mut [Entry],
+    chosen: u32,
+) -> u32
+    ensures reply { λ r. ⌜ r ≡ lotsRefusal (now (table .entry)) (now (work .entry)) (now (summary .entry)) (now (listing .entry)) (now (radii .entry)) chosen ⌝ }
+    ensures work { λ _. ⌜ now (work .exit) ≡ workAfterLots (now (table .entry)) (now (work .entry)) (now (summary .entry)) (now (listing .entry)) (now (radii .entry)) chosen ⌝ }
+    ensures summary { λ _. ⌜ now (summary .exit) ≡ summaryAfterLots (now (table .entry)) (now (work .entry)) (now (summary .entry)) (now (listing .entry)) (now (radii .entry)) chosen ⌝ }
+    ensures listing { λ _. ⌜ now (listing .exit) ≡ listingAfterLots (now (table .entry)) (now (work .entry)) (now (summary .entry)) (now (listing .entry)) (now (radii .entry)) chosen ⌝ }
+{
+    let refusal = lots_refusal(table, work, radii, summary, listing, chosen);
+    if refusal == 0 {
+        draft_table(table, work, radii, summary, listing, chosen);
+        return 0;
+    }
+    if refusal == NO_ROOM {
+        zero_summaries(summary);
+        zero_entries(listing);
+        return NO_ROOM;
+    }
+    refusal
+}
