@@ -604,6 +604,14 @@ def run_in_turn(program, name, data):
         await_end(process, f"{name} in turn")
 
 
+def run_to_full(program):
+    """After a write that fails the program ends, while its input is still open."""
+    with open("/dev/full", "wb") as full:
+        with subprocess.Popen([program], stdin=subprocess.PIPE, stdout=full, bufsize=0) as process:
+            process.stdin.write(conversation("1 0", GOOD))
+            await_end(process, "a full output")
+
+
 def run(program):
     stored = sorted(STORED.glob("*.in"))
     for path in stored:
@@ -612,6 +620,7 @@ def run(program):
         if len(data) < SHORT and data.endswith(b"\n"):
             run_in_turn(program, path.stem, data)
     run_in_turn(program, "example", (EXAMPLE / "stdin").read_bytes())
+    run_to_full(program)
     print(f"yard runs: {len(stored)} passed")
 
 

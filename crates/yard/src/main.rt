@@ -1,4 +1,6 @@
 // The program: reads standard input in pieces, has the conversation take each piece line by line, and writes at once what a line prints.
+ghost use mathlib.Core.Path.{_≡_};
+ghost use mathlib.Core.Bool.{true};
 ghost use Prim.Native.Nat.{_+_, _*_, _^_, _≤_, _<_};
 ghost use lib.ListN.{length};
 ghost use Rattle.yard_rules.specs.Conversation.{Ample};
@@ -28,13 +30,20 @@ const LINE: usize = 128;
 // So many pieces of 4,096 bytes are fewer than 2^64 bytes.
 const MOST_PIECES: u64 = u64::MAX / 4096;
 
-fn put(out: &[u8], n: usize)
+// The first n bytes are written; false where the write fails.
+fn put(out: &[u8], n: usize) -> bool
     requires { ⌜ n ≤ length (now out) ⌝ }
 {
-    io::write_all(STDOUT_FILENO, &out[..n]);
+    io::write_all(STDOUT_FILENO, &out[..n])
 }
 
-// A whole piece, line by line: what a line prints is written before the next one is looked at.
+// Where the program stands after a piece, and whether all that it printed was written.
+struct Taken {
+    at: Place,
+    written: bool,
+}
+
+// A whole piece, line by line: what a line prints is written before the next one is looked at, and a write that fails ends it.
 fn take_piece(
     table: &mut [Row],
     work: &mut [Row],
@@ -43,22 +52,24 @@ fn take_piece(
     area: &mut [u8],
     piece: &[u8],
     before: Place,
-) -> Place
+) -> Taken
     requires { ⌜ (65 + 37 * length (now result) ≤ length (now out)) × (96 ≤ length (now area)) × (length (now area) < 2 ^ 32) × (before .number + length (now piece) < 2 ^ 64) ⌝ }
-    ensures { λ r. ⌜ r .number ≤ before .number + length (now (piece .entry)) ⌝ }
-    ensures { λ r. ⌜ ((m : Midway) → Matches m (lent (now (table .entry)) (now (work .entry)) (now (result .entry))) (now (area .entry)) before → Matches (fed m (now (piece .entry))) (lent (now (table .exit)) (now (work .exit)) (now (result .exit))) (now (area .exit)) r) ⌝ }
+    ensures { λ r. ⌜ r .at .number ≤ before .number + length (now (piece .entry)) ⌝ }
+    ensures { λ r. ⌜ (r .written ≡ true → (m : Midway) → Matches m (lent (now (table .entry)) (now (work .entry)) (now (result .entry))) (now (area .entry)) before → Matches (fed m (now (piece .entry))) (lent (now (table .exit)) (now (work .exit)) (now (result .exit))) (now (area .exit)) (r .at)) ⌝ }
 {
     let mut at = before;
     let mut from = 0;
     while from < piece.len() {
         at = yard_session::take_line(table, work, result, out, area, piece, from, at);
         from = at.from;
-        put(out, at.printed);
+        if !put(out, at.printed) {
+            return Taken { at, written: false };
+        }
     }
-    at
+    Taken { at, written: true }
 }
 
-// The input piece by piece, until a reply or the end of the input ends the program. A proved loop has to end, and nothing says that the input does: it
+// The input piece by piece, until a reply, the end of the input or a write that fails ends the program. A proved loop has to end, and nothing says that the input does: it
 // counts the pieces down from a number that no run uses up. A piece has no more lines than bytes, so the number of a line fits its type.
 fn converse(
     table: &mut [Row],
@@ -84,7 +95,11 @@ fn converse(
             put(out, last.printed);
             return;
         }
-        at = take_piece(table, work, result, out, area, &piece[..end], at);
+        let taken = take_piece(table, work, result, out, area, &piece[..end], at);
+        if !taken.written {
+            return;
+        }
+        at = taken.at;
         left -= 1;
     }
 }

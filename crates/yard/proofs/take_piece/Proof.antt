@@ -1,6 +1,7 @@
 -- `yard::take_piece` meets its contract: the bytes before the place of the next one lead to what stands, and in the end they are the whole piece.
 use Prim.Native.Nat.{_+_, _-_, _≤_}
 use mathlib.Core.Path.{_≡_, refl}
+use mathlib.Core.Bool.{false≢true}
 use native.Mathlib.Omega.{arith}
 use lib.ListN.{length}
 use borrow.Author.Needs.{needs}
@@ -24,55 +25,45 @@ Inv-loop table₀ work₀ result₀ out₀ area₀ piece at₀ from₀ table wor
 abbrev μ-loop : tie.MeasureT-loop
 μ-loop table₀ work₀ result₀ out₀ area₀ piece at₀ from₀ table work result out area at from = length piece - from
 
+-- a line taken, and the loop and the start, from where what it printed was written
+abbrev line-at : tie.After-put Inv-loop μ-loop → tie.After-take-line Inv-loop μ-loop
+line-at c = c .before .before .before .before .before .before .before .before .before
+
+abbrev loop-at : tie.After-put Inv-loop μ-loop → tie.At-loop Inv-loop μ-loop
+loop-at c = line-at c .before .before .before .before .before .before .before
+
 loop-holds : tie.Need-loop-holds Inv-loop μ-loop
 loop-holds c =
     let a = c .before .before .before .args in
     (refl, refl, refl, refl, refl, omega arith, omega arith, no-bytes (a .piece .now))
 
-take-line-requires : tie.Need-take-line-requires Inv-loop μ-loop
-take-line-requires c κs = search needs
-
-put-requires : tie.Need-put-requires Inv-loop μ-loop
-put-requires c κs = search needs
-
-loop-less : tie.Need-loop-less Inv-loop μ-loop
-loop-less c = search needs
+number-counted : (c : tie.After-put Inv-loop μ-loop) → line-at c .take-line .result .number ≤ loop-at c .before .before .before .before .args .before .number + line-at c .take-line .result .from
+number-counted c = omega (arith, loop-at c .loop .inv .6, line-at c .take-line .ensures .0)
 
 loop-again : tie.Need-loop-again Inv-loop μ-loop
 loop-again c =
-    let a = c .before .before .before .before .before .before .before .before .before .before .before .before .before .before .before .before .before .before .before .before .args in
-    let l = c .before .before .before .before .before .before .before .before .before .before .before .before .before .before .before .before .loop in
-    let t = c .before .before .before .before .before .before .before .before .before .take-line in (
+    let a = loop-at (c .before) .before .before .before .before .args in
+    let l = loop-at (c .before) .loop in
+    let t = line-at (c .before) .take-line in (
       search needs,
       search needs,
       search needs,
       search needs,
       search needs,
       omega (arith, t .ensures .0 .1),
-      omega (arith, l .inv .6, t .ensures .0),
+      number-counted (c .before),
       more-bytes (lent (t .last .0) (t .last .1 .0) (t .last .1 .1 .0)) (t .last .1 .1 .1 .1 .0) (l .out) (t .last .1 .1 .1 .0) (a .piece .now) (l .from) (t .result) (l .inv .7) (omega (arith, t .ensures .0 .0)) (t .ensures .1),
     )
 
-same-length : tie.Need-same-length Inv-loop μ-loop
-same-length c = search needs
-
-same-length-2 : tie.Need-same-length-2 Inv-loop μ-loop
-same-length-2 c = search needs
-
-same-length-3 : tie.Need-same-length-3 Inv-loop μ-loop
-same-length-3 c = search needs
-
-same-length-4 : tie.Need-same-length-4 Inv-loop μ-loop
-same-length-4 c = search needs
-
-same-length-5 : tie.Need-same-length-5 Inv-loop μ-loop
-same-length-5 c = search needs
-
+-- a write that failed: of the bytes nothing is claimed
 returns : tie.Need-returns Inv-loop μ-loop
-returns c =
+returns c = (omega (arith, number-counted (c .before), line-at (c .before) .take-line .ensures .0), λ e. absurd (false≢true e))
+
+returns-2 : tie.Need-returns-2 Inv-loop μ-loop
+returns-2 c =
     let l = c .before .loop in
     let piece = c .before .before .before .before .before .args .piece .now in
-    (omega (arith, l .inv .6), all-bytes piece (l .from) (omega arith) (l .inv .7))
+    (omega (arith, l .inv .6), λ e. all-bytes piece (l .from) (omega arith) (l .inv .7))
 
 pub take-piece-spec : {M : Type 1} → statement M
 take-piece-spec =
@@ -81,13 +72,11 @@ take-piece-spec =
     Inv-loop
     μ-loop
     loop-holds
-    take-line-requires
-    put-requires
-    loop-less
+    (λ c κs. search needs)
+    (λ c κs. search needs)
+    (λ c. search needs) (λ c. search needs) (λ c. search needs) (λ c. search needs) (λ c. search needs)
+    returns
+    (λ c. search needs)
     loop-again
-    same-length
-    same-length-2
-    same-length-3
-    same-length-4
-    same-length-5
-    returns)
+    (λ c. search needs) (λ c. search needs) (λ c. search needs) (λ c. search needs) (λ c. search needs)
+    returns-2)
