@@ -9,10 +9,6 @@ list=${1:-$(dirname "$0")/herd.list}
 list=$(realpath "$list")
 day=${2:-1}
 cd "$(dirname "$0")/.."
-if [ -z "${VPINDEX_LIB_DIR:-}" ]; then
-    mkdir -p target
-    echo "proving the calls and building the archive, some minutes the first time; the log is target/list.log" >&2
-    rt staticlib vpindex > target/list.log 2>&1 || { cat target/list.log; exit 1; }
-fi
+sh tools/build.sh vpindex
 cd rust
 exec cargo run --offline --quiet --example list -- "$list" "$day"

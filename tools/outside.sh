@@ -34,11 +34,13 @@ tests() { (cd rust && cargo test --offline); }
 rust_herd() { (cd rust && cargo run --offline --quiet --example herd); }
 strict='-pedantic -Wall -Wextra -Werror -Iinclude'
 c_herd() { cc -std=c11 -O2 $strict -o "$out/herd" c/herd.c "$VPINDEX_LIB_DIR/libvpindex.a" && "$out/herd"; }
+c_refusals() { cc -std=c11 $strict -o "$out/refusals" c/refusals.c && "$out/refusals"; }
 # The first use that the README shows, as it is printed.
 c_readme() {
     sed -n '/^```c$/,/^```$/{/^```/!p;}' README.md > "$out/first.c" &&
         cc -std=c11 $strict -o "$out/first" "$out/first.c" "$VPINDEX_LIB_DIR/libvpindex.a" && "$out/first"
 }
+installed() { sh tools/try_install.sh "$out/first.c"; }
 cxx_header() { echo '#include "vpindex.h"' | c++ -std=c++11 $strict -fsyntax-only -x c++ -; }
 # The archive needs nothing of the system but the C library's memory functions.
 needs() {
@@ -58,7 +60,12 @@ step archive-needs needs
 step tests tests
 step rust-example example c/herd.expected rust_herd
 step c-example example c/herd.expected c_herd
+step c-refusals example c/refusals.expected c_refusals
 step c-readme c_readme
+step stack-bounds python3 tools/stack.py "$VPINDEX_LIB_DIR/libvpindex.a" --check
+if command -v pkg-config > /dev/null; then
+    step installed installed
+fi
 if command -v c++ > /dev/null; then
     step c++-header cxx_header
 fi
