@@ -31,6 +31,12 @@ example() {
 refused() { ! "$@"; }
 
 tests() { (cd rust && cargo test --offline); }
+lints() { (cd rust && cargo clippy --offline --workspace --all-targets -- --deny warnings); }
+# A folder that is not a full path is refused in one sentence.
+relative() {
+    ! (cd rust && VPINDEX_LIB_DIR=staticlib cargo check --offline --package vpindex --target-dir ../target/relative) \
+        2> "$out/said" && grep -q 'VPINDEX_LIB_DIR is `staticlib`, and it has to be a full path$' "$out/said"
+}
 rust_herd() { (cd rust && cargo run --offline --quiet --example herd); }
 strict='-pedantic -Wall -Wextra -Werror -Iinclude'
 c_herd() { cc -std=c11 -O2 $strict -o "$out/herd" c/herd.c "$VPINDEX_LIB_DIR/libvpindex.a" && "$out/herd"; }
@@ -58,6 +64,10 @@ if [ -z "${VPINDEX_LIB_DIR:-}" ]; then
 fi
 step archive-needs needs
 step tests tests
+if cargo clippy --version > /dev/null 2>&1; then
+    step clippy lints
+fi
+step relative-folder relative
 step rust-example example c/herd.expected rust_herd
 step c-example example c/herd.expected c_herd
 step c-refusals example c/refusals.expected c_refusals

@@ -1,19 +1,25 @@
-//! Links libvpindex.a, from the folder that VPINDEX_LIB_DIR names (a full path), or from where `rt staticlib vpindex`
-//! writes it.
+//! Links libvpindex.a, from the folder that VPINDEX_LIB_DIR names (a full path), or where that is not set or empty, from
+//! where `rt staticlib vpindex` writes it.
 
 use std::env;
 use std::path::{Path, PathBuf};
 
 fn main() {
-    let folder = env::var_os("VPINDEX_LIB_DIR").map_or_else(built_here, PathBuf::from);
-    let archive = folder.join("libvpindex.a");
-    assert!(
-        archive.is_file(),
-        "{} is not there: write it by `rt staticlib vpindex`, or name its folder in VPINDEX_LIB_DIR",
-        archive.display()
-    );
     println!("cargo::rerun-if-env-changed=VPINDEX_LIB_DIR");
+    let named = env::var_os("VPINDEX_LIB_DIR").filter(|folder| !folder.is_empty());
+    let folder = named.map_or_else(built_here, PathBuf::from);
+    // A build script is not told where cargo was started, so it cannot say what a relative path means.
+    if folder.is_relative() {
+        println!("cargo::error=VPINDEX_LIB_DIR is `{}`, and it has to be a full path", folder.display());
+        return;
+    }
+    let archive = folder.join("libvpindex.a");
     println!("cargo::rerun-if-changed={}", archive.display());
+    if !archive.is_file() {
+        let remedy = "write it by `rt staticlib vpindex`, or name its folder in VPINDEX_LIB_DIR";
+        println!("cargo::error={} is not there: {remedy}", archive.display());
+        return;
+    }
     println!("cargo::rustc-link-search=native={}", folder.display());
     println!("cargo::rustc-link-lib=static=vpindex");
 }

@@ -109,7 +109,8 @@ fn lists_of_as_many_tags_as_there_may_be() {
 // The table goes before its list: no rows, a metric, a length and a weight that do not pass.
 #[test]
 fn the_table_is_tested_first() {
-    let faults: [(fn(&mut Vec<Row>), u32); 4] = [
+    type Fault = fn(&mut Vec<Row>);
+    let faults: [(Fault, u32); 4] = [
         (|rows| rows.clear(), 23),
         (|rows| rows[0][1] = 3, 24),
         (|rows| rows.truncate(table_rows(2) - 1), 23),

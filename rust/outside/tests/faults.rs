@@ -213,7 +213,8 @@ fn two_faults() {
 // A fault in a tree and a field that is wrong in any slot, before or behind it: 8, and no slot. A day, 33.
 #[test]
 fn a_bad_field_anywhere() {
-    let fields: [(u32, fn(&mut Slot)); 6] = [
+    type Change = fn(&mut Slot);
+    let fields: [(u32, Change); 6] = [
         (BAD_IMAGE, |slot| slot.tag = 274_877_906_944),
         (BAD_IMAGE, |slot| slot.profile.measures[1] = MAX_MEASURE + 1),
         (BAD_IMAGE, |slot| slot.mark = 2),

@@ -301,24 +301,19 @@ fn stored_images_are_of_their_forms() {
 #[test]
 fn stored_images_of_older_forms() {
     for stored in STORED {
-        let (mut made, both) = (stored.made(), stored.both());
+        let (made, both) = (stored.made(), stored.both());
         assert_eq!(made.image(), both[1]);
         for bytes in &both {
-            let mut loaded = Table::load(bytes).expect("a sound image");
+            let loaded = Table::load(bytes).expect("a sound image");
             assert_eq!((loaded.order(), loaded.metric()), (made.order(), made.metric()));
             assert_eq!((loaded.weights(), loaded.len()), (made.weights(), 11));
             assert_eq!(loaded.image(), both[1]);
             assert_eq!(loaded.look_up(tag(1)).map(|found| found.day), Ok(Day::MIN));
             for query in (0..16).map(stored_item) {
-                let hits = |table: &mut Table, first_day: Option<Day>| {
-                    let hits = table.nearest(&query, 5, first_day).expect("room");
-                    let found: Vec<_> = hits.iter().map(|hit| (hit.tag(), hit.distance())).collect();
-                    (found, hits.distances())
-                };
                 for first_day in [None, Some(Day::MIN)] {
-                    assert_eq!(hits(&mut loaded, first_day), hits(&mut made, first_day));
+                    assert_eq!(loaded.nearest(&query, 5, first_day), made.nearest(&query, 5, first_day));
                 }
-                assert_eq!(hits(&mut loaded, Day::new(2).ok()).0, []);
+                assert!(loaded.nearest(&query, 5, Day::new(2).ok()).expect("a count").is_empty());
             }
         }
     }

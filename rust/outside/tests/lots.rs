@@ -126,7 +126,8 @@ fn short_areas() {
 // The table goes before the radii, its marks too: those of an add.
 #[test]
 fn the_table_is_tested_first() {
-    let faults: [(fn(&mut Vec<Row>), u32); 6] = [
+    type Fault = fn(&mut Vec<Row>);
+    let faults: [(Fault, u32); 6] = [
         (|rows| rows.clear(), 23),
         (|rows| rows[0][1] = 3, 24),
         (|rows| rows.truncate(table_rows(2) - 1), 23),

@@ -2,11 +2,13 @@
 
 use outside::random::Random;
 use reference::item::{Space, distance};
-use vpindex::{Day, Metric, Order, Profile, Refusal, Table, Tag, Weights};
+use vpindex::{Day, Hits, Item, Metric, Order, Profile, Refusal, Table, Tag, Weights};
 
 struct Both {
     table: Table,
-    items: Vec<(Tag, Profile, Day)>,
+    items: Vec<Item>,
+    // lent to every search, with room for all
+    hits: Hits,
     random: Random,
 }
 
@@ -24,7 +26,7 @@ impl Both {
         let (tag, profile) = (Tag::new(36, national).expect("valid"), self.profile());
         let day = Day::new(self.random.day()).expect("not 0");
         match self.table.add(tag, &profile, day) {
-            Ok(_) => self.items.push((tag, profile, day)),
+            Ok(_) => self.items.push(Item { tag, profile, day }),
             Err(refusal) => {
                 assert_eq!((refusal, self.items.len()), (Refusal::Full, self.table.order().capacity()));
             }
@@ -36,18 +38,18 @@ impl Both {
             return;
         }
         let at = self.random.below(self.items.len());
-        let (tag, profile, day) = self.items.swap_remove(at);
-        let found = self.table.look_up(tag).expect("live");
-        assert_eq!((found.profile, found.day), (profile, day));
-        self.table.remove(tag).expect("live");
+        let item = self.items.swap_remove(at);
+        assert_eq!(self.table.get(item.tag), Some(item));
+        self.table.remove(item.tag).expect("live");
+        assert!(!self.table.contains(item.tag));
     }
 
     // every item not weighed before the first day, by distance, then tag
     fn scan(&self, query: &Profile, first_day: Option<Day>) -> Vec<(u32, Tag)> {
         let space = Space { metric: self.table.metric().get(), weights: self.table.weights().each() };
         let away = |profile| distance(&space, &plain(profile), &plain(query));
-        let since = self.items.iter().filter(|item| first_day.is_none_or(|first| item.2 >= first));
-        let mut all: Vec<_> = since.map(|(tag, profile, _)| (away(profile), *tag)).collect();
+        let since = self.items.iter().filter(|item| first_day.is_none_or(|first| item.day >= first));
+        let mut all: Vec<_> = since.map(|item| (away(&item.profile), item.tag)).collect();
         all.sort_unstable();
         all
     }
@@ -58,9 +60,22 @@ impl Both {
         let all = self.scan(&query, first_day);
         let within: Vec<_> = all.iter().copied().filter(|hit| hit.0 <= radius).collect();
         let hits = self.table.range(&query, radius, first_day);
-        assert!(hits.into_iter().map(|hit| (hit.distance(), hit.tag())).eq(within));
-        let hits = self.table.nearest(&query, count as u32, first_day).expect("room for all");
-        assert!(hits.into_iter().map(|hit| (hit.distance(), hit.tag())).eq(all.into_iter().take(count)));
+        assert!(hits.iter().map(|hit| (hit.distance(), hit.tag())).eq(within));
+        self.table.range_into(&query, radius, first_day, &mut self.hits).expect("room for all");
+        assert_eq!(self.hits, hits);
+        let hits = self.table.nearest(&query, count as u32, first_day).expect("a count");
+        assert!(hits.iter().map(|hit| (hit.distance(), hit.tag())).eq(all.into_iter().take(count)));
+        self.table.nearest_into(&query, count as u32, first_day, &mut self.hits).expect("room for all");
+        assert_eq!(self.hits, hits);
+    }
+
+    // every item that is live, once
+    fn items(&self) {
+        let by_tag = |mut items: Vec<Item>| {
+            items.sort_unstable_by_key(|item| item.tag);
+            items
+        };
+        assert_eq!(by_tag(self.table.iter().collect()), by_tag(self.items.clone()));
     }
 
     fn reload(&mut self) {
@@ -75,7 +90,8 @@ impl Both {
 fn grow_and_shrink(order: u32, metric: Metric, weights: Weights, most: usize) {
     let order = Order::new(order).expect("valid");
     let table = Table::with_weights(order, metric, weights);
-    let mut both = Both { table, items: vec![], random: Random::new(order.get() as u64 + 1) };
+    let hits = Hits::with_capacity(table.capacity());
+    let mut both = Both { table, items: vec![], hits, random: Random::new(order.get() as u64 + 1) };
     for (step, national) in (0..3 * most as u64).enumerate() {
         if step < most || step < 2 * most && step % 2 == 0 {
             both.add(national);
@@ -84,6 +100,7 @@ fn grow_and_shrink(order: u32, metric: Metric, weights: Weights, most: usize) {
         }
         if step % 16 == 0 {
             both.search();
+            both.items();
         }
         if step % 1000 == 999 {
             both.reload();

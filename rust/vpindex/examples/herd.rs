@@ -52,7 +52,7 @@ fn main() -> Result<(), Refusal> {
 
     match loaded.read_list(LIST.as_bytes(), Day::new(306)?) {
         Ok(read) => println!("list: {} added, {} distances", read.added, read.distances),
-        Err(ListRefusal { line, refusal, added, distances }) => {
+        Err(ListRefusal { line, refusal, added, distances, .. }) => {
             println!("list: {added} added, {distances} distances; line {line}: refusal {}", refusal.number());
         }
     }
@@ -63,7 +63,7 @@ fn main() -> Result<(), Refusal> {
 
 fn print(question: &str, hits: Hits) {
     println!("{question}: {} found, {} distances", hits.len(), hits.distances());
-    for hit in hits {
+    for hit in &hits {
         println!("  {} {}", hit.tag(), hit.distance());
     }
 }

@@ -33,23 +33,22 @@ fn run() -> Result<ExitCode, Box<dyn Error>> {
         Err(refused) => println!("{refused}"),
     }
     if !table.is_empty() {
-        nearest_to_first(&mut table, &list)?;
+        nearest_to_first(&table, &list)?;
     }
     Ok(if read.is_ok() { ExitCode::SUCCESS } else { ExitCode::FAILURE })
 }
 
 fn day_in(word: &OsStr) -> Result<Day, String> {
-    let number = word.to_str().and_then(|digits| digits.parse().ok());
-    number.and_then(|number| Day::new(number).ok()).ok_or_else(|| format!("{}: not a day, 1 to 65535", word.display()))
+    let day = word.to_str().and_then(|digits| digits.parse().ok());
+    day.ok_or_else(|| format!("{}: not a day, 1 to 65535", word.display()))
 }
 
 // The line after the header was added, so it begins with the 15 digits of a valid tag. What follows it may be any
 // bytes.
-fn nearest_to_first(table: &mut Table, list: &[u8]) -> Result<(), Box<dyn Error>> {
-    let digits = str::from_utf8(&list[HEADER.len()..][..15])?;
-    let tag = Tag::try_from(digits.parse::<u64>()?)?;
+fn nearest_to_first(table: &Table, list: &[u8]) -> Result<(), Box<dyn Error>> {
+    let tag: Tag = str::from_utf8(&list[HEADER.len()..][..15])?.parse()?;
     let LookedUp { profile, day, .. } = table.look_up(tag)?;
-    println!("nearest 3 to {tag}, weighed on day {}:", day.get());
+    println!("nearest 3 to {tag}, weighed on day {day}:");
     for hit in table.nearest(&profile, 3, None)? {
         println!("  {} {}", hit.tag(), hit.distance());
     }

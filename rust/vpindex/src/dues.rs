@@ -17,6 +17,12 @@ impl Cents {
     }
 }
 
+impl From<Cents> for u64 {
+    fn from(cents: Cents) -> u64 {
+        cents.0
+    }
+}
+
 impl fmt::Display for Cents {
     fn fmt(&self, f: &mut fmt::Formatter<'_>) -> fmt::Result {
         f.pad(&format!("{}.{:02}", self.0 / 100, self.0 % 100))
@@ -24,7 +30,7 @@ impl fmt::Display for Cents {
 }
 
 /// What the items of a list pay.
-#[derive(Clone, Debug, PartialEq, Eq)]
+#[derive(Clone, Debug, PartialEq, Eq, Hash)]
 pub struct Dues {
     /// Of each tag, in the order of the list.
     pub each: Vec<Cents>,

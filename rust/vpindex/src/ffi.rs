@@ -14,7 +14,7 @@ pub type Row = [u32; ROW_WORDS];
 pub type Entry = [u64; 2];
 
 #[repr(C)]
-#[derive(Clone, Copy, Debug, Default, PartialEq, Eq)]
+#[derive(Clone, Copy, Debug, Default, PartialEq, Eq, Hash)]
 pub struct Profile {
     pub measures: [i32; 4],
     pub code: [u64; 2],

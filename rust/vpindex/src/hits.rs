@@ -1,11 +1,12 @@
 //! What a search found.
 
+use std::fmt;
 use std::ops::Deref;
 
-use crate::{Tag, ffi};
+use crate::{Refusal, Tag, ffi};
 
 /// An item that a search found.
-#[derive(Clone, Copy, Debug, PartialEq, Eq)]
+#[derive(Clone, Copy, PartialEq, Eq, Hash)]
 #[repr(transparent)]
 pub struct Hit(ffi::Entry);
 
@@ -19,75 +20,107 @@ impl Hit {
     pub fn distance(&self) -> u32 {
         self.0[1] as u32
     }
+
+    // for so many; they are none yet
+    pub(crate) fn room(hits: usize) -> Vec<Hit> {
+        vec![Hit([0; 2]); hits]
+    }
+
+    // a hit is an entry and nothing else
+    pub(crate) fn entries(hits: &mut [Hit]) -> &mut [ffi::Entry] {
+        unsafe { &mut *(hits as *mut [Hit] as *mut [ffi::Entry]) }
+    }
 }
 
-impl Hit {
-    // a hit is an entry and nothing else
-    fn of(entries: &[ffi::Entry]) -> &[Hit] {
-        unsafe { &*(entries as *const [ffi::Entry] as *const [Hit]) }
+/// As `Hit(036000000000101, 350)`.
+impl fmt::Debug for Hit {
+    fn fmt(&self, f: &mut fmt::Formatter<'_>) -> fmt::Result {
+        write!(f, "Hit({}, {})", self.tag(), self.distance())
     }
 }
 
 /// What a search found: a slice of hits by distance, then tag.
-#[derive(Clone, Copy, Debug)]
-pub struct Hits<'a> {
-    hits: &'a [Hit],
+///
+/// [`Table::range`](crate::Table::range) and [`Table::nearest`](crate::Table::nearest) return one. It is also what a
+/// caller lends to [`Table::range_into`](crate::Table::range_into) and
+/// [`Table::nearest_into`](crate::Table::nearest_into), again and again, where a search must not allocate.
+#[derive(Clone, Default)]
+pub struct Hits {
+    // of any content past the hits that were found
+    room: Vec<Hit>,
+    found: usize,
     distances: u32,
 }
 
-impl<'a> Hits<'a> {
-    pub(crate) fn new(entries: &'a [ffi::Entry], distances: u32) -> Hits<'a> {
-        Hits { hits: Hit::of(entries), distances }
+impl Hits {
+    /// Nothing found yet, with room for so many hits. It never grows: a search that finds more is refused.
+    pub fn with_capacity(hits: usize) -> Hits {
+        Hits { room: Hit::room(hits), found: 0, distances: 0 }
+    }
+
+    /// For how many hits there is room.
+    pub fn capacity(&self) -> usize {
+        self.room.len()
     }
 
     /// How many distances the search worked out.
     pub fn distances(&self) -> u32 {
         self.distances
     }
-}
 
-impl Deref for Hits<'_> {
-    type Target = [Hit];
+    // A refused search's reply is zeros but for the number, so nothing is found then.
+    pub(crate) fn fill(&mut self, search: impl FnOnce(&mut [ffi::Entry]) -> ffi::Searched) -> Result<(), Refusal> {
+        let reply = search(Hit::entries(&mut self.room));
+        (self.found, self.distances) = (reply.found as usize, reply.distances);
+        Refusal::check(reply.refusal)
+    }
 
-    fn deref(&self) -> &[Hit] {
-        self.hits
+    // what is kept for long has no more room than it needs
+    pub(crate) fn trimmed(mut self) -> Hits {
+        self.room.truncate(self.found);
+        self.room.shrink_to_fit();
+        self
     }
 }
 
-impl<'a> IntoIterator for Hits<'a> {
+impl Deref for Hits {
+    type Target = [Hit];
+
+    fn deref(&self) -> &[Hit] {
+        &self.room[..self.found]
+    }
+}
+
+/// The hits and the number of distances; how much room there is does not count.
+impl PartialEq for Hits {
+    fn eq(&self, other: &Hits) -> bool {
+        self[..] == other[..] && self.distances == other.distances
+    }
+}
+
+impl Eq for Hits {}
+
+impl fmt::Debug for Hits {
+    fn fmt(&self, f: &mut fmt::Formatter<'_>) -> fmt::Result {
+        f.debug_struct("Hits").field("hits", &&self[..]).field("distances", &self.distances).finish()
+    }
+}
+
+impl<'a> IntoIterator for &'a Hits {
     type Item = &'a Hit;
     type IntoIter = std::slice::Iter<'a, Hit>;
 
     fn into_iter(self) -> Self::IntoIter {
-        self.hits.iter()
+        self.iter()
     }
 }
 
-/// What a batch found: a list of hits for each query, in the order of the queries.
-#[derive(Clone, Debug)]
-pub struct Batch {
-    lists: Vec<Vec<Hit>>,
-    distances: u32,
-}
+impl IntoIterator for Hits {
+    type Item = Hit;
+    type IntoIter = std::vec::IntoIter<Hit>;
 
-impl Batch {
-    // of the area's parts, one for each query
-    pub(crate) fn new(entries: &[ffi::Entry], queries: usize, reply: &ffi::Ranges) -> Batch {
-        let part = entries.len() / queries;
-        let list = |j: usize| Hit::of(&entries[j * part..][..reply.found[j] as usize]).to_vec();
-        Batch { lists: (0..queries).map(list).collect(), distances: reply.distances }
-    }
-
-    /// How many slots the batch met: each once, however many of its queries met it.
-    pub fn distances(&self) -> u32 {
-        self.distances
-    }
-}
-
-impl Deref for Batch {
-    type Target = [Vec<Hit>];
-
-    fn deref(&self) -> &[Vec<Hit>] {
-        &self.lists
+    fn into_iter(mut self) -> Self::IntoIter {
+        self.room.truncate(self.found);
+        self.room.into_iter()
     }
 }

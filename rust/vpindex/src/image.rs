@@ -9,7 +9,7 @@ use crate::{Refusal, ffi};
 ///
 /// It is written as, for one, `slot 4 (slot 3 of bucket 2, byte 264): its threshold is not the one that the tree's
 /// layout gives it`; without a place as the refusal is.
-#[derive(Clone, Copy, Debug, PartialEq, Eq)]
+#[derive(Clone, Copy, Debug, PartialEq, Eq, Hash)]
 pub struct ImageRefusal {
     /// What is wrong with the image.
     pub refusal: Refusal,
@@ -19,7 +19,7 @@ pub struct ImageRefusal {
 }
 
 /// A slot of an image.
-#[derive(Clone, Copy, Debug, PartialEq, Eq)]
+#[derive(Clone, Copy, Debug, PartialEq, Eq, Hash)]
 pub struct SlotAt {
     /// Counted from 0 over all slots of the image.
     pub slot: u32,

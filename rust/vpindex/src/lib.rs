@@ -30,24 +30,32 @@
 #[doc = include_str!("../../../README.md")]
 struct Readme;
 
+mod batch;
 mod dues;
 #[doc(hidden)]
 pub mod ffi;
 mod hits;
 mod image;
+mod items;
 mod list;
+mod list_fault;
 mod lots;
 mod refusal;
 mod states;
 mod table;
+mod text;
 mod values;
 
+pub use batch::Batch;
 pub use dues::{Cents, Dues};
-pub use hits::{Batch, Hit, Hits};
+pub use hits::{Hit, Hits};
 pub use image::{ImageRefusal, SlotAt};
+pub use items::{Item, Items};
 pub use list::{ListRead, ListRefusal};
+pub use list_fault::ListFault;
 pub use lots::{Drafted, Lots};
 pub use refusal::Refusal;
 pub use states::States;
 pub use table::{Added, LookedUp, Table};
+pub use text::ParseError;
 pub use values::{Day, Metric, Name, Order, Profile, RangeQuery, Tag, Weights};

@@ -3,10 +3,10 @@
 use std::error::Error;
 use std::fmt;
 
-use crate::{Refusal, ffi};
+use crate::{ListFault, Refusal, ffi};
 
 /// What the reading of a whole list did.
-#[derive(Clone, Copy, Debug, PartialEq, Eq)]
+#[derive(Clone, Copy, Debug, PartialEq, Eq, Hash)]
 pub struct ListRead {
     /// Items added, one for each line after the header.
     pub added: u32,
@@ -16,13 +16,16 @@ pub struct ListRead {
 
 /// Where the reading of a list stopped, and why. The lines before stay added.
 ///
-/// It is written as, for one, `line 3: the tag is in the table already (1 added before it)`.
-#[derive(Clone, Copy, Debug, PartialEq, Eq)]
+/// It is written as, for one,
+/// ``line 3, field 2: `412.50` has a point where a comma belongs (1 added before it)``.
+#[derive(Clone, Debug, PartialEq, Eq, Hash)]
 pub struct ListRefusal {
     /// The line that was refused, the header being line 1.
     pub line: u32,
-    /// What is wrong with it.
+    /// Why, as the archive says it.
     pub refusal: Refusal,
+    /// What is wrong in the line, where its text shows it.
+    pub fault: Option<ListFault>,
     /// Items added by the lines before it.
     pub added: u32,
     /// Distances worked out by their builds.
@@ -31,16 +34,27 @@ pub struct ListRefusal {
 
 impl fmt::Display for ListRefusal {
     fn fmt(&self, f: &mut fmt::Formatter<'_>) -> fmt::Result {
-        write!(f, "line {}: {} ({} added before it)", self.line, self.refusal, self.added)
+        let ListRefusal { line, refusal, fault, added, .. } = self;
+        match fault {
+            None => write!(f, "line {line}: {refusal}"),
+            Some(fault) => fault.write_at(*line, f),
+        }?;
+        write!(f, " ({added} added before it)")
     }
 }
 
 impl Error for ListRefusal {}
 
-pub(crate) fn check(reply: ffi::ListRead) -> Result<ListRead, ListRefusal> {
+impl From<ListRefusal> for Refusal {
+    fn from(refused: ListRefusal) -> Refusal {
+        refused.refusal
+    }
+}
+
+pub(crate) fn check(reply: ffi::ListRead, list: &[u8]) -> Result<ListRead, ListRefusal> {
     let ffi::ListRead { refusal, line, added, distances } = reply;
     match Refusal::check(refusal) {
         Ok(()) => Ok(ListRead { added, distances }),
-        Err(refusal) => Err(ListRefusal { line, refusal, added, distances }),
+        Err(refusal) => Err(ListRefusal { line, refusal, fault: ListFault::of(list, line, refusal), added, distances }),
     }
 }

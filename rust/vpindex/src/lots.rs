@@ -12,7 +12,7 @@ pub struct Drafted {
 }
 
 /// Items drafted by each of some radii, with the lots by one of them.
-#[derive(Clone, Debug, PartialEq, Eq)]
+#[derive(Clone, Debug, PartialEq, Eq, Hash)]
 pub struct Lots {
     by_radius: Vec<Drafted>,
     tags: Vec<Tag>,

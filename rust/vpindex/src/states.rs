@@ -1,5 +1,7 @@
 //! Snapshots of tables under names.
 
+use std::fmt;
+
 use crate::{Name, Order};
 
 // The bytes of the length that a snapshot begins with.
@@ -8,7 +10,7 @@ const LENGTH: usize = 4;
 /// Snapshots of tables, one under each [`Name`]: [`Table::save`](crate::Table::save) puts one there, and
 /// [`Table::restore`](crate::Table::restore) makes a table of it. The bytes can be kept elsewhere and come back by
 /// [`States::from`].
-#[derive(Clone, Debug, PartialEq, Eq)]
+#[derive(Clone, PartialEq, Eq)]
 pub struct States(Vec<u8>);
 
 impl States {
@@ -50,6 +52,14 @@ impl States {
     }
 }
 
+/// Short: the names under which something was saved, and the number of bytes.
+impl fmt::Debug for States {
+    fn fmt(&self, f: &mut fmt::Formatter<'_>) -> fmt::Result {
+        let saved: Vec<u32> = self.saved().map(Name::get).collect();
+        f.debug_struct("States").field("saved", &saved).field("bytes", &self.0.len()).finish()
+    }
+}
+
 /// Of bytes that [`States::as_bytes`] gave, or any others: what is not a snapshot is refused when it is restored.
 impl From<Vec<u8>> for States {
     fn from(bytes: Vec<u8>) -> States {
@@ -84,5 +94,12 @@ mod tests {
             assert_eq!(saved(&bytes), name.into_iter().collect::<Vec<u32>>(), "byte {at} of 47");
         }
         assert_eq!(States::new(Order::MAX).saved().count(), 0);
+    }
+
+    #[test]
+    fn short_debug() {
+        let mut bytes = vec![0; 80];
+        bytes[10] = 1;
+        assert_eq!(format!("{:?}", States::from(bytes)), "States { saved: [2], bytes: 80 }");
     }
 }

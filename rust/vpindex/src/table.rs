@@ -1,13 +1,16 @@
 //! The table, with the areas that its calls are lent.
 
+use std::fmt;
+
 use crate::image::{self, ImageRefusal};
 use crate::list::{self, ListRead, ListRefusal};
 use crate::{
-    Batch, Cents, Day, Dues, Hits, Lots, Metric, Name, Order, Profile, RangeQuery, Refusal, States, Tag, Weights, ffi,
+    Batch, Cents, Day, Dues, Hits, Item, Items, Lots, Metric, Name, Order, Profile, RangeQuery, Refusal, States, Tag,
+    Weights, ffi,
 };
 
 /// What an add did.
-#[derive(Clone, Copy, Debug, PartialEq, Eq)]
+#[derive(Clone, Copy, Debug, PartialEq, Eq, Hash)]
 pub struct Added {
     /// The bucket that was built, with the new item in it.
     pub bucket: u32,
@@ -16,7 +19,7 @@ pub struct Added {
 }
 
 /// Where an item is, and what was handed over with it.
-#[derive(Clone, Copy, Debug, PartialEq, Eq)]
+#[derive(Clone, Copy, Debug, PartialEq, Eq, Hash)]
 pub struct LookedUp {
     /// The bucket that it is in.
     pub bucket: u32,
@@ -28,15 +31,18 @@ pub struct LookedUp {
 
 /// Items that can be asked for by likeness.
 ///
-/// A table allocates when it is made, [`Table::image`], [`Table::dues`] and [`Table::range_batch`] what they return, and
-/// [`Table::lots`] that and some 128 KiB at order 12 to work in; no other call allocates. The areas of one of order T are
-/// 52·(3·2^T + T + 1) + 16·2^T bytes, some 689 KiB at order 12.
-#[derive(Clone, Debug)]
+/// Threads can search one table together: every call that leaves the table as it is takes `&self` and writes nothing but
+/// what it returns.
+///
+/// A table allocates when it is made: 52·(3·2^T + T + 1) bytes where its order is T, some 625 KiB at order 12. A call
+/// allocates what it returns, where that is of no fixed size; [`Table::add`], [`Table::remove`], [`Table::look_up`],
+/// [`Table::range_into`], [`Table::nearest_into`] and [`Table::range_batch_into`] allocate nothing. [`Table::lots`] needs
+/// some 128 KiB more at order 12 while it works.
+#[derive(Clone)]
 pub struct Table {
     header: Header,
     rows: Vec<ffi::Row>,
     work: Vec<ffi::Row>,
-    result: Vec<ffi::Entry>,
 }
 
 // What a table's first row says.
@@ -133,7 +139,6 @@ impl Table {
             header,
             rows: vec![[0; ffi::ROW_WORDS]; order.table_rows()],
             work: vec![[0; ffi::ROW_WORDS]; order.capacity()],
-            result: vec![[0; 2]; order.capacity()],
         }
     }
 
@@ -163,15 +168,19 @@ impl Table {
     ///
     /// let again = table.read_list(list.as_bytes(), day).unwrap_err();
     /// assert_eq!((again.line, again.refusal), (2, Refusal::AlreadyLive));
-    /// assert_eq!(again.to_string(), "line 2: the tag is in the table already (0 added before it)");
+    /// assert_eq!(
+    ///     again.to_string(),
+    ///     "line 2, field 1: `036000000000101` is in the table already (0 added before it)"
+    /// );
     /// # Ok::<(), Box<dyn std::error::Error>>(())
     /// ```
     ///
     /// The reading stops at the first line that is refused, and the lines before it stay added.
     /// [`Refusal::BadListHeader`] if the list begins with another line, [`Refusal::BadListLine`] for a line not of the
-    /// form; else a line is refused as [`Table::add`] or the making of its tag and profile would be.
+    /// form; else a line is refused as [`Table::add`] or the making of its tag and profile would be. What is wrong in
+    /// the line is in [`ListRefusal::fault`].
     pub fn read_list(&mut self, list: &[u8], day: Day) -> Result<ListRead, ListRefusal> {
-        list::check(ffi::read_list(&mut self.rows, &mut self.work, list, day.get()))
+        list::check(ffi::read_list(&mut self.rows, &mut self.work, list, day.get()), list)
     }
 
     /// Removes an item, and gives the number of distances that were worked out. [`Refusal::NotLive`] if it is not
@@ -190,21 +199,88 @@ impl Table {
         Ok(LookedUp { bucket: reply.bucket, profile, day })
     }
 
+    /// The item with this tag, if it is there.
+    pub fn get(&self, tag: Tag) -> Option<Item> {
+        self.look_up(tag).ok().map(|LookedUp { profile, day, .. }| Item { tag, profile, day })
+    }
+
+    /// Whether an item has this tag.
+    pub fn contains(&self, tag: Tag) -> bool {
+        self.look_up(tag).is_ok()
+    }
+
+    /// All items, in no order that can be relied on.
+    ///
+    /// ```
+    /// use vpindex::{Day, Metric, Order, Profile, Table, Tag};
+    ///
+    /// let mut table = Table::new(Order::new(4)?, Metric::SumOfDifferences);
+    /// for (national, kilos) in [(1, 41_250), (2, 39_800), (3, 55_600)] {
+    ///     table.add(Tag::new(36, national)?, &Profile::new([kilos, 0, 0, 0], [0, 0])?, Day::MIN)?;
+    /// }
+    /// assert_eq!(table.iter().filter(|item| item.profile.measures()[0] > 40_000).count(), 2);
+    /// # Ok::<(), vpindex::Refusal>(())
+    /// ```
+    pub fn iter(&self) -> Items<'_> {
+        let (front, slots) = self.rows.split_at(self.order().get() as usize + 2);
+        Items::new(&front[1..], slots)
+    }
+
     /// All items whose distance from the query is at most the radius and which were weighed on the first day or later;
     /// `None` is any day.
-    pub fn range(&mut self, query: &Profile, radius: u32, first_day: Option<Day>) -> Hits<'_> {
-        let reply = ffi::range(&self.rows, &mut self.result, query.raw(), radius, Day::raw_first(first_day));
-        assert_eq!(reply.refusal, 0, "the query is valid, and the result area holds every item");
-        self.hits(reply)
+    pub fn range(&self, query: &Profile, radius: u32, first_day: Option<Day>) -> Hits {
+        let mut hits = Hits::with_capacity(self.len());
+        let done = self.range_into(query, radius, first_day, &mut hits);
+        assert_eq!(done, Ok(()), "the query is valid, and there is room for every item");
+        hits.trimmed()
+    }
+
+    /// As [`Table::range`], in place of what was found before, and with nothing allocated. [`Refusal::NoRoom`] if more
+    /// is found than there is room for, and then there are no hits; room for [`Table::capacity`] is always enough.
+    ///
+    /// ```
+    /// use vpindex::{Day, Hits, Metric, Order, Profile, Table, Tag};
+    ///
+    /// let mut table = Table::new(Order::new(4)?, Metric::SumOfDifferences);
+    /// table.add(Tag::new(36, 1)?, &Profile::new([41_250, 12_900, 18_500, 95], [0, 0])?, Day::MIN)?;
+    ///
+    /// let mut hits = Hits::with_capacity(table.capacity());
+    /// for (kilos, found) in [(41_000, 1), (45_000, 0)] {
+    ///     let query = Profile::new([kilos, 12_900, 18_500, 95], [0, 0])?;
+    ///     table.range_into(&query, 500, None, &mut hits)?;
+    ///     assert_eq!(hits.len(), found);
+    /// }
+    /// # Ok::<(), vpindex::Refusal>(())
+    /// ```
+    pub fn range_into(
+        &self,
+        query: &Profile,
+        radius: u32,
+        first_day: Option<Day>,
+        hits: &mut Hits,
+    ) -> Result<(), Refusal> {
+        hits.fill(|result| ffi::range(&self.rows, result, query.raw(), radius, Day::raw_first(first_day)))
     }
 
     /// Of the items weighed on the first day or later the `count` nearest to the query, or all where there are fewer;
     /// `None` is any day. Of items at the same distance the lower tag goes first. [`Refusal::NoCount`] where `count` is
     /// 0.
-    pub fn nearest(&mut self, query: &Profile, count: u32, first_day: Option<Day>) -> Result<Hits<'_>, Refusal> {
-        let reply = ffi::nearest(&self.rows, &mut self.result, query.raw(), count, Day::raw_first(first_day));
-        Refusal::check(reply.refusal)?;
-        Ok(self.hits(reply))
+    pub fn nearest(&self, query: &Profile, count: u32, first_day: Option<Day>) -> Result<Hits, Refusal> {
+        let mut hits = Hits::with_capacity(self.len().min(count as usize));
+        self.nearest_into(query, count, first_day, &mut hits)?;
+        Ok(hits.trimmed())
+    }
+
+    /// As [`Table::nearest`], in place of what was found before, and with nothing allocated. [`Refusal::NoRoom`] if more
+    /// is found than there is room for, and then there are no hits; room for `count` is always enough.
+    pub fn nearest_into(
+        &self,
+        query: &Profile,
+        count: u32,
+        first_day: Option<Day>,
+        hits: &mut Hits,
+    ) -> Result<(), Refusal> {
+        hits.fill(|result| ffi::nearest(&self.rows, result, query.raw(), count, Day::raw_first(first_day)))
     }
 
     /// What these items pay at the gate: each one rate on its whole weight, its first measure as kilos, to the nearest
@@ -237,8 +313,7 @@ impl Table {
     }
 
     /// For each of 1 to 16 queries what [`Table::range`] gives; a slot that several of them meet is met once.
-    /// [`Refusal::BadBatch`] for no query or more than 16. No other refusal can come back: a query's measures were
-    /// checked when its profile was made, and each part of the result area holds every item.
+    /// [`Refusal::BadBatch`] for no query or more than 16; no other refusal can come back.
     ///
     /// ```
     /// use vpindex::{Day, Metric, Order, Profile, RangeQuery, Table, Tag};
@@ -256,12 +331,22 @@ impl Table {
     /// # Ok::<(), vpindex::Refusal>(())
     /// ```
     pub fn range_batch(&self, queries: &[RangeQuery]) -> Result<Batch, Refusal> {
-        let rows: Vec<ffi::Row> = queries.iter().map(RangeQuery::raw).collect();
-        let room = if rows.len() <= ffi::MAX_QUERIES { rows.len() * self.order().capacity() } else { 0 };
-        let mut result = vec![[0; 2]; room];
-        let reply = ffi::range_batch(&self.rows, &mut result, &rows);
-        Refusal::check(reply.refusal)?;
-        Ok(Batch::new(&result, rows.len(), &reply))
+        let mut batch = Batch::with_capacity(self.len() * queries.len().min(ffi::MAX_QUERIES));
+        self.range_batch_into(queries, &mut batch)?;
+        Ok(batch.trimmed())
+    }
+
+    /// As [`Table::range_batch`], in place of what was found before, and with nothing allocated. [`Refusal::NoRoom`] if a
+    /// query finds more than its part of the room holds, and then there are no hits; room for [`Table::capacity`] times
+    /// the number of queries is always enough.
+    pub fn range_batch_into(&self, queries: &[RangeQuery], batch: &mut Batch) -> Result<(), Refusal> {
+        let mut rows = [[0; ffi::ROW_WORDS]; ffi::MAX_QUERIES];
+        // more than there are rows for are refused as none are
+        let asked = if queries.len() <= rows.len() { queries } else { &[] };
+        for (row, query) in rows.iter_mut().zip(asked) {
+            *row = query.raw();
+        }
+        batch.fill(asked.len(), |result| ffi::range_batch(&self.rows, result, &rows[..asked.len()]))
     }
 
     /// The items drafted into lots by each of 1 to 32 radii, with the lots by one of them, chosen by its place in the list
@@ -291,11 +376,6 @@ impl Table {
         Refusal::check(ffi::lots(&self.rows, &mut work, radii, &mut summary, &mut listing, chosen))?;
         let listed = listing.iter().take_while(|entry| entry[1] != 0).count();
         Ok(Lots::new(&summary, &listing[..listed]))
-    }
-
-    // of an accepted search
-    fn hits(&self, reply: ffi::Searched) -> Hits<'_> {
-        Hits::new(&self.result[..reply.found as usize], reply.distances)
     }
 
     /// The table as bytes, which [`Table::load`] reads.
@@ -351,6 +431,11 @@ impl Table {
         self.header.weights
     }
 
+    /// How many items it can hold.
+    pub fn capacity(&self) -> usize {
+        self.order().capacity()
+    }
+
     /// How many items there are.
     pub fn len(&self) -> usize {
         self.sizes().map(|size| size[1] as usize).sum()
@@ -359,6 +444,27 @@ impl Table {
     /// Whether there are none.
     pub fn is_empty(&self) -> bool {
         self.len() == 0
+    }
+}
+
+/// Short: what it was made with, and the number of items.
+impl fmt::Debug for Table {
+    fn fmt(&self, f: &mut fmt::Formatter<'_>) -> fmt::Result {
+        f.debug_struct("Table")
+            .field("order", &self.order().get())
+            .field("metric", &self.metric())
+            .field("weights", &self.weights().each())
+            .field("len", &self.len())
+            .finish()
+    }
+}
+
+impl<'a> IntoIterator for &'a Table {
+    type Item = Item;
+    type IntoIter = Items<'a>;
+
+    fn into_iter(self) -> Items<'a> {
+        self.iter()
     }
 }
 

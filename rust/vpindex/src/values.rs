@@ -1,14 +1,12 @@
 //! Arguments that are checked once, when they are made.
 
-use std::fmt;
-
 use crate::{Refusal, ffi};
 
 const COUNTRY: u64 = 1_000_000_000_000;
 const LAST_NATIONAL: u64 = 274_877_906_943;
 
 /// What an item is known by: a country, 1 to 999, and a national number of 38 bits.
-#[derive(Clone, Copy, Debug, PartialEq, Eq, PartialOrd, Ord, Hash)]
+#[derive(Clone, Copy, PartialEq, Eq, PartialOrd, Ord, Hash)]
 #[repr(transparent)]
 pub struct Tag(u64);
 
@@ -50,15 +48,8 @@ impl From<Tag> for u64 {
     }
 }
 
-/// All 15 digits.
-impl fmt::Display for Tag {
-    fn fmt(&self, f: &mut fmt::Formatter<'_>) -> fmt::Result {
-        write!(f, "{:015}", self.0)
-    }
-}
-
 /// What distances are worked out from: four measures in hundredths, and a code of two words.
-#[derive(Clone, Copy, Debug, Default, PartialEq, Eq)]
+#[derive(Clone, Copy, Debug, Default, PartialEq, Eq, Hash)]
 pub struct Profile(ffi::Profile);
 
 impl Profile {
@@ -91,7 +82,7 @@ impl Profile {
 }
 
 /// A query of [`crate::Table::range_batch`]: a profile with a radius and a first day of its own.
-#[derive(Clone, Copy, Debug, PartialEq, Eq)]
+#[derive(Clone, Copy, Debug, PartialEq, Eq, Hash)]
 pub struct RangeQuery {
     /// From which distances are worked out.
     pub profile: Profile,
@@ -172,6 +163,21 @@ impl Weights {
     }
 }
 
+/// As [`Weights::new`].
+impl TryFrom<[u32; 4]> for Weights {
+    type Error = Refusal;
+
+    fn try_from(each: [u32; 4]) -> Result<Weights, Refusal> {
+        Weights::new(each)
+    }
+}
+
+impl From<Weights> for [u32; 4] {
+    fn from(weights: Weights) -> [u32; 4] {
+        weights.each()
+    }
+}
+
 /// [`Weights::ONE`].
 impl Default for Weights {
     fn default() -> Weights {
@@ -238,6 +244,9 @@ pub enum Metric {
 }
 
 impl Metric {
+    /// All metrics in the order of their numbers.
+    pub const ALL: [Metric; 3] = [Metric::SumOfDifferences, Metric::DifferingBits, Metric::LargestDifference];
+
     /// Its number.
     pub fn get(self) -> u32 {
         self as u32
@@ -249,12 +258,13 @@ impl TryFrom<u32> for Metric {
     type Error = Refusal;
 
     fn try_from(number: u32) -> Result<Metric, Refusal> {
-        match number {
-            0 => Ok(Metric::SumOfDifferences),
-            1 => Ok(Metric::DifferingBits),
-            2 => Ok(Metric::LargestDifference),
-            _ => Err(Refusal::BadMetric),
-        }
+        Metric::ALL.into_iter().find(|metric| metric.get() == number).ok_or(Refusal::BadMetric)
+    }
+}
+
+impl From<Metric> for u32 {
+    fn from(metric: Metric) -> u32 {
+        metric.get()
     }
 }
 

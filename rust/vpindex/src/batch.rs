@@ -1,0 +1,109 @@
+//! What a batch of queries found.
+
+use std::fmt;
+use std::ops::Index;
+
+use crate::ffi::{self, MAX_QUERIES};
+use crate::{Hit, Refusal};
+
+/// What a batch found: the hits of each query, in the order of the queries.
+///
+/// [`Table::range_batch`](crate::Table::range_batch) returns one. It is also what a caller lends to
+/// [`Table::range_batch_into`](crate::Table::range_batch_into), again and again, where a search must not allocate.
+#[derive(Clone, Default)]
+pub struct Batch {
+    room: Vec<Hit>,
+    // where the hits of each query begin, and how many they are
+    lists: [(usize, usize); MAX_QUERIES],
+    queries: usize,
+    distances: u32,
+}
+
+impl Batch {
+    /// Nothing found yet, with room for so many hits in all. The queries of a batch have equal parts of it, and it never
+    /// grows: a batch of which one query finds more than its part holds is refused.
+    pub fn with_capacity(hits: usize) -> Batch {
+        Batch { room: Hit::room(hits), ..Batch::default() }
+    }
+
+    /// For how many hits there is room in all.
+    pub fn capacity(&self) -> usize {
+        self.room.len()
+    }
+
+    /// How many queries there were.
+    pub fn len(&self) -> usize {
+        self.queries
+    }
+
+    /// Whether there were none, which is so before the first batch and after one that was refused.
+    pub fn is_empty(&self) -> bool {
+        self.queries == 0
+    }
+
+    /// The hits of each query, in the order of the queries.
+    pub fn iter(&self) -> impl ExactSizeIterator<Item = &[Hit]> {
+        self.lists[..self.queries].iter().map(|&(start, found)| &self.room[start..][..found])
+    }
+
+    /// How many slots the batch met: each once, however many of its queries met it.
+    pub fn distances(&self) -> u32 {
+        self.distances
+    }
+
+    // Each of so many queries has its part of the room, rounded down. A refused batch is none.
+    pub(crate) fn fill(
+        &mut self,
+        queries: usize,
+        search: impl FnOnce(&mut [ffi::Entry]) -> ffi::Ranges,
+    ) -> Result<(), Refusal> {
+        (self.queries, self.distances) = (0, 0);
+        let reply = search(Hit::entries(&mut self.room));
+        Refusal::check(reply.refusal)?;
+        (self.queries, self.distances) = (queries, reply.distances);
+        let part = self.room.len() / queries;
+        for (j, list) in self.lists[..queries].iter_mut().enumerate() {
+            *list = (j * part, reply.found[j] as usize);
+        }
+        Ok(())
+    }
+
+    // what is kept for long has no more room than it needs
+    pub(crate) fn trimmed(mut self) -> Batch {
+        let mut end = 0;
+        for (start, found) in &mut self.lists[..self.queries] {
+            self.room.copy_within(*start..*start + *found, end);
+            *start = end;
+            end += *found;
+        }
+        self.room.truncate(end);
+        self.room.shrink_to_fit();
+        self
+    }
+}
+
+/// The hits of one query, the first being query 0.
+impl Index<usize> for Batch {
+    type Output = [Hit];
+
+    fn index(&self, query: usize) -> &[Hit] {
+        let (start, found) = self.lists[..self.queries][query];
+        &self.room[start..][..found]
+    }
+}
+
+/// The hits and the number of distances; how much room there is does not count.
+impl PartialEq for Batch {
+    fn eq(&self, other: &Batch) -> bool {
+        self.iter().eq(other.iter()) && self.distances == other.distances
+    }
+}
+
+impl Eq for Batch {}
+
+impl fmt::Debug for Batch {
+    fn fmt(&self, f: &mut fmt::Formatter<'_>) -> fmt::Result {
+        let lists: Vec<&[Hit]> = self.iter().collect();
+        f.debug_struct("Batch").field("hits", &lists).field("distances", &self.distances).finish()
+    }
+}
