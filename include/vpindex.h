@@ -213,7 +213,7 @@ typedef struct {
 typedef struct {
     uint32_t refusal;
     uint32_t found;                      /* entries at the front of the result area */
-    uint32_t distances;                  /* distances worked out, one for each slot met */
+    uint32_t distances;                  /* slots met by the rule, each of which counts one distance */
 } vpindex_searched;
 
 typedef struct {

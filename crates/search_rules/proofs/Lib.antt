@@ -7,3 +7,4 @@ pub mod Keep
 pub mod Keeping
 pub mod NearestLaws
 pub mod Reaching
+pub mod Beyond

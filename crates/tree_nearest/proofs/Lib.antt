@@ -2,3 +2,4 @@
 pub mod Bounds
 mod TakingIn
 pub mod Steps
+mod Passing

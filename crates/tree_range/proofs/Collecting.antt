@@ -55,6 +55,15 @@ pub collected-nothing : (area : List Entry) (f : Found) → collected area f not
 unfolding collected nothing
 collected-nothing area f = refl
 
+-- a visit of n slots without a hit
+pub found-without-hits : (f : Found) (met : Met) (n : ℕ) → met .hits ≡ [] → n ≡ met .count → record { hits = f .hits; count = f .count + n } ≡ foundAfter f met
+unfolding foundAfter
+found-without-hits f met n e q = found-eq (omega (arith, ap length e)) (omega (arith, q))
+
+pub collected-without-hits : (area : List Entry) (f : Found) (met : Met) → met .hits ≡ [] → area ≡ collected area f met
+unfolding collected
+collected-without-hits area f met e = sym (ap (sets area (f .hits)) e)
+
 module _ (reports : Row → Bool) (row : Row) (d radius : ℕ) where
   pub missed-hits : reports row && leb d radius ≡ false → metAlone reports row d radius .hits ≡ []
   unfolding metAlone

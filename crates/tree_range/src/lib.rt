@@ -4,6 +4,7 @@ ghost use Prim.Native.Nat.{_+_, _<_, _^_};
 ghost use lib.ListN.{length};
 ghost use Rattle.metric_rules.specs.Row.{thresholdOf, mayReport};
 ghost use Rattle.search_asked.specs.Asked.{distanceAsked, queryAsked, reportsAsked, radiusAsked};
+ghost use Rattle.tree_few.specs.Passed.{PassedOver};
 ghost use Rattle.tree_range.specs.Collected.{foundAfter, collected, metAlone, metInHalves, rangeAsked};
 use metric::distance_between;
 use metric_rules::Row;
@@ -11,6 +12,7 @@ use rows::threshold_of;
 use search_asked::Asked;
 use search_asked::may_report;
 use search_rules::Entry;
+use tree_few::passed_over;
 
 // What a range search hands on: how many hits it found, and how many slots it visited.
 pub struct Found {
@@ -45,9 +47,39 @@ fn meet(found: Found, row: Row, d: u32, query: &Row, area: &mut [Entry]) -> Foun
     }
 }
 
-// The slots of one tree: the first slot, and then its halves. The counts go first and what never changes goes behind one reference, so that a call
-// passes nearly all in registers.
+// How many of these slots are met, if it is worth asking and none of them is a hit; else 0. Where an eighth of the slots met were hits it is not.
+fn no_hit_among(found: Found, slots: &[Row], asked: &Asked) -> usize
+    requires { ⌜ found .hits < 2 ^ 32 ⌝ }
+    ensures { λ r. ⌜ PassedOver (now (asked .entry)) (radiusAsked (now (asked .entry))) (now (slots .entry)) r ⌝ }
+{
+    if found.count < 8 * found.hits {
+        return 0;
+    }
+    let radius = threshold_of(asked[1]);
+    passed_over(slots, radius as u64, asked)
+}
+
+// The slots of one tree: a few of them at once, where none is within the radius, or else slot by slot. The counts go first and what never changes goes
+// behind one reference, so that a call passes nearly all in registers.
 pub fn range_tree(found: Found, slots: &[Row], area: &mut [Entry], asked: &Asked) -> Found
+    requires { ⌜ (found .hits + length (now slots) < 2 ^ 32) × (found .count + length (now slots) < 2 ^ 32) ⌝ }
+    ensures reply { λ r. ⌜ r ≡ foundAfter found (rangeAsked (now (asked .entry)) (now (slots .entry))) ⌝ }
+    ensures area { λ _. ⌜ now (area .exit) ≡ collected (now (area .entry)) found (rangeAsked (now (asked .entry)) (now (slots .entry))) ⌝ }
+{
+    let hits = found.hits;
+    let count = found.count;
+    let passed = no_hit_among(found, slots, asked);
+    if 0 < passed {
+        return Found {
+            hits,
+            count: count + passed,
+        };
+    }
+    range_slots(found, slots, area, asked)
+}
+
+// The first slot, and then its halves.
+fn range_slots(found: Found, slots: &[Row], area: &mut [Entry], asked: &Asked) -> Found
     requires { ⌜ (found .hits + length (now slots) < 2 ^ 32) × (found .count + length (now slots) < 2 ^ 32) ⌝ }
     ensures reply { λ r. ⌜ r ≡ foundAfter found (rangeAsked (now (asked .entry)) (now (slots .entry))) ⌝ }
     ensures area { λ _. ⌜ now (area .exit) ≡ collected (now (area .entry)) found (rangeAsked (now (asked .entry)) (now (slots .entry))) ⌝ }

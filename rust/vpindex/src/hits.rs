@@ -63,7 +63,7 @@ impl Hits {
         self.room.len()
     }
 
-    /// How many distances the search worked out.
+    /// How many slots the search met by the rule, each of which counts one distance.
     pub fn distances(&self) -> u32 {
         self.distances
     }

@@ -1,5 +1,5 @@
--- A slot's own item and then its halves leave what the tree's definition says, and the half on the query's side and then the other what the halves' does.
--- The measures are twice the slots' number, and one more for the halves.
+-- A slot's own item and then its halves leave what the tree's definition says, and the half on the query's side and then the other what the halves' does;
+-- so do slots that are passed over. The measures are three times the slots' number, one more for the tree, and two more for the halves.
 use Prim.Native.Nat.{ℕ, _+_, _-_, _*_, _/_, _≤_, _<_}
 use mathlib.Core.Path.{_≡_, refl, sym, ap, _∙_}
 use mathlib.Core.Bool.{Bool, true, false, _&&_}
@@ -16,24 +16,33 @@ use Rattle.search_rules.specs.Range.{toQuery}
 use Rattle.search_asked.specs.Asked.{distanceAsked, queryAsked, reportsAsked, kAsked}
 use Rattle.tree_nearest.specs.Nearby.{tallyOf, Leaves, reportedIn, Ready, nearestAsked}
 use Rattle.tree_nearest.proofs.Steps.{short, leaves-as, ready-less, leaves-same, near-empty, second-ready, second-none, second-far, second-within, leftHalf, rightHalf, halves-slots, halves-reported, halves-near, halves-far, halves-none, tree-ready, tree-leave, first-reported}
+use Rattle.tree_few.proofs.Few.{passed-most}
+use Rattle.tree_nearest.proofs.Passing.{passed-leaves}
 use Rattle.tree_nearest.proofs.nearest_halves.Reads as nearest-halves
 use Rattle.tree_nearest.proofs.nearest_halves.Kinds as nearest-halves-kinds
-use Rattle.tree_nearest.proofs.+nearest_halves+nearest_tree.Lts-nearest_halves as nearest-halves-lts
+use Rattle.tree_nearest.proofs.+nearest_halves+nearest_slots+nearest_tree.Lts-nearest_halves as nearest-halves-lts
+use Rattle.tree_nearest.proofs.nearest_slots.Reads as nearest-slots
+use Rattle.tree_nearest.proofs.nearest_slots.Kinds as nearest-slots-kinds
+use Rattle.tree_nearest.proofs.+nearest_halves+nearest_slots+nearest_tree.Lts-nearest_slots as nearest-slots-lts
 use Rattle.tree_nearest.proofs.nearest_tree.Reads as nearest-tree
 use Rattle.tree_nearest.proofs.nearest_tree.Kinds as nearest-tree-kinds
-use Rattle.tree_nearest.proofs.+nearest_halves+nearest_tree.Lts-nearest_tree as nearest-tree-lts
+use Rattle.tree_nearest.proofs.+nearest_halves+nearest_slots+nearest_tree.Lts-nearest_tree as nearest-tree-lts
 use Rattle.metric.proofs.distance_between.Reads as distance-between-reads
 use Rattle.tree_nearest.proofs.excess.Reads as excess-reads
 use Rattle.tree_nearest.proofs.take_in.Reads as take-in-reads
 use Rattle.rows.proofs.threshold_of.Reads as threshold-of-reads
-use Rattle.tree_nearest.proofs.+nearest_halves+nearest_tree.{statement}
-use Rattle.tree_nearest.proofs.+nearest_halves+nearest_tree.Tie.{close}
+use Rattle.tree_few.proofs.passed_over.Reads as passed-over-reads
+use Rattle.tree_nearest.proofs.+nearest_halves+nearest_slots+nearest_tree.{statement}
+use Rattle.tree_nearest.proofs.+nearest_halves+nearest_slots+nearest_tree.Tie.{close}
 
 abbrev μ-nearest-halves : Measures 3 nearest-halves-kinds.ps ℕ
-μ-nearest-halves κs a = 2 * length (a .1 .0 .now) + 1
+μ-nearest-halves κs a = 3 * length (a .1 .0 .now) + 2
+
+abbrev μ-nearest-slots : Measures 3 nearest-slots-kinds.ps ℕ
+μ-nearest-slots κs a = 3 * length (a .1 .0 .now)
 
 abbrev μ-nearest-tree : Measures 3 nearest-tree-kinds.ps ℕ
-μ-nearest-tree κs a = 2 * length (a .1 .0 .now)
+μ-nearest-tree κs a = 3 * length (a .1 .0 .now) + 1
 
 abbrev nearest-halves-at : ℕ → In 3 nearest-halves-kinds.ps
 nearest-halves-at t =
@@ -51,6 +60,18 @@ nearest-halves-below t =
     (falls 3 nearest-halves-kinds.ps _<_ μ-nearest-halves t)
     nearest-halves.Pre
 
+abbrev nearest-slots-at : ℕ → In 3 nearest-slots-kinds.ps
+nearest-slots-at t =
+    and 3 nearest-slots-kinds.ps (is 3 nearest-slots-kinds.ps μ-nearest-slots t) nearest-slots.Pre
+
+abbrev nearest-slots-below : ℕ → In 3 nearest-slots-kinds.ps
+nearest-slots-below t =
+    and
+    3
+    nearest-slots-kinds.ps
+    (falls 3 nearest-slots-kinds.ps _<_ μ-nearest-slots t)
+    nearest-slots.Pre
+
 abbrev nearest-tree-at : ℕ → In 3 nearest-tree-kinds.ps
 nearest-tree-at t =
     and 3 nearest-tree-kinds.ps (is 3 nearest-tree-kinds.ps μ-nearest-tree t) nearest-tree.Pre
@@ -66,8 +87,11 @@ nearest-tree-below t =
 abbrev nearest-halves-callees : ℕ → nearest-halves-lts.Claims
 nearest-halves-callees t = (nearest-tree-below t, nearest-tree.Post, excess-reads.Asked, excess-reads.Learnt)
 
+abbrev nearest-slots-callees : ℕ → nearest-slots-lts.Claims
+nearest-slots-callees t = (distance-between-reads.Asked, distance-between-reads.Learnt, take-in-reads.Asked, take-in-reads.Learnt, threshold-of-reads.Asked, threshold-of-reads.Learnt, nearest-halves-below t, nearest-halves.Post)
+
 abbrev nearest-tree-callees : ℕ → nearest-tree-lts.Claims
-nearest-tree-callees t = (distance-between-reads.Asked, distance-between-reads.Learnt, take-in-reads.Asked, take-in-reads.Learnt, threshold-of-reads.Asked, threshold-of-reads.Learnt, nearest-halves-below t, nearest-halves.Post)
+nearest-tree-callees t = (passed-over-reads.Asked, passed-over-reads.Learnt, nearest-slots-below t, nearest-slots.Post)
 
 -- where a call of the halves' step begins, and what it goes by
 abbrev Begins : ℕ → Type 0
@@ -232,15 +256,15 @@ nearest-halves-returns-5 t c =
     (second-far dist query (reportsAsked (a .asked .now)) k (short (a .asked .now)) (rightHalf (a .rest .now)) (leftHalf (a .rest .now)) (a .d) (a .m) (s .fits .d .fits) (far-ready t s) (right-left t joined)
     (gap .excess2 .result) (gap .excess2 .ensures) (omega (arith, c .if5 .left)))
 
-nearest-tree-take-in-requires : (t : ℕ) → nearest-tree-lts.Need-take-in-requires (nearest-tree-callees t) (nearest-tree-at t) nearest-tree.Post
-nearest-tree-take-in-requires t c κs =
+nearest-slots-take-in-requires : (t : ℕ) → nearest-slots-lts.Need-take-in-requires (nearest-slots-callees t) (nearest-slots-at t) nearest-slots.Post
+nearest-slots-take-in-requires t c κs =
     let s = c .before .before .before .before .before .before in
     let a = s .args in
     ready-less (omega (arith, first-reported (reportsAsked (a .asked .now)) (a .slots .now) (s .pre .1 .0))) (omega (arith, s .pre .1 .0)) (s .pre .1 .1)
 
-nearest-tree-nearest-halves-requires : (t : ℕ) → nearest-tree-lts.Need-nearest-halves-requires (nearest-tree-callees t) (nearest-tree-at t) nearest-tree.Post
+nearest-slots-nearest-halves-requires : (t : ℕ) → nearest-slots-lts.Need-nearest-halves-requires (nearest-slots-callees t) (nearest-slots-at t) nearest-slots.Post
 unfolding toQuery
-nearest-tree-nearest-halves-requires t c κs =
+nearest-slots-nearest-halves-requires t c κs =
     let own = c .before .before .before .before in
     let d = own .before .before .before in
     let s = d .before .before .before .before in
@@ -250,12 +274,12 @@ nearest-tree-nearest-halves-requires t c κs =
       tree-ready (distanceAsked (a .asked .now)) (queryAsked (a .asked .now)) (reportsAsked (a .asked .now)) (kAsked (a .asked .now)) (short (a .asked .now)) (a .slots .now) (s .pre .1 .0) (s .pre .1 .1) (d .distance-between .result) (d .distance-between .ensures) (own .take-in .ensures),
     )
 
-nearest-tree-same-length : (t : ℕ) → nearest-tree-lts.Need-same-length (nearest-tree-callees t) (nearest-tree-at t) nearest-tree.Post
-nearest-tree-same-length t c = c .before .nearest-halves .kept .1 .1 .1 .1 .0 ∙ c .before .before .before .before .before .before .take-in .kept .1 .1 .1 .1 .0
+nearest-slots-same-length : (t : ℕ) → nearest-slots-lts.Need-same-length (nearest-slots-callees t) (nearest-slots-at t) nearest-slots.Post
+nearest-slots-same-length t c = c .before .nearest-halves .kept .1 .1 .1 .1 .0 ∙ c .before .before .before .before .before .before .take-in .kept .1 .1 .1 .1 .0
 
-nearest-tree-returns : (t : ℕ) → nearest-tree-lts.Need-returns (nearest-tree-callees t) (nearest-tree-at t) nearest-tree.Post
+nearest-slots-returns : (t : ℕ) → nearest-slots-lts.Need-returns (nearest-slots-callees t) (nearest-slots-at t) nearest-slots.Post
 unfolding toQuery
-nearest-tree-returns t c =
+nearest-slots-returns t c =
     let m = c .before .before .before in
     let own = m .before .before .before in
     let d = own .before .before .before in
@@ -264,9 +288,33 @@ nearest-tree-returns t c =
     tree-leave (distanceAsked (a .asked .now)) (queryAsked (a .asked .now)) (reportsAsked (a .asked .now)) (kAsked (a .asked .now)) (short (a .asked .now)) (a .slots .now) (s .pre .1 .0) (s .pre .1 .1) (d .distance-between .result) (d .distance-between .ensures) (own .take-in .ensures)
     (m .threshold-of .result) (m .threshold-of .ensures) _ _ (c .before .nearest-halves .ensures)
 
-pub +nearest-halves+nearest-tree-spec : {M : Type 1} → statement M
-+nearest-halves+nearest-tree-spec =
-    close μ-nearest-halves μ-nearest-tree (λ t. nearest-halves-lts.spec (nearest-halves-callees t) (nearest-halves-at t)
+nearest-tree-add-t9 : (t : ℕ) → nearest-tree-lts.Need-add-t9 (nearest-tree-callees t) (nearest-tree-at t) nearest-tree.Post
+nearest-tree-add-t9 t c =
+    let call = c .before in
+    let s = call .before in
+    let a = s .args in
+    omega (arith, passed-most (distanceAsked (a .asked .now)) (queryAsked (a .asked .now)) (reportsAsked (a .asked .now)) (a .near .bound) (a .slots .now) (call .passed-over .result) (call .passed-over .ensures), s .pre .1 .1 .counts)
+
+nearest-tree-returns : (t : ℕ) → nearest-tree-lts.Need-returns (nearest-tree-callees t) (nearest-tree-at t) nearest-tree.Post
+nearest-tree-returns t c =
+    let call = c .before in
+    let s = call .before in
+    let a = s .args in
+    let passed = call .passed-over .ensures (omega (arith, c .if1 .taken)) in
+    passed-leaves (distanceAsked (a .asked .now)) (queryAsked (a .asked .now)) (reportsAsked (a .asked .now)) (kAsked (a .asked .now)) (short (a .asked .now)) (a .slots .now) (s .pre .1 .0) (s .pre .1 .1) (call .passed-over .result) (passed .0) (passed .1)
+
+nearest-tree-nearest-slots-requires : (t : ℕ) → nearest-tree-lts.Need-nearest-slots-requires (nearest-tree-callees t) (nearest-tree-at t) nearest-tree.Post
+nearest-tree-nearest-slots-requires t c κs = let s = c .before .before .before in (omega (arith, s .pre .0), s .pre .1)
+
+nearest-tree-same-length : (t : ℕ) → nearest-tree-lts.Need-same-length (nearest-tree-callees t) (nearest-tree-at t) nearest-tree.Post
+nearest-tree-same-length t c = c .before .nearest-slots .kept .1 .1 .0
+
+nearest-tree-returns-2 : (t : ℕ) → nearest-tree-lts.Need-returns-2 (nearest-tree-callees t) (nearest-tree-at t) nearest-tree.Post
+nearest-tree-returns-2 t c = c .before .nearest-slots .ensures
+
+pub +nearest-halves+nearest-slots+nearest-tree-spec : {M : Type 1} → statement M
++nearest-halves+nearest-slots+nearest-tree-spec =
+    close μ-nearest-halves μ-nearest-slots μ-nearest-tree (λ t. nearest-halves-lts.spec (nearest-halves-callees t) (nearest-halves-at t)
     nearest-halves.Post
     (nearest-halves-returns t)
     (λ c. search needs)
@@ -287,11 +335,19 @@ pub +nearest-halves+nearest-tree-spec : {M : Type 1} → statement M
     (nearest-halves-returns-4 t)
     (λ c. right-length t (c .before .before .before))
     (nearest-halves-returns-5 t))
+    (λ t. nearest-slots-lts.spec (nearest-slots-callees t) (nearest-slots-at t)
+    nearest-slots.Post
+    (λ c. search needs) (λ c. search needs) (λ c. search needs) (λ c κs. search needs) (λ c. search needs)
+    (nearest-slots-take-in-requires t)
+    (λ c. search needs) (λ c. search needs) (λ c. search needs) (λ c κs. search needs)
+    (nearest-slots-nearest-halves-requires t)
+    (nearest-slots-same-length t)
+    (nearest-slots-returns t))
     λ t. nearest-tree-lts.spec (nearest-tree-callees t) (nearest-tree-at t)
     nearest-tree.Post
-    (λ c. search needs) (λ c. search needs) (λ c. search needs) (λ c κs. search needs) (λ c. search needs)
-    (nearest-tree-take-in-requires t)
-    (λ c. search needs) (λ c. search needs) (λ c. search needs) (λ c κs. search needs)
-    (nearest-tree-nearest-halves-requires t)
-    (nearest-tree-same-length t)
+    (λ c κs. search needs)
+    (nearest-tree-add-t9 t)
     (nearest-tree-returns t)
+    (nearest-tree-nearest-slots-requires t)
+    (nearest-tree-same-length t)
+    (nearest-tree-returns-2 t)

@@ -1,5 +1,5 @@
 -- A slot's visit and its halves' add up to the tree's, and the two halves' turns to the halves', and no slots give nothing.
--- The measures are twice the slots' number, and one more for the halves.
+-- Slots that are passed over have no hit. The measures are three times the slots' number, one more for the tree, and two more for the halves.
 use mathlib.Core.Path.{_≡_, refl, sym, ap, _∙_}
 use mathlib.Core.Logic.{⊎-elim}
 use mathlib.Core.List.{List, []}
@@ -12,10 +12,12 @@ use Rattle.metric_rules.specs.Row.{Row}
 use Rattle.tree_rules.specs.Layout.{leftSize}
 use Rattle.search_rules.specs.Range.{Met, nothing, entersLeft, entersRight, toQuery}
 use Rattle.search_rules.proofs.RangeLaws.{ifEntered, range-count-le, range-hits-le}
+use Rattle.search_rules.proofs.Beyond.{range-beyond}
+use Rattle.tree_few.proofs.Few.{passed-most}
 use Rattle.tree_range.specs.declared.Found.{Found}
 use Rattle.search_asked.specs.Asked.{distanceAsked, queryAsked, reportsAsked, radiusAsked}
 use Rattle.tree_range.specs.Collected.{foundAfter, collected, metInHalves, rangeAsked}
-use Rattle.tree_range.proofs.Collecting.{tree-empty, empty-half, entered, skipped, half-found, found-nothing, collected-nothing, collected-length, alone-found, two-steps, tree-visit}
+use Rattle.tree_range.proofs.Collecting.{tree-empty, empty-half, entered, skipped, half-found, found-nothing, collected-nothing, found-without-hits, collected-without-hits, collected-length, alone-found, two-steps, tree-visit}
 use Prim.Native.Nat.{ℕ, suc, _+_, _-_, _*_, _/_, _^_, _<_}
 use native.Mathlib.Omega.{arith}
 use borrow.Author.Needs.{needs}
@@ -25,21 +27,28 @@ use borrow.Fn.Kinds.{In}
 use borrow.Fn.PlainCycle.{Measures, is, falls, and}
 use Rattle.tree_range.proofs.range_halves.Reads as range-halves
 use Rattle.tree_range.proofs.range_halves.Kinds as range-halves-kinds
-use Rattle.tree_range.proofs.+range_halves+range_tree.Lts-range_halves as range-halves-lts
+use Rattle.tree_range.proofs.+range_halves+range_slots+range_tree.Lts-range_halves as range-halves-lts
+use Rattle.tree_range.proofs.range_slots.Reads as range-slots
+use Rattle.tree_range.proofs.range_slots.Kinds as range-slots-kinds
+use Rattle.tree_range.proofs.+range_halves+range_slots+range_tree.Lts-range_slots as range-slots-lts
 use Rattle.tree_range.proofs.range_tree.Reads as range-tree
 use Rattle.tree_range.proofs.range_tree.Kinds as range-tree-kinds
-use Rattle.tree_range.proofs.+range_halves+range_tree.Lts-range_tree as range-tree-lts
+use Rattle.tree_range.proofs.+range_halves+range_slots+range_tree.Lts-range_tree as range-tree-lts
 use Rattle.metric.proofs.distance_between.Reads as distance-between-reads
 use Rattle.rows.proofs.threshold_of.Reads as threshold-of-reads
 use Rattle.tree_range.proofs.meet.Reads as meet-reads
-use Rattle.tree_range.proofs.+range_halves+range_tree.{statement}
-use Rattle.tree_range.proofs.+range_halves+range_tree.Tie.{close}
+use Rattle.tree_range.proofs.no_hit_among.Reads as no-hit-among-reads
+use Rattle.tree_range.proofs.+range_halves+range_slots+range_tree.{statement}
+use Rattle.tree_range.proofs.+range_halves+range_slots+range_tree.Tie.{close}
 
 abbrev μ-range-halves : Measures 3 range-halves-kinds.ps ℕ
-μ-range-halves κs a = 2 * length (a .1 .0 .now) + 1
+μ-range-halves κs a = 3 * length (a .1 .0 .now) + 2
+
+abbrev μ-range-slots : Measures 3 range-slots-kinds.ps ℕ
+μ-range-slots κs a = 3 * length (a .1 .0 .now)
 
 abbrev μ-range-tree : Measures 3 range-tree-kinds.ps ℕ
-μ-range-tree κs a = 2 * length (a .1 .0 .now)
+μ-range-tree κs a = 3 * length (a .1 .0 .now) + 1
 
 abbrev range-halves-at : ℕ → In 3 range-halves-kinds.ps
 range-halves-at t =
@@ -53,6 +62,14 @@ range-halves-below t =
     (falls 3 range-halves-kinds.ps _<_ μ-range-halves t)
     range-halves.Pre
 
+abbrev range-slots-at : ℕ → In 3 range-slots-kinds.ps
+range-slots-at t =
+    and 3 range-slots-kinds.ps (is 3 range-slots-kinds.ps μ-range-slots t) range-slots.Pre
+
+abbrev range-slots-below : ℕ → In 3 range-slots-kinds.ps
+range-slots-below t =
+    and 3 range-slots-kinds.ps (falls 3 range-slots-kinds.ps _<_ μ-range-slots t) range-slots.Pre
+
 abbrev range-tree-at : ℕ → In 3 range-tree-kinds.ps
 range-tree-at t =
     and 3 range-tree-kinds.ps (is 3 range-tree-kinds.ps μ-range-tree t) range-tree.Pre
@@ -64,8 +81,11 @@ range-tree-below t =
 abbrev range-halves-callees : ℕ → range-halves-lts.Claims
 range-halves-callees t = (threshold-of-reads.Asked, threshold-of-reads.Learnt, range-tree-below t, range-tree.Post)
 
+abbrev range-slots-callees : ℕ → range-slots-lts.Claims
+range-slots-callees t = (distance-between-reads.Asked, distance-between-reads.Learnt, meet-reads.Asked, meet-reads.Learnt, threshold-of-reads.Asked, threshold-of-reads.Learnt, range-halves-below t, range-halves.Post)
+
 abbrev range-tree-callees : ℕ → range-tree-lts.Claims
-range-tree-callees t = (distance-between-reads.Asked, distance-between-reads.Learnt, meet-reads.Asked, meet-reads.Learnt, threshold-of-reads.Asked, threshold-of-reads.Learnt, range-halves-below t, range-halves.Post)
+range-tree-callees t = (no-hit-among-reads.Asked, no-hit-among-reads.Learnt, range-slots-below t, range-slots.Post)
 
 -- what the left half gives, and what the right half gives
 abbrev leftMet : List Row → ℕ → ℕ → List Row → Met
@@ -187,16 +207,16 @@ range-halves-returns-2 t c =
     (sym (found-nothing (j .if1 .met)) ∙ ap (foundAfter (j .if1 .met)) e)
     (sym (collected-nothing (j .if1 .area) (j .if1 .met)) ∙ ap (collected (j .if1 .area) (j .if1 .met)) e)
 
-range-tree-returns : (t : ℕ) → range-tree-lts.Need-returns (range-tree-callees t) (range-tree-at t) range-tree.Post
-range-tree-returns t c =
+range-slots-returns : (t : ℕ) → range-slots-lts.Need-returns (range-slots-callees t) (range-slots-at t) range-slots.Post
+range-slots-returns t c =
     let a = c .before .args in
     let none = tree-empty (distanceAsked (a .asked .now)) (queryAsked (a .asked .now)) (reportsAsked (a .asked .now)) (radiusAsked (a .asked .now)) (a .slots .now) (c .if1 .taken) in (
       sym (ap (foundAfter (a .found)) none ∙ found-nothing (a .found)),
       sym (ap (collected (a .area .now) (a .found)) none ∙ collected-nothing (a .area .now) (a .found)),
     )
 
-range-tree-range-halves-requires : (t : ℕ) → range-tree-lts.Need-range-halves-requires (range-tree-callees t) (range-tree-at t) range-tree.Post
-range-tree-range-halves-requires t c κs =
+range-slots-range-halves-requires : (t : ℕ) → range-slots-lts.Need-range-halves-requires (range-slots-callees t) (range-slots-at t) range-slots.Post
+range-slots-range-halves-requires t c κs =
     let met = c .before .before .before .before in
     let d = met .before .before .before in
     let start = d .before .before .before .before .before in
@@ -208,12 +228,12 @@ range-tree-range-halves-requires t c κs =
       (omega (arith, size, few .0, ap (λ (g : Found). g .hits) (met .meet .ensures .0)), omega (arith, size, few .1, ap (λ (g : Found). g .count) (met .meet .ensures .0))),
     )
 
-range-tree-same-length : (t : ℕ) → range-tree-lts.Need-same-length (range-tree-callees t) (range-tree-at t) range-tree.Post
-range-tree-same-length t c = c .before .range-halves .kept .1 .1 .1 .1 .0 ∙ c .before .before .before .before .before .before .meet .kept .1 .1 .1 .1 .0
+range-slots-same-length : (t : ℕ) → range-slots-lts.Need-same-length (range-slots-callees t) (range-slots-at t) range-slots.Post
+range-slots-same-length t c = c .before .range-halves .kept .1 .1 .1 .1 .0 ∙ c .before .before .before .before .before .before .meet .kept .1 .1 .1 .1 .0
 
-range-tree-returns-2 : (t : ℕ) → range-tree-lts.Need-returns-2 (range-tree-callees t) (range-tree-at t) range-tree.Post
+range-slots-returns-2 : (t : ℕ) → range-slots-lts.Need-returns-2 (range-slots-callees t) (range-slots-at t) range-slots.Post
 unfolding toQuery
-range-tree-returns-2 t c =
+range-slots-returns-2 t c =
     let m = c .before .before .before in
     let met = m .before .before .before in
     let d = met .before .before .before in
@@ -227,8 +247,35 @@ range-tree-returns-2 t c =
     (met .meet .ensures .1)
     (halves .result) (halves .last .1 .1 .1 .1 .0) (halves .ensures .0) (halves .ensures .1)
 
-pub +range-halves+range-tree-spec : {M : Type 1} → statement M
-+range-halves+range-tree-spec = close μ-range-halves μ-range-tree (λ t. range-halves-lts.spec (range-halves-callees t) (range-halves-at t)
+range-tree-no-hit-among-requires : (t : ℕ) → range-tree-lts.Need-no-hit-among-requires (range-tree-callees t) (range-tree-at t) range-tree.Post
+range-tree-no-hit-among-requires t c κs = omega (arith, c .pre .1 .0)
+
+range-tree-add-t9 : (t : ℕ) → range-tree-lts.Need-add-t9 (range-tree-callees t) (range-tree-at t) range-tree.Post
+range-tree-add-t9 t c =
+    let call = c .before in
+    let s = call .before in
+    let a = s .args in
+    omega (arith, passed-most (distanceAsked (a .asked .now)) (queryAsked (a .asked .now)) (reportsAsked (a .asked .now)) (radiusAsked (a .asked .now)) (a .slots .now) (call .no-hit-among .result) (call .no-hit-among .ensures), s .pre .1 .1)
+
+range-tree-returns : (t : ℕ) → range-tree-lts.Need-returns (range-tree-callees t) (range-tree-at t) range-tree.Post
+range-tree-returns t c =
+    let call = c .before in
+    let a = call .before .args in
+    let passed = call .no-hit-among .ensures (omega (arith, c .if1 .taken)) in
+    let none = range-beyond (distanceAsked (a .asked .now)) (queryAsked (a .asked .now)) (reportsAsked (a .asked .now)) (radiusAsked (a .asked .now)) (a .slots .now) (passed .0) in
+    (found-without-hits (a .found) (rangeAsked (a .asked .now) (a .slots .now)) (call .no-hit-among .result) none (passed .1), collected-without-hits (a .area .now) (a .found) (rangeAsked (a .asked .now) (a .slots .now)) none)
+
+range-tree-range-slots-requires : (t : ℕ) → range-tree-lts.Need-range-slots-requires (range-tree-callees t) (range-tree-at t) range-tree.Post
+range-tree-range-slots-requires t c κs = let s = c .before .before .before in (omega (arith, s .pre .0), s .pre .1)
+
+range-tree-same-length : (t : ℕ) → range-tree-lts.Need-same-length (range-tree-callees t) (range-tree-at t) range-tree.Post
+range-tree-same-length t c = c .before .range-slots .kept .1 .1 .0
+
+range-tree-returns-2 : (t : ℕ) → range-tree-lts.Need-returns-2 (range-tree-callees t) (range-tree-at t) range-tree.Post
+range-tree-returns-2 t c = c .before .range-slots .ensures
+
+pub +range-halves+range-slots+range-tree-spec : {M : Type 1} → statement M
++range-halves+range-slots+range-tree-spec = close μ-range-halves μ-range-slots μ-range-tree (λ t. range-halves-lts.spec (range-halves-callees t) (range-halves-at t)
     range-halves.Post
     (λ c. search needs) (λ c. search needs) (λ c κs. search needs) (λ c. search needs) (λ c. search needs)
     (range-halves-slice-aggregate-range-tree t)
@@ -239,12 +286,20 @@ pub +range-halves+range-tree-spec : {M : Type 1} → statement M
     (range-halves-returns t)
     (λ c. left-length t (c .before))
     (range-halves-returns-2 t))
-    λ t. range-tree-lts.spec (range-tree-callees t) (range-tree-at t)
-    range-tree.Post
-    (range-tree-returns t)
+    (λ t. range-slots-lts.spec (range-slots-callees t) (range-slots-at t)
+    range-slots.Post
+    (range-slots-returns t)
     (λ c. search needs) (λ c. search needs) (λ c. search needs) (λ c κs. search needs) (λ c. search needs)
     (λ c κs. search needs) (λ c. search needs) (λ c. search needs) (λ c. search needs)
     (λ c κs. search needs)
-    (range-tree-range-halves-requires t)
+    (range-slots-range-halves-requires t)
+    (range-slots-same-length t)
+    (range-slots-returns-2 t))
+    λ t. range-tree-lts.spec (range-tree-callees t) (range-tree-at t)
+    range-tree.Post
+    (range-tree-no-hit-among-requires t)
+    (range-tree-add-t9 t)
+    (range-tree-returns t)
+    (range-tree-range-slots-requires t)
     (range-tree-same-length t)
     (range-tree-returns-2 t)
