@@ -14,8 +14,8 @@
  *   - it is aligned as its type wants;
  *   - areas lent to the same call do not overlap;
  *   - no other thread uses an area while a call has it, except that several may read the same table;
- *   - the stack has room: seen, not a bound, is about 70 KB for vpindex_load and vpindex_restore at order 12, about 17
- *     KB for vpindex_dues, about 7 KB for vpindex_range_batch and under 6 KB for the others.
+ *   - the stack has room: at most 73 KB for vpindex_load and vpindex_restore, whatever the order, 17 KB for
+ *     vpindex_dues and 5 KB for the others, as worked out from the compiled code (docs/OUTSIDE.md).
  */
 #ifndef VPINDEX_H
 #define VPINDEX_H

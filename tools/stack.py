@@ -3,7 +3,7 @@
 as their proved bounds let them go.
 
     tools/stack.py [ARCHIVE]             a line for each call: its name and the bytes, the return address included
-    tools/stack.py [ARCHIVE] --check     holds docs/OUTSIDE.md to that
+    tools/stack.py [ARCHIVE] --check     no call may use more than docs/OUTSIDE.md says
 
 A function that is reached again from itself must stand in DEPTHS; a frame or a call that is not understood is an error.
 """
@@ -116,10 +116,11 @@ def main(words):
             print(f"{name} {size}")
         return 0
     text = (HOME / "docs/OUTSIDE.md").read_text()
-    wrong = [f"{name}: {size:,}" for name, size in bounds.items() if f"| `{name}` | {size:,} |" not in text]
+    stated = {name: 1024 * int(size) for name, size in re.findall(r"^\| `(\w+)` \| (\d+) KiB \|$", text, re.M)}
+    wrong = [f"{name} {size}" for name, size in bounds.items() if size > stated.get(name, 0)]
     for line in wrong:
-        print(f"docs/OUTSIDE.md has another bound than {line}")
-    return 1 if wrong else 0
+        print(f"more than docs/OUTSIDE.md says: {line}")
+    return 1 if wrong or stated.keys() != bounds.keys() else 0
 
 
 if __name__ == "__main__":
