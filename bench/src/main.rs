@@ -1,9 +1,9 @@
 //! Measures the calls beside plain Rust programs on the same herds in the same run, and compares what they give on the
 //! way. `bench FOLDER [SEED]` writes calls.md and growth.svg into the folder; bench/run.sh runs it. `bench nearest
-//! SEED..` prints what nearest takes beside the scan, a line for each herd, metric and seed; bench/nearest.sh runs it.
-//! `bench batch [SEED]` prints what batches of 16 queries take beside as many single calls; bench/batch.sh runs it.
-//! `bench lots [SEED]` prints what a drafting takes, a line for each herd, metric and list of radii; bench/lots.sh runs
-//! it.
+//! SEED..` prints what nearest takes beside the scan, a line for each herd, its past, metric and seed;
+//! bench/nearest.sh runs it. `bench batch [SEED]` prints what batches of 16 queries take beside as many single calls;
+//! bench/batch.sh runs it. `bench lots [SEED]` prints what a drafting takes, a line for each herd, metric and list of
+//! radii; bench/lots.sh runs it.
 
 mod changes;
 mod index;
@@ -20,7 +20,7 @@ use std::{env, fs};
 use changes::Work;
 use items::{SPREADS, Spread};
 use plot::Series;
-use searches::Full;
+use searches::{Full, Past};
 
 const ORDERS: [u32; 5] = [4, 6, 8, 10, 12];
 const METRICS: [u32; 3] = [0, 1, 2];
@@ -53,13 +53,16 @@ fn write_all(folder: &str, seed: u64) {
     fs::write(format!("{folder}/growth.svg"), plot::svg(&panels)).expect("growth.svg written");
 }
 
-// Herd, metric, seed, slots met, nanoseconds by the call and by the scan: medians of both, taken in turn.
+// Herd, its past, metric, seed, slots met, nanoseconds by the call and by the scan: medians of both, taken in turn.
 fn print_nearest(seeds: &[String]) {
     for spread in SPREADS {
-        for metric in METRICS {
-            for seed in seeds {
-                let line = Full::new(seed_of(seed), spread, 12, metric).nearest();
-                println!("{}|{metric}|{seed}|{:.0}|{:.0}|{:.0}", spread.name, line.visited, line.calls, line.scan);
+        for (past, name) in [(Past::Added, "added"), (Past::Removed, "removed"), (Past::Replaced, "replaced")] {
+            for metric in METRICS {
+                for seed in seeds {
+                    let line = Full::with_past(seed_of(seed), spread, 12, metric, past).nearest();
+                    let searches::Line { visited, calls, scan, .. } = line;
+                    println!("{}|{name}|{metric}|{seed}|{visited:.0}|{calls:.0}|{scan:.0}", spread.name);
+                }
             }
         }
     }

@@ -285,8 +285,8 @@ fn insert(best: &mut Vec<Hit>, k: usize, hit: Hit) {
     best.insert(at, hit);
 }
 
-/// A scan that keeps the k best. The metric is told before the loop and the worst one kept is at hand: asked at each
-/// slot, either made the scan slower.
+/// A scan that keeps the k best. The metric is told before the loop, the worst one kept is at hand, and the distance is
+/// asked before the tag: without any of these the scan was slower.
 pub fn scan_nearest(space: &Space, slots: &[Slot], query: &Query, k: usize, best: &mut Vec<Hit>) {
     let by = |metric| Space { metric, ..*space };
     let (asked, first_day) = (&query.profile, query.first_day);
@@ -302,7 +302,7 @@ fn keep_best(slots: &[Slot], first_day: u16, k: usize, best: &mut Vec<Hit>, dist
     let mut worst = (u32::MAX, u64::MAX);
     for slot in slots {
         let hit = (distance_of(&slot.profile), slot.tag);
-        if hit < worst && slot.day >= first_day {
+        if hit.0 <= worst.0 && hit < worst && slot.day >= first_day {
             insert(best, k, hit);
             if best.len() == k {
                 worst = best[k - 1];

@@ -5,7 +5,7 @@ use std::hint::black_box;
 use vpindex::ffi;
 
 use crate::index::{Archive, Hit, Index, batch_row, first_day};
-use crate::items::{Query, Spread, groups, profiles, tag};
+use crate::items::{Profile, Query, Random, Spread, groups, profiles, tag};
 use crate::measure::turns;
 use crate::plain::{Plain, Slot, Space, scan_nearest, scan_range};
 
@@ -33,7 +33,7 @@ pub struct Batches {
     pub singles: f64,
 }
 
-/// A full table of each kind, and the queries.
+/// A table of each kind, full or with removals in its past, and the queries.
 pub struct Full {
     archive: Archive,
     plain: Plain,
@@ -42,18 +42,48 @@ pub struct Full {
     space: Space,
 }
 
+/// How the herd came to be: by 2^T adds, after which a quarter were removed at random, or replaced one by one.
+#[derive(Clone, Copy, PartialEq, Eq)]
+pub enum Past {
+    Added,
+    Removed,
+    Replaced,
+}
+
 impl Full {
     pub fn new(seed: u64, spread: Spread, order: u32, metric: u32) -> Full {
+        Full::with_past(seed, spread, order, metric, Past::Added)
+    }
+
+    pub fn with_past(seed: u64, spread: Spread, order: u32, metric: u32, past: Past) -> Full {
         let n = 1 << order;
-        let mut added = profiles(seed, spread, n + QUERIES);
+        let mut added = profiles(seed, spread, n + QUERIES + n / 4);
+        let replacing = added.split_off(n + QUERIES);
         let asked = added.split_off(n);
         let queries = asked.into_iter().map(|profile| Query { profile, first_day: first_day() }).collect();
-        let (mut archive, mut plain) = (Archive::new(order, metric), Plain::new(order, metric));
+        let (archive, plain) = (Archive::new(order, metric), Plain::new(order, metric));
+        let mut full = Full { archive, plain, items: vec![], queries, space: Space::new(metric) };
         for (i, profile) in added.iter().enumerate() {
-            assert_eq!(archive.add(tag(i), profile), plain.add(tag(i), profile));
+            full.add(tag(i), profile);
         }
-        let items = plain.items();
-        Full { archive, plain, items, queries, space: Space::new(metric) }
+        let (mut random, mut live) = (Random(seed), (0..n).collect::<Vec<usize>>());
+        for (i, profile) in replacing.iter().enumerate().filter(|_| past != Past::Added) {
+            full.remove(tag(live.swap_remove(random.below(live.len()))));
+            if past == Past::Replaced {
+                full.add(tag(n + i), profile);
+                live.push(n + i);
+            }
+        }
+        full.items = full.plain.items();
+        full
+    }
+
+    fn add(&mut self, tag: u64, profile: &Profile) {
+        assert_eq!(self.archive.add(tag, profile), self.plain.add(tag, profile));
+    }
+
+    fn remove(&mut self, tag: u64) {
+        assert_eq!(self.archive.remove(tag), self.plain.remove(tag));
     }
 
     // Archive and plain program found the same by the same number of distances, and the scan found it too.
