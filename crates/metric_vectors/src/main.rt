@@ -111,7 +111,7 @@ fn print_profile(profile: Profile, expected: [i32; 4]) {
 // The row of object i's fields; then the fields of its row in the table, and whether its tag and its measures are valid.
 fn print_object(i: usize) {
     let row = row_at(i);
-    print_words(rows::row_of(
+    print_words(row_store::row_of(
         tag_at(i),
         profile_at(i),
         threshold_at(i),
@@ -151,7 +151,7 @@ fn between(metric: u32, a: Row, b: Row) -> u64 {
 }
 
 fn to_query(metric: u32, a: Row, query: Profile) -> u64 {
-    between(metric, a, rows::row_of(0, query, 0, 0, 0))
+    between(metric, a, row_store::row_of(0, query, 0, 0, 0))
 }
 
 // By each metric with these weights.

@@ -4,9 +4,9 @@ ghost use Rattle.metric_rules.specs.Row.{mayReport};
 ghost use Rattle.search_asked.specs.Asked.{askedOf};
 use metric_rules::Profile;
 use metric_rules::Row;
+use row_store::row_of;
 use rows::day_of;
 use rows::is_live;
-use rows::row_of;
 
 // The table's header row, and the query as a row whose threshold word is the radius of a range search or the k of a nearest one, and whose
 // day word is the first day.

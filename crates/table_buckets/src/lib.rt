@@ -9,8 +9,8 @@ ghost use Rattle.table_rules.specs.Table.{builtOf, liveSlots, pairRow, putSizes
 ghost use Rattle.table_buckets.specs.OfOrder.{OfOrder};
 use metric_rules::ROW_WIDTH;
 use metric_rules::Row;
-use rows::gather_live;
-use rows::zero_rows;
+use row_store::gather_live;
+use row_store::zero_rows;
 use table_order::Order;
 use table_views::BUILT_AT;
 use table_views::LIVE_AT;

@@ -13,7 +13,7 @@ ghost use Rattle.table_rules.specs.Add.{addRefusal, lowestEmpty, addBucket, add
 ghost use Rattle.table_buckets.specs.OfOrder.{OfOrder, BuiltFits};
 use metric_rules::Profile;
 use metric_rules::Row;
-use rows::new_row;
+use row_store::new_row;
 use table_buckets::empty_bucket;
 use table_buckets::gather_bucket;
 use table_order::Order;

@@ -1,4 +1,4 @@
--- `rows::gather_live` meets its contract. The loop's invariant: the live ones of the first i slots stand behind the first n rows.
+-- `row_store::gather_live` meets its contract. The loop's invariant: the live ones of the first i slots stand behind the first n rows.
 use borrow.Author.Needs.{needs}
 use native.Mathlib.Omega.{arith}
 use mathlib.Core.Path.{_≡_, refl, sym, _∙_, ap}
@@ -11,9 +11,9 @@ use lib.Seq.{sets, take-all}
 use Rattle.lists.specs.Lists.{select}
 use Rattle.metric_rules.specs.Row.{Row, isLive}
 use Rattle.tree_rules.proofs.Stores.{sets-more}
 use Rattle.rows.proofs.Selected.{selected-next, passed-over, selected-within}
-use Rattle.rows.proofs.gather_live.Statement.{statement}
-use Rattle.rows.proofs.gather_live.Tie as tie
+use Rattle.row_store.proofs.gather_live.Statement.{statement}
+use Rattle.row_store.proofs.gather_live.Tie as tie
 
 abbrev lives : List Row → ℕ → List Row
 lives slots i = select isLive (take i slots)

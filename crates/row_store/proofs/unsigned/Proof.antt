@@ -1,4 +1,4 @@
--- `rows::unsigned` writes a measure in two's complement.
+-- `row_store::unsigned` writes a measure in two's complement.
 -- The measure and 2^32 make an unsigned number, whose lowest 32 bits are the word (`lift-word`).
 use borrow.Author.Needs.{needs}
 use mathlib.Core.Path.{_≡_, ap, _∙_, subst⁻¹}
@@ -12,8 +12,8 @@ use mir.Facts.{toZ-ofZ, sfits-widen}
 use native.Mathlib.Omega.{arith}
 use Rattle.metric_rules.proofs.Apart.{lifted}
 use Rattle.metric_rules.proofs.Words.{lift-sum, lift-fits, lift-word}
-use Rattle.rows.proofs.unsigned.Statement.{statement}
-use Rattle.rows.proofs.unsigned.Tie as tie
+use Rattle.row_store.proofs.unsigned.Statement.{statement}
+use Rattle.row_store.proofs.unsigned.Tie as tie
 
 module _ (c : tie.Start) where
   -- the measure, the sum, and the sum's bits read back

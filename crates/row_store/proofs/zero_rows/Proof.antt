@@ -1,11 +1,11 @@
--- `rows::zero_rows` meets its contract. The loop's invariant: the first i rows are written over with zeros.
+-- `row_store::zero_rows` meets its contract. The loop's invariant: the first i rows are written over with zeros.
 use native.Mathlib.Omega.{arith}
 use Prim.Native.Nat.{_-_}
 use lib.ListN.{length}
 use Rattle.metric_rules.specs.Row.{rowWidth, zeroRow}
 use Rattle.tree_rules.proofs.Filled.{Filled, filled-none, filled-next, filled-all}
-use Rattle.rows.proofs.zero_rows.Statement.{statement}
-use Rattle.rows.proofs.zero_rows.Tie as tie
+use Rattle.row_store.proofs.zero_rows.Statement.{statement}
+use Rattle.row_store.proofs.zero_rows.Tie as tie
 
 abbrev Inv-loop : tie.InvT-loop
 Inv-loop rows₀ i₀ rows i = Filled zeroRow rows₀ i rows

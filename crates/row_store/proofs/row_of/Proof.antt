@@ -1,4 +1,4 @@
--- `rows::row_of` lays out the words that its calls return.
+-- `row_store::row_of` lays out the words that its calls return.
 -- Each is the word that `rowOf` has in its place.
 use borrow.Author.Needs.{needs}
 use mathlib.Core.List.{[], _∷_}
@@ -6,8 +6,8 @@ use mir.Syntax.{w32}
 use mir.Val.{ofZ}
 use Rattle.metric_rules.specs.Row.{rowOf, measure, codeWord}
 use Rattle.metric_rules.proofs.Values.{is-profile, copied}
-use Rattle.rows.proofs.row_of.Statement.{statement}
-use Rattle.rows.proofs.row_of.Tie as tie
+use Rattle.row_store.proofs.row_of.Statement.{statement}
+use Rattle.row_store.proofs.row_of.Tie as tie
 
 returns : tie.Need-returns
 unfolding rowOf measure codeWord
