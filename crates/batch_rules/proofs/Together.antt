@@ -8,14 +8,15 @@ use lib.ListN.{length, take, drop, length-take, length-drop}
 use lib.Seq.{length-take-le}
 use lib.Dec.{ltb}
 use native.Mathlib.Omega.{arith}
-use Rattle.lists.specs.Lists.{countFrom, select}
+use Rattle.lists.specs.Lists.{countFrom, select, any}
+use Rattle.lists.proofs.Tests.{any-alike, any-selected}
 use Rattle.metric_rules.specs.declared.Profile.{Profile}
 use Rattle.metric_rules.specs.Row.{Row, profileOf, thresholdOf}
 use Rattle.tree_rules.specs.Layout.{leftSize}
 use Rattle.search_rules.specs.Range.{toQuery, entersLeft, entersRight}
 use Rattle.search_rules.specs.Reached.{reachedWithin, reached}
 use Rattle.search_rules.proofs.Reaching.{passing, passing-alike, passing-none, selected-passing, passing-choice, parts, left-within}
-use Rattle.batch_rules.specs.Batch.{some, reachedBySome}
+use Rattle.batch_rules.specs.Batch.{reachedBySome}
 
 -- the depth that bounds the recursion does not matter
 reached-depth : (dist : Profile → Profile → ℕ) (query : Profile) (radius n m : ℕ) (slots : List Row) → length slots ≤ n → length slots ≤ m
@@ -61,29 +62,6 @@ passing-le p (suc n) = go (p 0) _ (passing-le (λ i. p (suc i)) n)
     go true x h = omega arith
     go false x h = omega arith
 
-module _ {A : Type 0} where
-  some-alike : (p q : A → Bool) (xs : List A) → ((x : A) → p x ≡ q x) → some p xs ≡ some q xs
-  unfolding some
-  some-alike p q [] h = refl
-  some-alike p q (x ∷ xs) h = ap₂ _||_ (h x) (some-alike p q xs h)
-
-  some-none : (xs : List A) → some (λ x. false) xs ≡ false
-  unfolding some
-  some-none [] = refl
-  some-none (x ∷ xs) = some-none xs
-
-  -- some of those that pass a first test
-  some-selected : (first p : A → Bool) (xs : List A) → some p (select first xs) ≡ some (λ x. first x && p x) xs
-  unfolding some select
-  some-selected first p [] = refl
-  some-selected first p (x ∷ xs) = go (first x) (some-selected first p xs)
-    where
-      go :
-          (b : Bool) → some p (select first xs) ≡ some (λ y. first y && p y) xs
-          → some p (elim b [ true ↦ x ∷ select first xs | false ↦ select first xs ]) ≡ ((b && p x) || some (λ y. first y && p y) xs)
-      go true e = ap (λ (c : Bool). p x || c) e
-      go false e = e
-
 module _ (dist : Profile → Profile → ℕ) where
   -- whether a query enters the left half below a slot, and the right half
   unfoldable pub goesLeft : Row → Row → Bool
@@ -95,16 +73,16 @@ module _ (dist : Profile → Profile → ℕ) where
   visits : ℕ → List Row → ℕ → Row → Bool
   visits depth slots i query = reachedWithin dist (profileOf query) (thresholdOf query) depth slots i
 
-  counted : (queries slots : List Row) → length (reachedBySome dist queries slots) ≡ passing (λ i. some (visits (length slots) slots i) queries) (length slots)
+  counted : (queries slots : List Row) → length (reachedBySome dist queries slots) ≡ passing (λ i. any (visits (length slots) slots i) queries) (length slots)
   unfolding reachedBySome visits
   counted queries slots =
-      selected-passing (λ i. some (visits (length slots) slots i) queries) 0 (length slots)
-      ∙ passing-alike (λ i. some (visits (length slots) slots (0 + i)) queries) (λ i. some (visits (length slots) slots i) queries) (length slots)
-      (λ i h. ap (λ (k : ℕ). some (visits (length slots) slots k) queries) (omega arith))
+      selected-passing (λ i. any (visits (length slots) slots i) queries) 0 (length slots)
+      ∙ passing-alike (λ i. any (visits (length slots) slots (0 + i)) queries) (λ i. any (visits (length slots) slots i) queries) (length slots)
+      (λ i h. ap (λ (k : ℕ). any (visits (length slots) slots k) queries) (omega arith))
 
   -- no query visits nothing, and no slots are not visited
   pub together-no-query : (slots : List Row) → length (reachedBySome dist [] slots) ≡ 0
-  unfolding some
+  unfolding any
   together-no-query slots = counted [] slots ∙ passing-none (length slots)
 
   pub together-no-slot : (queries : List Row) → length (reachedBySome dist queries []) ≡ 0
@@ -113,11 +91,11 @@ module _ (dist : Profile → Profile → ℕ) where
 
   -- at most every slot is visited
   pub together-le : (queries slots : List Row) → length (reachedBySome dist queries slots) ≤ length slots
-  together-le queries slots = omega (arith, counted queries slots, passing-le (λ i. some (visits (length slots) slots i) queries) (length slots))
+  together-le queries slots = omega (arith, counted queries slots, passing-le (λ i. any (visits (length slots) slots i) queries) (length slots))
 
   -- one query alone visits what its single call visits
   pub together-one : (query : Row) (slots : List Row) → length (reachedBySome dist (query ∷ []) slots) ≡ length (reached dist (profileOf query) (thresholdOf query) slots)
-  unfolding visits some reached
+  unfolding visits any reached
   together-one query slots =
       let p : ℕ → Bool = reachedWithin dist (profileOf query) (thresholdOf query) (length slots) slots in
       counted (query ∷ []) slots
@@ -127,10 +105,10 @@ module _ (dist : Profile → Profile → ℕ) where
   -- one query more adds at most what its single call visits
   pub together-more : (query : Row) (queries slots : List Row)
       → length (reachedBySome dist (query ∷ queries) slots) ≤ length (reached dist (profileOf query) (thresholdOf query) slots) + length (reachedBySome dist queries slots)
-  unfolding some
+  unfolding any
   together-more query queries slots =
       let p : ℕ → Bool = (λ i. visits (length slots) slots i query) in
-      let q : ℕ → Bool = (λ i. some (visits (length slots) slots i) queries) in
+      let q : ℕ → Bool = (λ i. any (visits (length slots) slots i) queries) in
       omega (
         arith,
         counted (query ∷ queries) slots,
@@ -147,38 +125,38 @@ module _ (dist : Profile → Profile → ℕ) where
     all = first ∷ queries
 
     -- a place behind the first lies in one half: some query enters that half and visits it there
-    below : (n i : ℕ) → some (visits (suc n) (s ∷ rest) (suc i)) all
-        ≡ elim (ltb i l) [ true ↦ some (visits n (take l rest) i) (select (goesLeft s) all) | false ↦ some (visits n (drop l rest) (i - l)) (select (goesRight s) all) ]
+    below : (n i : ℕ) → any (visits (suc n) (s ∷ rest) (suc i)) all
+        ≡ elim (ltb i l) [ true ↦ any (visits n (take l rest) i) (select (goesLeft s) all) | false ↦ any (visits n (drop l rest) (i - l)) (select (goesRight s) all) ]
     unfolding visits reachedWithin goesLeft goesRight l
     below n i = go (ltb i l)
       where
         go :
             (b : Bool)
-            → some (λ query. elim b as (λ _. Bool) [ true ↦ goesLeft s query && visits n (take l rest) i query | false ↦ goesRight s query && visits n (drop l rest) (i - l) query ]) all
-            ≡ elim b as (λ _. Bool) [ true ↦ some (visits n (take l rest) i) (select (goesLeft s) all) | false ↦ some (visits n (drop l rest) (i - l)) (select (goesRight s) all) ]
-        go true = sym (some-selected (goesLeft s) (visits n (take l rest) i) all)
-        go false = sym (some-selected (goesRight s) (visits n (drop l rest) (i - l)) all)
+            → any (λ query. elim b as (λ _. Bool) [ true ↦ goesLeft s query && visits n (take l rest) i query | false ↦ goesRight s query && visits n (drop l rest) (i - l) query ]) all
+            ≡ elim b as (λ _. Bool) [ true ↦ any (visits n (take l rest) i) (select (goesLeft s) all) | false ↦ any (visits n (drop l rest) (i - l)) (select (goesRight s) all) ]
+        go true = sym (any-selected (goesLeft s) (visits n (take l rest) i) all)
+        go false = sym (any-selected (goesRight s) (visits n (drop l rest) (i - l)) all)
 
-    of-half : (qs xs : List Row) (n : ℕ) → length xs ≤ n → passing (λ i. some (visits n xs i) qs) (length xs) ≡ length (reachedBySome dist qs xs)
+    of-half : (qs xs : List Row) (n : ℕ) → length xs ≤ n → passing (λ i. any (visits n xs i) qs) (length xs) ≡ length (reachedBySome dist qs xs)
     unfolding visits
     of-half qs xs n h =
-        passing-alike (λ i. some (visits n xs i) qs) (λ i. some (visits (length xs) xs i) qs) (length xs)
-        (λ i g. some-alike (visits n xs i) (visits (length xs) xs i) qs (λ query. reached-depth dist (profileOf query) (thresholdOf query) n (length xs) xs h (omega arith) i))
+        passing-alike (λ i. any (visits n xs i) qs) (λ i. any (visits (length xs) xs i) qs) (length xs)
+        (λ i g. any-alike (visits n xs i) (visits (length xs) xs i) qs (λ query. reached-depth dist (profileOf query) (thresholdOf query) n (length xs) xs h (omega arith) i))
         ∙ sym (counted qs xs)
 
     -- the first slot is visited, and then in each half what some query that enters it visits
     pub together-step :
         length (reachedBySome dist (first ∷ queries) (s ∷ rest))
         ≡ 1 + (length (reachedBySome dist (select (goesLeft s) (first ∷ queries)) (take (leftSize (suc (length rest))) rest)) + length (reachedBySome dist (select (goesRight s) (first ∷ queries)) (drop (leftSize (suc (length rest))) rest)))
-    unfolding passing l all some visits reachedWithin
+    unfolding passing l all any visits reachedWithin
     together-step =
         let n = length rest in
-        let left : ℕ → Bool = (λ i. some (visits n (take l rest) i) (select (goesLeft s) all)) in
-        let right : ℕ → Bool = (λ i. some (visits n (drop l rest) i) (select (goesRight s) all)) in
+        let left : ℕ → Bool = (λ i. any (visits n (take l rest) i) (select (goesLeft s) all)) in
+        let right : ℕ → Bool = (λ i. any (visits n (drop l rest) i) (select (goesRight s) all)) in
         let size : length (take l rest) ≡ l = length-take-le l rest (left-within n) in
         counted all (s ∷ rest)
         ∙ ap (λ (x : ℕ). 1 + x)
-        (passing-alike (λ i. some (visits (suc n) (s ∷ rest) (suc i)) all) (λ i. elim (ltb i l) [ true ↦ left i | false ↦ right (i - l) ]) n (λ i h. below n i)
+        (passing-alike (λ i. any (visits (suc n) (s ∷ rest) (suc i)) all) (λ i. elim (ltb i l) [ true ↦ left i | false ↦ right (i - l) ]) n (λ i h. below n i)
         ∙ ap (passing (λ i. elim (ltb i l) [ true ↦ left i | false ↦ right (i - l) ])) (sym (parts l rest (left-within n)))
         ∙ passing-choice left right l (length (drop l rest))
         ∙ ap₂

@@ -1,10 +1,10 @@
 -- RULES 11.12 to 11.15, range for several queries in one call: each query's answer is the single call's, and a slot is visited once if any of them visits it.
 use Prim.Native.Nat.{ℕ, zero, suc, _-_, _*_, _/_, _%_, _^_}
-use mathlib.Core.Bool.{Bool, true, false, _&&_, _||_}
+use mathlib.Core.Bool.{Bool, true, false, _&&_}
 use mathlib.Core.List.{List, [], _∷_, _++_, map}
 use lib.ListN.{length, replicate}
 use lib.Dec.{leb, eqb}
-use Rattle.lists.specs.Lists.{countFrom, select, every, total}
+use Rattle.lists.specs.Lists.{countFrom, select, every, any, total}
 use Rattle.metric_rules.specs.declared.Profile.{Profile}
 use Rattle.metric_rules.specs.Row.{Row, profileOf, thresholdOf, dayOf}
 use Rattle.metric_rules.specs.Validity.{validMeasures}
@@ -38,15 +38,10 @@ singleAnswer t query = rangeAnswer t (profileOf query) (thresholdOf query) (firs
 unfoldable pub singleAnswers : Table → List Row → List Answer
 singleAnswers t queries = map (singleAnswer t) queries
 
--- whether some element passes
-unfoldable pub some : {A : Type 0} → (A → Bool) → List A → Bool
-some test [] = false
-some test (x ∷ xs) = test x || some test xs
-
 -- RULES 11.14: the slots of a bucket, by their places, that the single call of at least one query visits (11.6)
 unfoldable pub reachedBySome : (Profile → Profile → ℕ) → List Row → List Row → List ℕ
 reachedBySome dist queries slots =
-    select (λ i. some (λ query. reachedWithin dist (profileOf query) (thresholdOf query) (length slots) slots i) queries) (countFrom 0 (length slots))
+    select (λ i. any (λ query. reachedWithin dist (profileOf query) (thresholdOf query) (length slots) slots i) queries) (countFrom 0 (length slots))
 
 -- RULES 11.14: the count, over all buckets
 unfoldable pub batchCount : Table → List Row → ℕ

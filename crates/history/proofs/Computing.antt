@@ -1,7 +1,7 @@
 -- A call's outcome with every definition that it goes by opened, so that antt computes it. Proofs about the definitions open one at a time;
 -- the worked lines, which are runs, open them all, and this is the one place that lists them.
 use mathlib.Core.List.{flatten}
-use Rattle.lists.specs.Lists.{countFrom, total, last, select, every, alike, sameNumbers}
+use Rattle.lists.specs.Lists.{countFrom, total, last, select, every, any, alike, sameNumbers}
 use Rattle.metric_rules.specs.Row.{rowWidth, tagAt, measuresAt, codeAt, thresholdAt, markAt, dayAt, zeroRow, word, wide, words, tagOf, profileOf, thresholdOf, markOf, dayOf, isLive, mayReport, measure, codeWord, rowOf, withThreshold, withMark}
 use Rattle.metric_rules.specs.Validity.{nationals, countryOf, nationalOf, lastCountry, lastNational, validTag, measureLimit, validMeasure, validMeasures}
 use Rattle.metric_rules.specs.Distance.{mostDistance, saturated, gap, weight, weighted, measureDistance, differing, codeDistance, largest, worstDistance, distanceBy, distance, metricAt, weightsAt, weightsOf, spaceOf, weightsOne, lastMetric, validMetric, mostWeight, validWeights}
@@ -33,7 +33,7 @@ use Rattle.list_rules.specs.Lines.{listHeader, hasHeader, isItemLine, itemTag, 
 use Rattle.list_rules.specs.ReadList.{stopped, oneMore, reading, listReading, readListReply, tableAfterReadList, workAfterReadList}
 use Rattle.dues_rules.specs.Board.{board, within, rateBy, duesAt, duesBy}
 use Rattle.dues_rules.specs.Listed.{weightAt, isFound, isWeight, pays, weightsRefusal, totalOf, weightsReply, areaAfter, duesRefusal, duesReply, duesAfter}
-use Rattle.batch_rules.specs.Batch.{mostQueries, validNumber, firstDayOf, singleAnswer, singleAnswers, some, reachedBySome, batchCount, partSize, queriesRefusal, partsRefusal, batchRefusal, foundBy, rangesReply, partWith, partsWith, resultAfterParts, rangeBatchReply, resultAfterBatch}
+use Rattle.batch_rules.specs.Batch.{mostQueries, validNumber, firstDayOf, singleAnswer, singleAnswers, reachedBySome, batchCount, partSize, queriesRefusal, partsRefusal, batchRefusal, foundBy, rangesReply, partWith, partsWith, resultAfterParts, rangeBatchReply, resultAfterBatch}
 use Rattle.lots_rules.specs.Lots.{largestOf, byTag, near, lotsWithin, lots, summaryOf, numbered, listingOf}
 use Rattle.lots_rules.specs.Drafting.{mostRadii, radiiPass, chosenRadius, draftedItems, betweenRows, tableLots, tableSummaries, tableListing, draftFits, lotsRefusal, answerIn, zeroSummary, summaryAfterLots, listingAfterLots, workAfterLots}
 use Rattle.call_rules.specs.Calls.{Call, Areas, Reply, replyTo, tableAfter, areasAfter}
@@ -45,7 +45,7 @@ pub record Performed (c : Call) : Type 0 where
 
 unfoldable pub performed : (c : Call) → Table → Areas c → Performed c
 unfolding
-    countFrom total last select every flatten alike sameNumbers rowWidth tagAt measuresAt codeAt thresholdAt markAt dayAt zeroRow word wide words tagOf
+    countFrom total last select every any flatten alike sameNumbers rowWidth tagAt measuresAt codeAt thresholdAt markAt dayAt zeroRow word wide words tagOf
     profileOf thresholdOf markOf dayOf mayReport measure codeWord rowOf withThreshold withMark nationals countryOf nationalOf lastCountry lastNational validTag
     measureLimit validMeasure validMeasures mostDistance saturated gap weight weighted measureDistance differing codeDistance largest worstDistance distanceBy distance
     metricAt weightsAt weightsOf spaceOf weightsOne lastMetric validMetric mostWeight validWeights keyLe insertBy sortBy leftSize costWithin cost rankedFrom tagKey placed fromPivot nearKey lastDistance
@@ -67,7 +67,7 @@ unfolding
     isNumeral numeralAfter numeral isNegative unsigned isMeasure hundredths measureIn listHeader hasHeader isItemLine itemTag itemProfile lineOf
     linesFrom linesOf itemLines stopped oneMore reading listReading readListReply tableAfterReadList workAfterReadList board within rateBy duesAt duesBy
     weightAt isFound isWeight pays weightsRefusal totalOf weightsReply areaAfter duesRefusal duesReply duesAfter
-    reachedWithin mostQueries validNumber firstDayOf singleAnswer singleAnswers some reachedBySome batchCount partSize queriesRefusal partsRefusal batchRefusal foundBy rangesReply
+    reachedWithin mostQueries validNumber firstDayOf singleAnswer singleAnswers reachedBySome batchCount partSize queriesRefusal partsRefusal batchRefusal foundBy rangesReply
     partWith partsWith resultAfterParts rangeBatchReply resultAfterBatch largestOf byTag near lotsWithin lots summaryOf numbered listingOf
     mostRadii radiiPass chosenRadius draftedItems betweenRows tableLots tableSummaries tableListing draftFits lotsRefusal answerIn zeroSummary summaryAfterLots listingAfterLots workAfterLots
 performed c t areas = record { reply = replyTo c t areas; table = tableAfter c t areas; areas = areasAfter c t areas }

@@ -1,15 +1,15 @@
--- Tests as facts: of two joined tests both pass, `every` passes where each element does, and alike lists are equal.
+-- Tests as facts: of two joined tests both pass, `every` passes where each element does, `any` goes by what the test says of each, and alike lists are equal.
 -- Each by the list.
 use Prim.Native.Nat.{ℕ, suc, _+_, _≤_, _<_}
 use native.Mathlib.Numerals.{add-one}
 use mathlib.Core.Path.{_≡_, refl, sym, _∙_, ap, ap₂}
-use mathlib.Core.Bool.{Bool, true, false, _&&_, false≢true}
+use mathlib.Core.Bool.{Bool, true, false, _&&_, _||_, false≢true}
 use mathlib.Core.List.{List, [], _∷_, map}
 use lib.Dec.{eqb}
 use lib.ListN.{length, drop, getD, drop-of-length-le}
 use lib.Seq.{drop-cons}
 use borrow.Author.Tests.{eqb-true, eq-eqb}
-use Rattle.lists.specs.Lists.{every, alike, sameNumbers, All}
+use Rattle.lists.specs.Lists.{select, every, any, alike, sameNumbers, All}
 
 pub and-first : (a b : Bool) → (a && b) ≡ true → a ≡ true
 and-first true b h = refl
@@ -43,6 +43,28 @@ module _ {A : Type 0} where
   unfolding every
   every-map f test before h [] = refl
   every-map f test before h (x ∷ xs) = ap₂ _&&_ (h x) (every-map f test before h xs)
+
+  pub any-alike : (p q : A → Bool) (xs : List A) → ((x : A) → p x ≡ q x) → any p xs ≡ any q xs
+  unfolding any
+  any-alike p q [] h = refl
+  any-alike p q (x ∷ xs) h = ap₂ _||_ (h x) (any-alike p q xs h)
+
+  pub any-none : (xs : List A) → any (λ x. false) xs ≡ false
+  unfolding any
+  any-none [] = refl
+  any-none (x ∷ xs) = any-none xs
+
+  -- some of those that pass a first test
+  pub any-selected : (first p : A → Bool) (xs : List A) → any p (select first xs) ≡ any (λ x. first x && p x) xs
+  unfolding any select
+  any-selected first p [] = refl
+  any-selected first p (x ∷ xs) = go (first x) (any-selected first p xs)
+    where
+      go :
+          (b : Bool) → any p (select first xs) ≡ any (λ y. first y && p y) xs
+          → any p (elim b [ true ↦ x ∷ select first xs | false ↦ select first xs ]) ≡ ((b && p x) || any (λ y. first y && p y) xs)
+      go true e = ap (λ (c : Bool). p x || c) e
+      go false e = e
 
   -- lists alike by a test that passes exactly where elements are equal
   module _ (same : A → A → Bool) where

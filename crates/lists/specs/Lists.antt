@@ -1,6 +1,6 @@
 -- Plain operations on lists that the rules are written with. Nothing here is particular to the index.
 use Prim.Native.Nat.{ℕ, zero, suc, _+_}
-use mathlib.Core.Bool.{Bool, true, false, not, _&&_}
+use mathlib.Core.Bool.{Bool, true, false, not, _&&_, _||_}
 use mathlib.Core.List.{List, [], _∷_}
 use lib.Dec.{eqb}
 
@@ -28,6 +28,11 @@ module _ {A : Type 0} where
   unfoldable pub every : (A → Bool) → List A → Bool
   every test [] = true
   every test (x ∷ xs) = test x && every test xs
+
+  -- some element passes
+  unfoldable pub any : (A → Bool) → List A → Bool
+  any test [] = false
+  any test (x ∷ xs) = test x || any test xs
 
   -- the two lists are alike, element by element
   unfoldable pub alike : (A → A → Bool) → List A → List A → Bool

@@ -11,7 +11,7 @@ use lib.ListN.{length, drop, getD, replicate, length-append, length-map, length-
 use lib.Seq.{sets-eq, getD-append-add, ext-getD}
 use lib.Dec.{ltb}
 use borrow.Author.Tests.{lt-ltb, le-ltb}
-use Rattle.lists.specs.Lists.{All, total, countFrom, select}
+use Rattle.lists.specs.Lists.{All, any, total, countFrom, select}
 use Rattle.lists.proofs.Lists.{map-alike, all-at, perm-length}
 use Rattle.metric_rules.specs.declared.Profile.{Profile}
 use Rattle.metric_rules.specs.Row.{Row, profileOf, thresholdOf, IsProfile}
@@ -29,7 +29,7 @@ use Rattle.table_rules.specs.Table.{Table, rowAt, orderOf, tableSpace, slotsOf}
 use Rattle.table_rules.specs.Search.{Answer, bucketsDown, rangeMet, rangeAnswer}
 use Rattle.table_range.specs.Below.{metBelow}
 use Rattle.table_range.proofs.Adding.{met-all, met-pairs}
-use Rattle.batch_rules.specs.Batch.{firstDayOf, singleAnswer, singleAnswers, some, reachedBySome, batchCount, foundBy, mostQueries}
+use Rattle.batch_rules.specs.Batch.{firstDayOf, singleAnswer, singleAnswers, reachedBySome, batchCount, foundBy, mostQueries}
 use Rattle.table_range_batch.specs.Below.{askedRow, batchOf, hitsBelow, countBelow}
 
 -- the header row stands first, and then the queries
@@ -125,14 +125,14 @@ module _ (t : Table) (queries : List Row) (few : length queries ≤ 16) (profile
           ]
 
   -- a query as a row is visited by as the single call's query is
-  some-asked : (visits : Profile → ℕ → Bool) (qs : List Row) → All (λ q. IsProfile (profileOf q)) qs
-      → some (λ q. visits (profileOf q) (thresholdOf q)) (map askedRow qs) ≡ some (λ q. visits (profileOf q) (thresholdOf q)) qs
-  unfolding some askedRow
-  some-asked visits [] is = refl
-  some-asked visits (q ∷ qs) is =
+  any-asked : (visits : Profile → ℕ → Bool) (qs : List Row) → All (λ q. IsProfile (profileOf q)) qs
+      → any (λ q. visits (profileOf q) (thresholdOf q)) (map askedRow qs) ≡ any (λ q. visits (profileOf q) (thresholdOf q)) qs
+  unfolding any askedRow
+  any-asked visits [] is = refl
+  any-asked visits (q ∷ qs) is =
       ap₂ _||_
       (ap₂ visits (profile-of-row 0 (profileOf q) (thresholdOf q) 0 (firstDayOf q) (is .0)) (threshold-of-row 0 (profileOf q) (thresholdOf q) 0 (firstDayOf q)))
-      (some-asked visits qs (is .1))
+      (any-asked visits qs (is .1))
 
   counted : (k : ℕ) → countOn batch all (slotsOf t k) ≡ length (reachedBySome (distance (tableSpace t)) queries (slotsOf t k))
   unfolding countOn reachedBySome tableSpace
@@ -143,7 +143,7 @@ module _ (t : Table) (queries : List Row) (few : length queries ≤ 16) (profile
       chosen-first (map askedRow queries) _ (isOn all) (λ j. on-all (length queries) all first j ∙ ap (ltb j) (sym (length-map queries askedRow))) in
       ap (λ (b : List Row). length (reachedBySome (distanceAsked b) (chosen (isOn all) (drop 1 b)) slots)) (batch-shape header queries few)
       ∙ ap (λ (qs : List Row). length (reachedBySome (distance (spaceOf header)) qs slots)) set
-      ∙ (λ i. length (select (λ at. some-asked (λ p r. reachedWithin (distance (spaceOf header)) p r (length slots) slots at) queries profiles i) (countFrom 0 (length slots))))
+      ∙ (λ i. length (select (λ at. any-asked (λ p r. reachedWithin (distance (spaceOf header)) p r (length slots) slots at) queries profiles i) (countFrom 0 (length slots))))
 
   -- the slots counted are those that some single call visits
   pub count-is : countBelow batch all t (suc (orderOf t)) ≡ batchCount t queries
