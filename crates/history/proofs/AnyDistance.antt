@@ -1,8 +1,8 @@
 -- The facts of a tree by any distance with the three laws: the laws on layouts and searches, which take the distance as a parameter, and c(n) as the number of
 -- distances that a layout asks for, by the depth: each node asks for one less than its rows, and its halves are those of c(n).
-use Prim.Native.Nat.{ℕ, zero, suc, _+_, _-_, _≤_, _<_}
+use Prim.Native.Nat.{ℕ, zero, suc, _+_, _-_, _≤_}
 use native.Mathlib.Omega.{arith}
-use mathlib.Core.Path.{_≡_, refl, sym, _∙_, ap, ap₂}
+use mathlib.Core.Path.{_≡_, sym, _∙_, ap, ap₂}
 use mathlib.Core.List.{List, [], _∷_}
 use lib.ListN.{length, take, drop, length-take, length-drop}
 use Rattle.lists.proofs.Distinct.{distinct-of}

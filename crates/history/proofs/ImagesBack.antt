@@ -18,7 +18,7 @@ use Rattle.image_rules.proofs.ReadBack.{ReadsBack, reads-back}
 use Rattle.image_rules.proofs.Accepting.{accepts}
 use Rattle.image_rules.proofs.Lengths.{length-image-built, image-below}
 use Rattle.image_rules.proofs.LoadedTable.{load-reads, accepted-image}
-use Rattle.history.specs.Images.{imageSize, writing, imageWritten, LoadsBack}
+use Rattle.history.specs.Images.{imageSize, imageWritten, LoadsBack}
 use Rattle.history.specs.Demands.{AcceptedGivesBack}
 use Rattle.history.proofs.Invariant.{Invariant}
 use Rattle.table_rules.proofs.Geometry.{row-by-row}

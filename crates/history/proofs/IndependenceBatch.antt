@@ -11,7 +11,7 @@ use lib.ListN.{length, take, drop, getD, replicate, length-append, length-replic
 use lib.Seq.{take-append-seam, drop-append-add}
 use borrow.Author.Tests.{le-leb, leb-true}
 use Rattle.lists.specs.Lists.{every, All}
-use Rattle.lists.proofs.Lists.{all-weaken, all-append-left, all-of-map, all-map, map-alike}
+use Rattle.lists.proofs.Lists.{all-weaken, all-append-left, all-of-map, map-alike}
 use Rattle.lists.proofs.Tests.{every-all, all-every, every-map}
 use Rattle.metric_rules.specs.declared.Profile.{Profile}
 use Rattle.metric_rules.specs.Row.{Row, profileOf, thresholdOf}
@@ -20,7 +20,6 @@ use Rattle.table_rules.specs.Refusals.{noRoom, unless, orElse}
 use Rattle.table_rules.specs.Table.{Table}
 use Rattle.table_rules.specs.Checks.{readRefusal}
 use Rattle.table_rules.specs.Search.{Answer, rangeAnswer, zeroEntry}
-use Rattle.batch_rules.specs.declared.Ranges.{Ranges}
 use Rattle.batch_rules.specs.Batch.{mostQueries, firstDayOf, singleAnswer, singleAnswers, partSize, queriesRefusal, partsRefusal, batchRefusal, foundBy, rangesReply, partWith, partsWith, resultAfterParts, rangeBatchReply, resultAfterBatch, batchCount}
 use Rattle.history.specs.Agreement.{BatchesAgree, PartsHold}
 

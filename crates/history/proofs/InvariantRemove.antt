@@ -1,6 +1,6 @@
 -- An accepted removal keeps the invariant, and its live items are those before without the one removed, permuted: the slot is marked, and the bucket then is
 -- emptied, left or rebuilt.
-use Prim.Native.Nat.{ℕ, suc, _+_, _-_, _*_, _≤_, _<_}
+use Prim.Native.Nat.{ℕ, suc, _-_, _*_, _≤_, _<_}
 use mathlib.Core.Path.{_≡_, refl, sym, _∙_, ap, ap₂, subst}
 use mathlib.Core.Bool.{true}
 use mathlib.Core.Logic.{_⊎_, inl, inr}

@@ -1,6 +1,6 @@
 -- A slot found and marked dead: every bucket is as good as before, whatever its size; the live items are those before without that slot's, and the tree still
 -- is a layout, since marks are no part of it.
-use Prim.Native.Nat.{ℕ, zero, suc, _+_, _-_, _<_}
+use Prim.Native.Nat.{ℕ, zero, suc, _-_, _<_}
 use mathlib.Core.Path.{_≡_, sym, _∙_, ap, ap₂, subst}
 use mathlib.Core.Bool.{Bool, true, _&&_}
 use mathlib.Core.Logic.{inl, inr}

@@ -1,6 +1,6 @@
 -- A whole list of calls: at each call table and model show the same, and after the list the table represents the model. By the list; an accepted fresh or load
 -- begins it on an area that may hold anything.
-use Prim.Native.Nat.{ℕ, zero, suc}
+use Prim.Native.Nat.{ℕ}
 use mathlib.Core.Path.{_≡_, refl, sym, ap, ap₂, subst}
 use mathlib.Core.List.{List, [], _∷_}
 use lib.ListN.{length, drop}

@@ -1,6 +1,6 @@
 -- Refusals alike: a table that matches the model, or one too short for the model's order, refuses a call by the number by which the model does.
 -- A sound table that is long enough is never stopped by 24, and a shorter one is stopped by 23 whatever its rows hold.
-use Prim.Native.Nat.{ℕ, zero, suc, _/_, _<_}
+use Prim.Native.Nat.{ℕ, _/_, _<_}
 use mathlib.Core.Path.{_≡_, refl, sym, _∙_, ap, ap₂}
 use mathlib.Core.Logic.{_⊎_, inl, inr}
 use mathlib.Core.Bool.{Bool, true, false, _&&_, false≢true}
@@ -26,7 +26,7 @@ use Rattle.table_rules.specs.Add.{addRefusal}
 use Rattle.table_rules.specs.Remove.{removeRefusal}
 use Rattle.table_rules.specs.LookUp.{Place, find, isLiveTag, liveTagRefusal, lookUpRefusal}
 use Rattle.table_rules.specs.Search.{fitRefusal, rangeRefusal, nearestRefusal}
-use Rattle.dues_rules.specs.Listed.{weightsAt, weightsRefusal, duesRefusal}
+use Rattle.dues_rules.specs.Listed.{weightsRefusal, duesRefusal}
 use Rattle.call_rules.specs.Calls.Ask.{lookUp, range, nearest, dues, rangeBatch}
 use Rattle.history.specs.Model.{Item, itemOf, Model, withTag, isIn, canRead, canChange, tagRefusal, itemRefusal, addRefusalOf, removeRefusalOf, fits, questionRefusal, askRefusal}
 use Rattle.history.proofs.Invariant.{Invariant}

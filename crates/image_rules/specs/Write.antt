@@ -1,6 +1,6 @@
 -- RULES 12.1, 12.2: the bytes of a table, and the call that writes them.
 use Prim.Native.Nat.{ℕ, zero, suc}
-use mathlib.Core.List.{List, [], _∷_, _++_, map, flatten}
+use mathlib.Core.List.{List, _∷_, _++_, map, flatten}
 use lib.ListN.{length, take, drop}
 use lib.Dec.{leb}
 use Rattle.metric_rules.specs.Row.{Row}

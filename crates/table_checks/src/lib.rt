@@ -1,6 +1,5 @@
 // RULES 14.5: what stops a call on a lent table, 23 and 24 in their order. The table's content and length are any.
 ghost use mathlib.Core.Path.{_≡_};
-ghost use mathlib.Core.Bool.{true};
 ghost use Prim.Native.Nat.{_<_};
 ghost use lib.ListN.{length};
 ghost use Rattle.lists.specs.Lists.{every};

@@ -1,6 +1,6 @@
 -- A list weighed so far: what is known of the tags before, followed by what the tags still ahead say, is what the whole list says. One tag moves one step of
 -- each definition from ahead to before.
-use Prim.Native.Nat.{ℕ, suc, _+_, _≤_, _<_}
+use Prim.Native.Nat.{ℕ, _+_, _≤_, _<_}
 use native.Mathlib.Numerals.{add-one}
 use native.Mathlib.Omega.{arith}
 use mathlib.Core.Path.{_≡_, refl, sym, ap, _∙_}

@@ -1,5 +1,5 @@
 -- The parts of an area put in order one after the other: a part that is lent and given back changes in its own place alone.
-use Prim.Native.Nat.{ℕ, zero, suc, _+_, _-_, _*_, _≤_, _<_}
+use Prim.Native.Nat.{ℕ, suc, _+_, _-_, _*_, _≤_, _<_}
 use native.Mathlib.Omega.{arith}
 use native.Mathlib.Nat.{suc-mul, mul-le-mul-right, lt-of-not-le}
 use native.Mathlib.Decide.{decLe}

@@ -1,7 +1,7 @@
 // Range for several queries over a table: one visit of the buckets, from the top down, for all of them; then each part of the area is put in order.
 ghost use mathlib.Core.Path.{_≡_};
 ghost use mathlib.Core.Bool.{true, false};
-ghost use Prim.Native.Nat.{ℕ, _+_, _*_, _-_, _≤_, _<_, _^_, suc};
+ghost use Prim.Native.Nat.{ℕ, _+_, _*_, _≤_, _<_, _^_, suc};
 ghost use lib.ListN.{length, take, getD, replicate};
 ghost use lib.Dec.{leb};
 ghost use Rattle.lists.specs.Lists.{All, every};

@@ -9,7 +9,6 @@ use lib.ListN.{length, take, drop, set, replicate, length-append, length-replica
 use lib.Seq.{take-set-le, take-set-lt, drop-set-lt, drop-at}
 use Rattle.lists.specs.Lists.{countFrom}
 use Rattle.metric_rules.specs.Row.{Row, word, withMark, zeroRow, rowWidth}
-use Rattle.metric_rules.specs.declared.Weights.{Weights}
 use Rattle.metric_rules.specs.declared.Space.{Space}
 use Rattle.metric_rules.specs.Distance.{weight, weightsOf, spaceOf, metricAt, weightsAt}
 use Rattle.metric_rules.proofs.Elements.{elements}

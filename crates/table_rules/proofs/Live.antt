@@ -1,6 +1,6 @@
 -- The live items of a table, over all its buckets: which there are after a bucket was changed, after buckets were emptied, and after a rebuild. A change of
 -- one bucket keeps what stands before and after it; what a row has besides threshold and mark goes through a layout permuted.
-use Prim.Native.Nat.{ℕ, suc, _+_, _≤_}
+use Prim.Native.Nat.{ℕ, suc, _≤_}
 use mathlib.Core.Path.{_≡_, refl, sym, _∙_, ap, ap₂, subst}
 use mathlib.Core.Bool.{true}
 use mathlib.Core.List.{List, [], _∷_, _++_, map, map-append, flatten, append-nil, append-assoc, List·Permᴰ, List·Permᴰ·trans, Permᴰ·refl, Permᴰ·symm, Permᴰ·append-left, Permᴰ·append-right}

@@ -1,7 +1,7 @@
 // What herd lists and `yard` read alike: the parts of a text, found one after the other, a part's number, and measures in turn.
 ghost use mathlib.Core.Path.{_≡_};
 ghost use mathlib.Core.Bool.{true, false};
-ghost use Prim.Native.Nat.{_≤_, _<_, _^_};
+ghost use Prim.Native.Nat.{_≤_, _<_};
 ghost use lib.ListN.{length};
 ghost use Rattle.text_rules.specs.Text.{digitOf, isDigit};
 ghost use Rattle.text_rules.specs.Fields.{isNegative, unsigned};

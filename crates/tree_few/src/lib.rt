@@ -1,7 +1,6 @@
 // A few slots of a tree passed over at once, where none of them is within the bound. Their distances are worked out with no branch in between, so
 // that the processor works on several at a time.
 ghost use mathlib.Core.Path.{_≡_};
-ghost use mathlib.Core.Bool.{true, false};
 ghost use Prim.Native.Nat.{_+_, _<_, _^_};
 ghost use lib.Dec.{leb};
 ghost use lib.ListN.{length};

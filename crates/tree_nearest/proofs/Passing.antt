@@ -10,7 +10,7 @@ use Rattle.lists.specs.Lists.{All}
 use Rattle.metric_rules.specs.declared.Profile.{Profile}
 use Rattle.metric_rules.specs.Row.{Row, profileOf}
 use Rattle.search_rules.specs.Range.{Entry, entry, entryDistance, entryOf, toQuery, rangeTree}
-use Rattle.search_rules.specs.Nearest.{Tally, keep, worst, nearestTree}
+use Rattle.search_rules.specs.Nearest.{keep, worst, nearestTree}
 use Rattle.search_rules.proofs.Beyond.{nearest-beyond}
 use Rattle.tree_nearest.specs.declared.Nearby.{Nearby}
 use Rattle.tree_nearest.specs.Nearby.{keptOf, tallyOf, Leaves, reportedIn, Ready}

@@ -3,8 +3,8 @@ use Prim.Native.Nat.{ℕ}
 use borrow.Author.Tests.{not-true, not-false}
 use borrow.Author.Needs.{needs}
 use mathlib.Core.Path.{_≡_, sym, _∙_, ap, ap₂}
-use mathlib.Core.Bool.{Bool, true, false, _&&_}
-use Rattle.metric_rules.specs.Distance.{validWeights, weightsOf, spaceOf}
+use mathlib.Core.Bool.{Bool, _&&_}
+use Rattle.metric_rules.specs.Distance.{validWeights, spaceOf}
 use Rattle.table_rules.specs.Geometry.{headerRow}
 use Rattle.table_rules.specs.Table.{rowAt, orderOf, tableSpace, builtOf, liveOf}
 use Rattle.table_rules.specs.Checks.{sizesPass}

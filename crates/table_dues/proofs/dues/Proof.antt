@@ -2,15 +2,13 @@
 use borrow.Author.Needs.{needs}
 use native.Mathlib.Omega.{arith}
 use Prim.Native.Nat.{ℕ, _≤_}
-use mathlib.Core.Path.{_≡_, refl, sym, ap, _∙_}
+use mathlib.Core.Path.{_≡_, sym, ap, _∙_}
 use mathlib.Core.Bool.{true}
-use mathlib.Core.List.{List}
 use lib.ListN.{length, take, replicate, length-replicate}
 use lib.Seq.{sets}
 use Rattle.lists.specs.Lists.{total}
 use Rattle.table_rules.specs.Checks.{readRefusal}
 use Rattle.table_rules.proofs.Passing.{read-passed}
-use Rattle.dues_rules.specs.declared.Dues.{Dues}
 use Rattle.dues_rules.specs.Listed.{mostListed, weightsAt, duesOf, totalOf, duesRefusal}
 use Rattle.dues_rules.proofs.Replies as replies
 use Rattle.table_dues.proofs.Refusing.{table-stops, Told, refusal-told, list-held}

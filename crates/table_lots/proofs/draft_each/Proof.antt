@@ -1,6 +1,6 @@
 -- `table_lots::draft_each` meets its contract: radius by radius, each drafted from the places as they stand.
 use native.Mathlib.Omega.{arith}
-use Prim.Native.Nat.{ℕ, _+_, _-_}
+use Prim.Native.Nat.{ℕ, _-_}
 use mathlib.Core.Path.{_≡_, refl, sym, ap, ap₂, subst, _∙_}
 use mathlib.Core.Logic.{⊎-elim}
 use mathlib.Core.List.{List, map, _++_, List·Permᴰ}

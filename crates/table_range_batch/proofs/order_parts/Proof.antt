@@ -5,7 +5,7 @@ use native.Mathlib.Nat.{mul-le-mul-right, lt-of-not-le, suc-mul}
 use native.Mathlib.Decide.{decLe}
 use Prim.Native.Nat.{ℕ, suc, _+_, _-_, _*_, _^_, _≤_, _<_}
 use mathlib.Core.Path.{_≡_, sym, ap, ap₂, subst, _∙_}
-use mathlib.Core.Bool.{true, false, false≢true}
+use mathlib.Core.Bool.{false≢true}
 use mathlib.Core.List.{List, _++_}
 use lib.ListN.{length, take, drop, getD, replicate}
 use Rattle.lists.specs.Lists.{All}

@@ -1,8 +1,6 @@
 -- `tree_few::seven_passed` meets its contract: the first slot's halves, of one to three slots each, were passed over too.
-use Prim.Native.Nat.{_+_, _-_, _/_, _≤_, _<_, _^_}
-use mathlib.Core.Path.{_≡_}
+use Prim.Native.Nat.{_≤_, _<_, _^_}
 use native.Mathlib.Omega.{arith}
-use lib.ListN.{length, take, drop, length-take, length-drop}
 use lib.Dec.{eqb}
 use borrow.Author.Needs.{needs}
 use Rattle.search_rules.specs.Range.{toQuery}

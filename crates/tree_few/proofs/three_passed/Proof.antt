@@ -1,5 +1,5 @@
 -- `tree_few::three_passed` meets its contract: the three places are all slots, and below them there is nothing to ask.
-use Prim.Native.Nat.{_+_, _-_, _/_, _<_, _^_}
+use Prim.Native.Nat.{_<_, _^_}
 use native.Mathlib.Omega.{arith}
 use lib.Dec.{leb}
 use borrow.Author.Needs.{needs}
