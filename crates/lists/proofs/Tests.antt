@@ -49,11 +49,6 @@ module _ {A : Type 0} where
   any-alike p q [] h = refl
   any-alike p q (x ∷ xs) h = ap₂ _||_ (h x) (any-alike p q xs h)
 
-  pub any-none : (xs : List A) → any (λ x. false) xs ≡ false
-  unfolding any
-  any-none [] = refl
-  any-none (x ∷ xs) = any-none xs
-
   -- some of those that pass a first test
   pub any-selected : (first p : A → Bool) (xs : List A) → any p (select first xs) ≡ any (λ x. first x && p x) xs
   unfolding any select

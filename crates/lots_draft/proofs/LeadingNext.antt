@@ -25,10 +25,6 @@ drafted e = not (undrafted e)
 unfoldable pub pending : List Entry → List ℕ
 pending es = map placeOf (select undrafted es)
 
-pending-none : pending [] ≡ []
-unfolding pending select
-pending-none = refl
-
 pending-more : (e : Entry) (es : List Entry) → undrafted e ≡ true → pending (e ∷ es) ≡ placeOf e ∷ pending es
 unfolding pending
 pending-more e es h = ap (map placeOf) (select-yes undrafted e es h)

@@ -7,7 +7,7 @@ use borrow.Author.Tests.{leb-true, le-leb}
 use Rattle.lists.specs.Lists.{select, All}
 use Rattle.lists.proofs.Lists.{Pairs, all-weaken, all-always, all-append, all-map, pairs-map, pairs-weaken, pairs-append}
 use Rattle.tree_rules.proofs.Sorting.{NotAfter, Sorted, key-le-less, key-le-same, key-le-last, sort-sorted, sort-of-sorted}
-use Rattle.search_rules.specs.Range.{Entry, Pair, entry, entryTag, entryDistance, entryKey, ordered}
+use Rattle.search_rules.specs.Range.{Entry, entry, entryTag, entryDistance, entryKey, ordered}
 use Rattle.search_rules.proofs.Selecting.{all-selected, pairs-selected}
 use Rattle.lots_rules.specs.Lots.{byTag, near, lots, numbered, listingOf}
 use Rattle.lots_rules.proofs.Steps.{far, lots-ind}
@@ -21,11 +21,6 @@ module _ {A : Type 0} (tag : A → ℕ) where
   unfolding byTag
   by-tag-tagged items =
       pairs-weaken (λ x y h. leb-true (tag x) (tag y) (sym (key-le-last (tag x) (tag y)) ∙ h)) (byTag tag items) (sort-sorted (λ i. tag i ∷ []) items)
-
-  pub numbered-pairs : (n : ℕ) (ls : List (List A)) → All Pair (numbered tag n ls)
-  unfolding numbered entry
-  numbered-pairs n [] = tt
-  numbered-pairs n (l ∷ ls) = all-append Pair (map (λ item. entry (tag item) n) l) (numbered tag (suc n) ls) (all-map (λ item. entry (tag item) n) Pair l (all-always (λ x. refl) l)) (numbered-pairs (suc n) ls)
 
   -- lots are numbered from the first number on
   pub numbered-from : (n : ℕ) (ls : List (List A)) → All (λ e. n ≤ entryDistance e) (numbered tag n ls)

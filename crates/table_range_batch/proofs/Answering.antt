@@ -76,9 +76,6 @@ module _ (t : Table) (queries : List Row) (few : length queries ≤ 16) (profile
       subst (λ (b : Bool). All Pair (elim b as (λ _. List Entry) [ true ↦ metBelow (askedAt batch j) t (suc (orderOf t)) .hits | false ↦ [] ])) (sym (on-all (length queries) all first j ∙ lt-ltb j (length queries) h))
       (met-pairs (askedAt batch j) t (suc (orderOf t)))
 
-  answer : ℕ → Answer
-  answer j = singleAnswer t (query j)
-
   -- its entries are its hits in order, and as many
   pub entries-are : (j : ℕ) → j < length queries → singleAnswer t (getD queries j []) .entries ≡ ordered (hits j)
   unfolding singleAnswer rangeAnswer query

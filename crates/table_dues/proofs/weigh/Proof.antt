@@ -17,12 +17,9 @@ Inv-loop table tags held₀ pays₀ i₀ held pays i = Weighed table tags held�
 abbrev μ-loop : tie.MeasureT-loop
 μ-loop table tags held₀ pays₀ i₀ held pays i = length tags - i
 
--- from where the item is found back to the loop, and on to where its test passed
+-- from where the item is found back to the loop
 abbrev loop-at : tie.After-found-at Inv-loop μ-loop → tie.At-loop Inv-loop μ-loop
 loop-at c = c .before .before .before
-
-abbrev start-at : tie.At-loop Inv-loop μ-loop → tie.Start Inv-loop μ-loop
-start-at c = c .before .before .before
 
 loop-holds : tie.Need-loop-holds Inv-loop μ-loop
 loop-holds c = none-weighed _ _ _
