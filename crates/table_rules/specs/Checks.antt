@@ -55,7 +55,7 @@ readRefusal t =
     (unless (headerPasses t) badTable
     0)
 
--- for add and remove, which are lent a work area of so many rows, 2^T or more, and go by the marks
+-- for add, remove and lots, which are lent a work area of so many rows or entries, 2^T or more, and go by the marks
 unfoldable pub changeRefusal : ℕ → Table → ℕ
 changeRefusal rows t =
     orElse (frameRefusal t)

@@ -2,19 +2,19 @@
 use Prim.Native.Nat.{ℕ, zero, suc}
 use mathlib.Core.Bool.{Bool, true, false}
 
--- the tag is not valid (add, remove, look up)
+-- the tag is not valid (add, remove, look up, herd list)
 abbrev pub badTag : ℕ
 badTag = 1
 
--- a measure is not valid (add, range, nearest)
+-- a measure is not valid (add, range, batch, nearest, herd list)
 abbrev pub badMeasure : ℕ
 badMeasure = 2
 
--- order above 12 (fresh, load)
+-- order above 12 (fresh, load, restore)
 abbrev pub badOrder : ℕ
 badOrder = 3
 
--- metric above the last one (fresh, load)
+-- metric above the last one (fresh, load, restore)
 abbrev pub badMetric : ℕ
 badMetric = 4
 
@@ -22,27 +22,27 @@ badMetric = 4
 abbrev pub noCount : ℕ
 noCount = 5
 
--- result area too short: fewer entries than the reply, or fewer bytes than the image
+-- an area too short for the result: fewer entries than the reply, fewer bytes than the image or the snapshot, fewer numbers than tags
 abbrev pub noRoom : ℕ
 noRoom = 6
 
--- image length wrong
+-- image length wrong, or past the rest of its part (load, restore)
 abbrev pub badLength : ℕ
 badLength = 7
 
--- image sound in sizes, but its fields or trees break a rule
+-- image sound in sizes, but a field of some slot breaks a rule, or its form is not known (load, restore)
 abbrev pub badImage : ℕ
 badImage = 8
 
--- tag already live (add)
+-- tag already live (add, herd list)
 abbrev pub alreadyLive : ℕ
 alreadyLive = 20
 
--- tag not live (remove, look up)
+-- tag not live (remove, look up), or a listed one (dues)
 abbrev pub notLive : ℕ
 notLive = 21
 
--- 2^T items live (add)
+-- 2^T items live (add, herd list)
 abbrev pub full : ℕ
 full = 22
 
@@ -54,11 +54,11 @@ shortArea = 23
 abbrev pub badTable : ℕ
 badTable = 24
 
--- a weight above the largest (fresh, load)
+-- a weight above the largest (fresh, load, restore)
 abbrev pub badWeight : ℕ
 badWeight = 32
 
--- the day is 0 (add, load)
+-- the day is 0 (add, herd list, load, restore)
 abbrev pub badDay : ℕ
 badDay = 33
 
