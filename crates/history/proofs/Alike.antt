@@ -12,7 +12,7 @@ use Rattle.table_rules.specs.LookUp.{noProfile}
 use Rattle.state_rules.specs.Parts.{snapshotOf}
 use Rattle.lots_rules.specs.Lots.{Summary}
 use Rattle.call_rules.specs.Calls.{Call, draftAreas}
-use Rattle.history.specs.Trace.{Step, Shown, zeroed, shows, overlaid, leftBy, beginShown, changeShown, duesIn, listedIn, draftedIn, draftIn, askShown, shown, noSums, plus, imageSums, starting, begunSums, ifAccepted, counted, sumsAfter, stateAfter, shownAt, stateAfterAll, trace}
+use Rattle.history.specs.Trace.{Step, Shown, zeroed, shows, ownRows, overlaid, leftBy, beginShown, changeShown, duesIn, listedIn, draftedIn, draftIn, askShown, shown, noSums, plus, imageSums, starting, begunSums, ifAccepted, counted, sumsAfter, stateAfter, shownAt, stateAfterAll, trace}
 use Rattle.history.specs.Trace.Payload.{bare, aSlot, aWeighing, someEntries, aListRead, someDues, someLists, aDraft}
 use Rattle.history.specs.Model.{itemOf, withTag, isIn, with, without, weighedIn, scanned, modelRange, modelNearest, weightOf, weightsIn, modelLots, modelSummaries, modelListing, canRead, canChange, tagRefusal, itemRefusal, addRefusalOf, removeRefusalOf, fits, questionRefusal, askRefusal, found, paid, answerTo, showsUnless, afterUnless, stopsAt, oneMoreAdded, linesAnswered, listAnswered, imageModel, modelBegun, beginAnswer, changeAnswer, answer, answerAt, modelAfterAll, modelTrace, modelRanges, foundEach}
 use Rattle.history.specs.History.{before, blankModel}
@@ -128,7 +128,7 @@ expected =
 
 tableShows : trace (before scratch) steps ≡ expected
 unfolding
-    performed steps expected before overlaid leftBy beginShown changeShown duesIn listedIn draftedIn draftIn askShown shown noSums plus imageSums starting begunSums ifAccepted counted sumsAfter stateAfter shownAt trace scratch
+    performed steps expected before ownRows overlaid leftBy beginShown changeShown duesIn listedIn draftedIn draftIn askShown shown noSums plus imageSums starting begunSums ifAccepted counted sumsAfter stateAfter shownAt trace scratch
 tableShows = refl
 
 modelShows : modelTrace blankModel steps ≡ expected

@@ -23,7 +23,7 @@ use Rattle.metric_rules.proofs.Elements.{each-at}
 use Rattle.search_rules.specs.Range.{Entry}
 use Rattle.table_rules.specs.Table.{Table, inUse, slotsOf, liveSlots}
 use Rattle.call_rules.specs.Calls.{Begin, Ask, Call, askReply, areasAnswered}
-use Rattle.history.specs.Trace.{Step, overlaid, leftBy, beginShown, changeShown, askShown, shown, noSums, plus, starting, begunSums, ifAccepted, counted, sumsAfter, stateAfter, shownAt, stateAfterAll}
+use Rattle.history.specs.Trace.{Step, ownRows, overlaid, leftBy, beginShown, changeShown, askShown, shown, noSums, plus, starting, begunSums, ifAccepted, counted, sumsAfter, stateAfter, shownAt, stateAfterAll}
 use Rattle.history.specs.Model.{itemOf}
 use Rattle.history.specs.History.{before, opening, History, steps, finalState}
 use Rattle.history.specs.Represents.{itemsIn}
@@ -58,7 +58,7 @@ by-is =
 
 -- order 1: items 1 and 2, with 10 and 14, of days 5 and 6
 first : History
-unfolding performed before opening shownAt shown beginShown overlaid scratch roomy tag valued
+unfolding performed before opening shownAt shown beginShown ownRows overlaid scratch roomy tag valued
 first =
     record {
       initial = scratch;
@@ -71,7 +71,7 @@ first =
 
 -- order 2: item 3 in between, struck out again; items 2 and 1 in this order by bucket
 second : History
-unfolding performed before opening shownAt shown beginShown overlaid scratch roomy tag valued
+unfolding performed before opening shownAt shown beginShown ownRows overlaid scratch roomy tag valued
 second =
     record {
       initial = scratch;
@@ -142,7 +142,7 @@ lines-are = all-weaken (λ b h. ltb-true b 256 h) lines (every-all (λ b. ltb b 
 
 -- order 2: an add, refused calls, a search and a writing, and of a herd list two lines before one with a live tag: three items added
 third : History
-unfolding performed before opening shownAt shown beginShown overlaid scratch roomy tag valued lines
+unfolding performed before opening shownAt shown beginShown ownRows overlaid scratch roomy tag valued lines
 third =
     record {
       initial = scratch;

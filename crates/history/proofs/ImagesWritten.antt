@@ -64,7 +64,7 @@ module _ {t : Table} (invariant : Invariant t) (area : Table) (rows : tableRows 
   seen = overlaid t area
 
   seen-own : take (tableRows (orderOf t)) seen ≡ take (tableRows (orderOf t)) t
-  seen-own = overlaid-own (tableRows (orderOf t)) t area (invariant .long) rows
+  seen-own = overlaid-own t area (invariant .long) rows
 
   pub seen-invariant : Invariant seen
   seen-invariant = invariant-own invariant seen seen-own (omega (arith, overlaid-length t area))

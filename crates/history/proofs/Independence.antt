@@ -125,7 +125,7 @@ module _ {t u : Table} {m n : Model} (ok : Matches t m) (there : Matches u n) (s
 -- the table as a call is lent it, in an area that is long enough
 lent-matches : {left : Table} {m : Model} → Matches left m → (area : Table) → tableRows (orderOf left) ≤ length area → Matches (overlaid left area) m
 lent-matches {left} ok area long =
-    matches-own ok (overlaid left area) (overlaid-own (tableRows (orderOf left)) left area (ok .invariant .long) long) (omega (arith, long, overlaid-length left area))
+    matches-own ok (overlaid left area) (overlaid-own left area (ok .invariant .long) long) (omega (arith, long, overlaid-length left area))
 
 pub independent-of-history : IndependentOfHistory
 independent-of-history h g same area other long long′ =

@@ -1,11 +1,11 @@
 -- The table after one call of a list: where the call is refused or only reads, it matches the model as before, and the model is as it was; where it is
 -- accepted, it is enough that the changed table matches the changed model. A herd list is stopped at once, or it goes
 -- on from a table that matches. What a call does not reach is kept by the state.
-use Prim.Native.Nat.{ℕ, zero, suc}
+use Prim.Native.Nat.{ℕ, zero, suc, _≤_}
 use mathlib.Core.Path.{_≡_, refl, sym, _∙_, ap, ap₂, subst}
-use mathlib.Core.List.{List, [], _++_, append-nil}
-use lib.ListN.{length, take, drop, length-append, take-append-drop, drop-of-length-le}
-use lib.Seq.{take-all, take-append-le}
+use mathlib.Core.List.{List, _++_}
+use lib.ListN.{length, take, drop, length-append, length-drop, take-append-drop}
+use lib.Seq.{take-append-le}
 use native.Mathlib.Nat.{lt-of-not-le}
 use native.Mathlib.Omega.{arith}
 use native.Mathlib.Decide.{decLe}
@@ -26,7 +26,7 @@ use Rattle.history.proofs.RefinesRefusals.{changeable, long-accepts, ad
 use Rattle.history.proofs.RefinesReading.{Reads, reads, reads-matches}
 use Rattle.history.proofs.RefinesReading.Reads.{stops, takesIn}
 use Rattle.history.proofs.RefinesOwn.{matches-own}
-use Rattle.history.proofs.RefinesStep.{overlaid-length, overlaid-lendable}
+use Rattle.history.proofs.RefinesStep.{overlaid-length, overlaid-own, overlaid-short, overlaid-lendable}
 use Rattle.history.proofs.Changing.{begin-matches, begin-refused, matches-added, matches-removed}
 
 -- rows past the table do not matter
@@ -34,29 +34,30 @@ pub matches-longer : {t : Table} {m : Model} → Matches t m → (rest : Table) 
 matches-longer {t} ok rest =
     matches-own ok (t ++ rest) (take-append-le (tableRows (orderOf t)) t rest (ok .invariant .long)) (omega (arith, ok .invariant .long, length-append t rest))
 
--- a call that leaves its area as lent leaves the table as it was, with what the area has past it
-pub left-kept : (left area : Table) → leftBy left (overlaid left area) ≡ left ++ drop (length left) area
-unfolding leftBy overlaid
-left-kept left area =
-    let past = drop (length left) area in
-    let n = length area in
-    ap (λ (i : ℕ). overlaid left area ++ drop i left) (overlaid-length left area)
-    ∙ elim (decLe n (length left)) [
-      | yes h ↦
-          (let none : past ≡ [] = drop-of-length-le area {i = length left} h in
-          ap (λ (d : Table). take n left ++ d ++ drop n left) none
-          ∙ ap (λ (d : Table). d ++ drop n left) (append-nil (take n left))
-          ∙ take-append-drop n left
-          ∙ sym (append-nil left)
-          ∙ ap (λ (d : Table). left ++ d) (sym none))
-      | no h ↦
-          (let less = lt-of-not-le h in
-          ap₂ (λ (a b : Table). a ++ past ++ b) (take-all n left (omega arith)) (drop-of-length-le left {i = n} (omega arith)) ∙ append-nil (left ++ past))
+-- a call that leaves its area as lent leaves the table's own rows as they were
+pub left-kept : (left area : Table) → tableRows (orderOf left) ≤ length left
+    → take (tableRows (orderOf left)) (leftBy left (overlaid left area)) ≡ take (tableRows (orderOf left)) left
+unfolding leftBy
+left-kept left area long =
+    let n = tableRows (orderOf left) in
+    let t = overlaid left area in
+    elim (decLe n (length area)) [
+      | yes enough ↦ take-append-le n t _ (omega (arith, overlaid-length left area)) ∙ overlaid-own left area long enough
+      | no few ↦
+          ap (take n)
+          (ap₂ (λ (u : Table) (i : ℕ). u ++ drop i left) (overlaid-short left area long (lt-of-not-le few)) (overlaid-length left area)
+          ∙ take-append-drop (length area) left)
     ]
+
+left-length : (left area : Table) → length left ≤ length (leftBy left area)
+unfolding leftBy
+left-length left area = omega (arith, length-append area (drop (length area) left), length-drop (length area) left)
 
 module _ {left : Table} {m : Model} (ok : Matches left m) where
   pub matches-left : (area : Table) → Matches (leftBy left (overlaid left area)) m
-  matches-left area = subst (λ (t : Table). Matches t m) (sym (left-kept left area)) (matches-longer ok (drop (length left) area))
+  matches-left area =
+      let long = ok .invariant .long in
+      matches-own ok (leftBy left (overlaid left area)) (left-kept left area long) (omega (arith, long, left-length left (overlaid left area)))
 
   -- a call that changes the table where its refusal is 0, and the model by the same number
   by-refusal : (area : Table) (n r : ℕ) → n ≡ r → (changed : Table) (after : Model) → (r ≡ 0 → Matches changed after)

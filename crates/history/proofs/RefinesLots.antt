@@ -3,20 +3,18 @@
 use Prim.Native.Nat.{ℕ, zero, suc, _-_, _≤_}
 use native.Mathlib.Omega.{arith}
 use mathlib.Core.Path.{_≡_, refl, sym, _∙_, ap, ap₂}
-use mathlib.Core.Bool.{Bool, true, false, not, _&&_}
-use mathlib.Core.List.{List, [], _∷_, _++_, map, append-nil}
-use borrow.Author.Tests.{ne-eqb, eq-eqb}
-use lib.Dec.{leb, eqb}
+use mathlib.Core.Bool.{Bool, true, false, _&&_}
+use mathlib.Core.List.{List, [], _∷_, _++_, map}
+use lib.Dec.{leb}
 use lib.ListN.{length, take, replicate, length-map, getD}
 use lib.Seq.{take-at}
 use Rattle.lists.specs.Lists.{All}
-use Rattle.lists.proofs.Lists.{Pairs, all-always, all-weaken, map-alike, pairs-map, pairs-weaken}
+use Rattle.lists.proofs.Lists.{Pairs, all-always, map-alike, pairs-map, pairs-weaken}
 use Rattle.lists.proofs.Distinct.{distinct-of}
 use Rattle.metric_rules.specs.Row.{Row, tagOf}
 use Rattle.metric_rules.specs.declared.Space.{Space}
 use Rattle.tree_rules.proofs.Sorting.{Determined, sort-map, sort-permuted, sort-length}
 use Rattle.search_rules.specs.Range.{Entry, entry, entryDistance}
-use Rattle.search_rules.proofs.Selecting.{select-append, select-all, select-none}
 use Rattle.table_rules.specs.Refusals.{shortArea, noRoom, unless, orElse}
 use Rattle.table_rules.specs.Geometry.{bucketsOf, workRows}
 use Rattle.table_rules.specs.Table.{Table, orderOf}
@@ -85,20 +83,25 @@ lots-refusal m t lendable radii chosen areas =
     stopped-by-work (changeRefusal (length (areas .work)) t) (canRead m (length t)) (leb (workRows (m .order)) (length (areas .work))) _ _ (change-refusal m t (length (areas .work)) lendable)
     (λ e. ap (λ (n : ℕ). unless (radiiPass radii chosen) badRadii (unless (leb (length radii) (length (areas .summary)) && leb n (length (areas .listing))) noRoom 0)) (items-counted (readable m t lendable e)))
 
--- every entry of a listing has a lot's number, and zeros have none
-numberless : (n : ℕ) → All (λ e. not (eqb (entryDistance e) 0) ≡ false) (replicate n zeroEntry)
-unfolding zeroEntry entry entryDistance
-numberless zero = tt
-numberless (suc n) = (ap not (eq-eqb 0 0 refl), numberless n)
+-- zeros end a listing, whatever stands behind them
+listed-ends : (rest : List Entry) → draftedIn (zeroEntry ∷ rest) ≡ []
+unfolding draftedIn zeroEntry entry entryDistance
+listed-ends rest = refl
+
+-- and every entry of a listing has a lot's number
+listed-next : (e : Entry) (rest : List Entry) → 1 ≤ entryDistance e → draftedIn (e ∷ rest) ≡ e ∷ draftedIn rest
+unfolding draftedIn
+listed-next e rest = go (entryDistance e)
+  where
+    go : (n : ℕ) → 1 ≤ n → elim n as (λ _. List Entry) [ zero ↦ [] | suc i ↦ e ∷ draftedIn rest ] ≡ e ∷ draftedIn rest
+    go zero h = absurd (omega arith)
+    go (suc n) h = refl
 
 listed-all : (es : List Entry) (n : ℕ) → All (λ e. 1 ≤ entryDistance e) es → draftedIn (es ++ replicate n zeroEntry) ≡ es
 unfolding draftedIn
-listed-all es n h =
-    select-append (λ e. not (eqb (entryDistance e) 0)) es (replicate n zeroEntry)
-    ∙ ap₂ (λ (a b : List Entry). a ++ b)
-    (select-all (λ e. not (eqb (entryDistance e) 0)) es (all-weaken (λ e g. ap not (ne-eqb (entryDistance e) 0 (λ z. omega (arith, z, g)))) es h))
-    (select-none (λ e. not (eqb (entryDistance e) 0)) (replicate n zeroEntry) (numberless n))
-    ∙ append-nil es
+listed-all [] zero h = refl
+listed-all [] (suc n) h = listed-ends (replicate n zeroEntry)
+listed-all (e ∷ es) n h = listed-next e (es ++ replicate n zeroEntry) (h .0) ∙ ap (λ (rest : List Entry). e ∷ rest) (listed-all es n (h .1))
 
 module _ (t : Table) (radii : List ℕ) (chosen : ℕ) (areas : DraftAreas) where
   abbrev refusal : ℕ

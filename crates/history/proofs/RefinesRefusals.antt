@@ -40,7 +40,7 @@ pub record Short (t : Table) (m : Model) : Type 0 where
   pub order : validOrder (m .order) ≡ true
   pub header : 0 < length t → (orderOf t ≡ m .order) × (validMetric (tableSpace t) ≡ true)
 
-pub rows-some : (order : ℕ) → 0 < tableRows order
+rows-some : (order : ℕ) → 0 < tableRows order
 unfolding tableRows firstSlot
 rows-some order = omega arith
 

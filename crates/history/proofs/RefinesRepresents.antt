@@ -69,6 +69,9 @@ module _ {t : Table} {m : Model} (ok : Matches t m) where
         marks = ok .invariant .marks;
         layouts = ok .invariant .laid;
         halfFull = half-full;
+        header = ok .invariant .header;
+        sizeRows = ok .invariant .sizeRows;
+        zeros = ok .invariant .zeros;
         order = ok .order;
         space = ok .space;
         same = ok .same;

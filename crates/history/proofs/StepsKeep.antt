@@ -83,7 +83,7 @@ module _ (Q : Table → Sums → Type 0) (keeps : Keeps Q) where
   module _ {left : Table} {m : Model} (ok : Matches left m) {sums : Sums} (q : Q left sums) where
     -- a call that leaves the table as it is lent: one that asks or writes, or a refused one
     kept : (area : Table) → Q (leftBy left (overlaid left area)) sums
-    kept area = subst (λ (t : Table). Q t sums) (sym (left-kept left area)) (longer (ok .invariant .long) q (drop (length left) area))
+    kept area = keeps .own q (left-kept left area (ok .invariant .long))
 
     refused : (area : Table) → Q (leftBy left (overlaid left area)) (plus sums noSums)
     refused area = subst (Q (leftBy left (overlaid left area))) (sym (plus-none sums)) (kept area)
@@ -94,7 +94,7 @@ module _ (Q : Table → Sums → Type 0) (keeps : Keeps Q) where
         let long : tableRows (orderOf left) ≤ length area =
         subst (λ (o : ℕ). tableRows o ≤ length area) (here .order ∙ sym (ok .order)) (subst (λ (n : ℕ). tableRows (orderOf (overlaid left area)) ≤ n) (overlaid-length left area) (here .invariant .long))
         in
-        keeps .own q (overlaid-own (tableRows (orderOf left)) left area (ok .invariant .long) long)
+        keeps .own q (overlaid-own left area (ok .invariant .long) long)
 
     -- and an accepted call leaves u in it
     changed : {u : Table} {after : Model} {more : Sums} → Matches u after → Q u more → Q (leftBy left u) more

@@ -22,6 +22,7 @@ use Rattle.history.proofs.AmortizedHistory.{history-bound}
 use Rattle.history.proofs.Reporting.{reports}
 use Rattle.history.proofs.ImagesHistory.{written-loads-where, saved-restores-where}
 use Rattle.history.proofs.Ordering.{range-ascends, answer-ascends, model-range-ascends, model-nearest-ascends}
+pub use Rattle.history.proofs.RefinesStep.{any-area}
 pub use Rattle.history.proofs.BuildsKeep.{builds-keep-items}
 pub use Rattle.history.proofs.ImagesBack.{accepted-gives-back}
 pub use Rattle.history.proofs.StatesBack.{save-keeps}

@@ -8,7 +8,7 @@ use Prim.Native.Nat.{ℕ, _+_, _^_, _≤_, _<_, min}
 use mathlib.Core.Path.{_≡_}
 use mathlib.Core.Bool.{true}
 use mathlib.Core.List.{List, [], _∷_, map, List·Permᴰ}
-use lib.ListN.{length}
+use lib.ListN.{length, take}
 use lib.Dec.{leb}
 use Rattle.lists.specs.Lists.{select, total, All}
 use Rattle.metric_rules.specs.declared.Profile.{Profile}
@@ -34,7 +34,7 @@ use Rattle.call_rules.specs.Calls.Begin.{fresh, load}
 use Rattle.batch_rules.specs.Batch.{singleAnswer, batchCount}
 use Rattle.lots_rules.specs.Claims.{Lots, DraftsLots, OneEach, OneLot}
 use Rattle.history.specs.Model.{Model, itemOf, modelRange, modelNearest, betweenItems, modelLots}
-use Rattle.history.specs.Trace.{overlaid, stateAfter}
+use Rattle.history.specs.Trace.{ownRows, overlaid, stateAfter}
 use Rattle.history.specs.History.{before, opening, History, finalState, finalModel}
 use Rattle.history.specs.Images.{imageSize, LoadsBack, GivesBack, RestoresBack, KeepsStates}
 use Rattle.history.specs.Represents.{Holds}
@@ -114,6 +114,12 @@ LotsHold = (radius : ℕ) → ((t : Table) → DraftsLots t radius) × ((m : Mod
 -- Theorem: `radii-extreme`
 abbrev pub RadiiExtreme : Type 0
 RadiiExtreme = (t : Table) → OneEach t × OneLot t
+
+-- RULES 17.2, which lists of calls the demands speak of. The table as a call is lent it (`overlaid`) is the lent area itself, wherever that has the table's own rows as
+-- the call before left them, as far as it reaches. So no list is left out for the area that a call is lent next, or for what was written behind the table.
+-- Theorem: `any-area`
+abbrev pub AnyArea : Type 0
+AnyArea = (left area : Table) → take (length (ownRows left)) area ≡ take (length area) (ownRows left) → overlaid left area ≡ area
 
 -- Demands 2 and 3, one claim over every list of calls on one table, refused ones and herd lists read too, that an accepted fresh, load or restore began (`History`):
 -- at each call table and reference model show the same; after the list the table is a valid one of the published method (which buckets a call builds is

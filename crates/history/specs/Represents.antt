@@ -1,5 +1,5 @@
 -- RULES 17.3, 17.4, 17.6, 17.7, what holds of a table after a list of calls: demand 2 on buckets, trees and searches, and demand 3.
-use Prim.Native.Nat.{ℕ, _+_, _*_, _≤_}
+use Prim.Native.Nat.{ℕ, _+_, _*_, _≤_, _<_}
 use mathlib.Core.Path.{_≡_}
 use mathlib.Core.Bool.{Bool, true, not, _||_}
 use mathlib.Core.List.{List, map, List·Permᴰ}
@@ -7,11 +7,11 @@ use lib.ListN.{length}
 use lib.Dec.{ltb, eqb}
 use Rattle.lists.specs.Lists.{every, select, distinct}
 use Rattle.metric_rules.specs.declared.Profile.{Profile}
-use Rattle.metric_rules.specs.Row.{IsProfile, tagOf}
+use Rattle.metric_rules.specs.Row.{IsProfile, tagOf, zeroRow}
 use Rattle.metric_rules.specs.Distance.{validSpace, distance}
 use Rattle.tree_rules.specs.Layout.{isLayout}
-use Rattle.table_rules.specs.Geometry.{validOrder, room, bucketsOf, tableRows}
-use Rattle.table_rules.specs.Table.{Table, orderOf, tableSpace, builtOf, liveOf, slotsOf, inUse, liveSlots}
+use Rattle.table_rules.specs.Geometry.{validOrder, room, bucketsOf, headerRow, sizesRow, firstSlot, tableRows}
+use Rattle.table_rules.specs.Table.{Table, rowAt, orderOf, tableSpace, builtOf, liveOf, slotsOf, inUse, liveSlots, pairRow, headerOf}
 use Rattle.table_rules.specs.Checks.{sizesPass, marksPass}
 use Rattle.table_rules.specs.Rebuild.{liveItems}
 use Rattle.table_rules.specs.Search.{rangeAnswer, nearestAnswer}
@@ -31,7 +31,7 @@ moreThanHalfFull t = every (λ k. not (inUse t k) || ltb (room k) (2 * builtOf t
 unfoldable pub bucketsWith : Table → ℕ → List ℕ
 bucketsWith t tag = select (λ k. not (every (λ row. not (eqb (tagOf row) tag)) (liveSlots t k))) (bucketsOf (orderOf t))
 
--- RULES 17.3, 17.4, 17.6, demand 2: the table is one of the published method (1 to 4), and it is the model's (5 to 9)
+-- RULES 17.3, 17.4, 17.6, demand 2: the table is one of the published method (1 to 6), and it is the model's (7 to 11)
 pub record Represents (t : Table) (m : Model) : Type 0 where
   -- 1. a valid order, metric and weights, and as many rows as the order needs
   pub valid : validOrder (orderOf t) ≡ true × validSpace (tableSpace t) ≡ true
@@ -43,17 +43,22 @@ pub record Represents (t : Table) (m : Model) : Type 0 where
   pub layouts : (k : ℕ) → k ≤ orderOf t → isLayout (distance (tableSpace t)) (slotsOf t k) ≡ true
   -- 4. every bucket in use was built more than half full
   pub halfFull : moreThanHalfFull t ≡ true
-  -- 5. order, metric and weights are those that the calls set
+  -- 5. RULES 4.4: header and size rows have zeros in the words that have no meaning
+  pub header : rowAt t headerRow ≡ headerOf (orderOf t) (tableSpace t)
+  pub sizeRows : (k : ℕ) → k ≤ orderOf t → rowAt t (sizesRow k) ≡ pairRow (builtOf t k) (liveOf t k)
+  -- 6. RULES 4.8: slots outside a bucket's built part are zero
+  pub zeros : (k i : ℕ) → k ≤ orderOf t → builtOf t k ≤ i → i < room k → rowAt t (firstSlot (orderOf t) k + i) ≡ zeroRow
+  -- 7. order, metric and weights are those that the calls set
   pub order : orderOf t ≡ m .order
   pub space : tableSpace t ≡ m .space
-  -- 6. the model's items, each once, are the items in the table's built slots of mark 0
+  -- 8. the model's items, each once, are the items in the table's built slots of mark 0
   pub same : List·Permᴰ (itemsIn t) (m .items)
   pub once : distinct (map (λ i. i .tag) (m .items)) ≡ true
-  -- 7. every live item is in exactly one bucket
+  -- 9. every live item is in exactly one bucket
   pub oneBucket : every (λ i. eqb (length (bucketsWith t (i .tag))) 1) (m .items) ≡ true
-  -- 8. range answers as a scan of the model, for every query, radius and first day
+  -- 10. range answers as a scan of the model, for every query, radius and first day
   pub range : (q : Profile) (r firstDay : ℕ) → IsProfile q → rangeAnswer t q r firstDay .entries ≡ modelRange m q r firstDay
-  -- 9. nearest likewise, for every query, k and first day
+  -- 11. nearest likewise, for every query, k and first day
   pub nearest : (q : Profile) (k firstDay : ℕ) → IsProfile q → nearestAnswer t q k firstDay .entries ≡ modelNearest m q k firstDay
 
 -- RULES 17.7, the bound on all rebuilds together, with A adds, a herd list's accepted lines among them, and R removals at order T: 4·T·(T+1)·A + 11·T·R

@@ -1,13 +1,11 @@
 -- RULES 17.2, 17.6, 17.7, a list of calls on one table: what each shows, and the table with its sums between calls.
 use Prim.Native.Nat.{ℕ, zero, suc, _+_, _-_}
-use mathlib.Core.Bool.{not}
 use mathlib.Core.List.{List, [], _∷_, _++_}
-use lib.Dec.{eqb}
 use lib.ListN.{length, take, drop, replicate}
-use Rattle.lists.specs.Lists.{select}
 use Rattle.metric_rules.specs.declared.Profile.{Profile}
 use Rattle.search_rules.specs.Range.{Entry, entryDistance}
-use Rattle.table_rules.specs.Table.{Table}
+use Rattle.table_rules.specs.Geometry.{tableRows}
+use Rattle.table_rules.specs.Table.{Table, orderOf}
 use Rattle.table_rules.specs.LookUp.{noProfile}
 use Rattle.image_rules.specs.Read.{slotsIn}
 use Rattle.image_rules.specs.Load.{liveRows}
@@ -26,9 +24,14 @@ pub record Step : Type 0 where
   pub table : Table
   pub areas : Areas call
 
--- RULES 17.2, the table as a call is lent it: what the call before left, as far as both reach, and the lent area's own rows after that
+-- RULES 4.3: the rows that a table's order needs. What stands behind them is no part of the table
+unfoldable pub ownRows : Table → Table
+ownRows t = take (tableRows (orderOf t)) t
+
+-- RULES 17.2, the table as a call is lent it: its own rows as the call before left them, as far as the lent area reaches, and behind them whatever the area holds.
+-- What lay there before the first call need be no table: that call, a fresh, a load or a restore, reads none of it
 unfoldable pub overlaid : Table → Table → Table
-overlaid left area = take (length area) left ++ drop (length left) area
+overlaid left area = take (length area) (ownRows left) ++ drop (length (ownRows left)) area
 
 -- RULES 17.2, what is left after a call: the area's rows, and the rows that it did not reach
 unfoldable pub leftBy : Table → Table → Table
@@ -86,10 +89,11 @@ unfoldable pub duesIn : ℕ → List ℕ → List ℕ → List ℕ
 duesIn zero tags area = take (length tags) area
 duesIn (suc n) tags area = []
 
--- RULES 21.5, 21.6: the summary of each radius, and the entries of the listing that have a lot's number, as an accepted call wrote them: zeros follow both. A refused one
--- tells nothing
+-- RULES 21.5 to 21.7: the summary of each radius, and the listing up to its first entry without a lot's number, as an accepted call wrote them: zeros follow both.
+-- A refused one tells nothing
 unfoldable pub draftedIn : List Entry → List Entry
-draftedIn listing = select (λ e. not (eqb (entryDistance e) 0)) listing
+draftedIn [] = []
+draftedIn (e ∷ listing) = elim (entryDistance e) [ zero ↦ [] | suc n ↦ e ∷ draftedIn listing ]
 
 unfoldable pub draftIn : ℕ → List ℕ → DraftAreas → Payload
 draftIn zero radii areas = aDraft (take (length radii) (areas .summary)) (draftedIn (areas .listing))
