@@ -1,66 +1,79 @@
--- The sizes of every bucket after a rebuild: those of the rows built at the bucket that they went to, none at the others of the list, elsewhere what was
--- there. It does not matter whether the rows fit: no slot stands before a sizes row.
-use Prim.Native.Nat.{ℕ, _+_, _-_, _≤_, _<_}
+-- Every bucket after a rebuild: the sizes of the rows built at the bucket that they went to, none at the others of the list, elsewhere what was there, slots
+-- too. It does not matter whether the rows fit: what is pasted is cut at the bucket's room.
+use Prim.Native.Nat.{ℕ, _+_, _-_, _≤_}
 use native.Mathlib.Omega.{arith}
-use mathlib.Core.Path.{_≡_, refl, _∙_, ap}
+use mathlib.Core.Path.{_≡_, refl, sym, _∙_, ap}
 use mathlib.Core.List.{List, [], _∷_, _++_}
-use lib.ListN.{length, take, drop, replicate, length-append, List·getD-append}
-use lib.Seq.{length-take-le, getD-take, getD-set-same, getD-set-other}
+use lib.ListN.{length, take, drop, replicate, length-take, length-append, length-replicate}
+use lib.Seq.{paste, take-take}
 use Rattle.lists.specs.Lists.{All}
 use Rattle.lists.proofs.Lists.{all-weaken, all-both}
-use Rattle.metric_rules.specs.Row.{Row, word, zeroRow}
+use Rattle.metric_rules.specs.Row.{Row, zeroRow}
 use Rattle.metric_rules.specs.Distance.{distance}
 use Rattle.tree_rules.specs.Layout.{layout}
 use Rattle.tree_rules.proofs.Layouts.{layout-length}
 use Rattle.table_rules.specs.Geometry.{room, sizesRow, firstSlot, tableRows}
 use Rattle.table_rules.specs.Table.{Table, rowAt, orderOf, tableSpace, builtOf, liveOf, pairRow, putSizes, putBucket, emptied}
 use Rattle.table_rules.specs.Rebuild.{rebuilt}
-use Rattle.table_rules.proofs.Geometry.{sizes-before-slots, room-ends}
-use Rattle.table_rules.proofs.Views.{Only, same-order}
-use Rattle.table_rules.proofs.Puts.{pair-built, pair-live, emptied-only, emptied-holds}
+use Rattle.table_rules.proofs.Geometry.{room-ends}
+use Rattle.table_rules.proofs.Windows.{before-paste, after-paste, paste-length}
+use Rattle.table_rules.proofs.Views.{Only, only-twice, only-fewer, same-order, kept-built, kept-live, Between, only-slots}
+use Rattle.table_rules.proofs.Puts.{pair-built, pair-live, Holds, held-built, held-live, kept-holds, put-sizes-row, put-sizes-only, emptied-only, emptied-holds}
 use Rattle.history.proofs.Amortized.{Moved}
 
--- a bucket put: its own sizes, and the sizes rows of the others as they were
+-- a bucket put: its own sizes, and the other buckets as they were
 module _ (t : Table) (long : tableRows (orderOf t) ≤ length t) (k : ℕ) (inOrder : k ≤ orderOf t) (slots : List Row) (live : ℕ) where
-  first : ℕ
-  first = firstSlot (orderOf t) k
+  filled : List Row
+  filled = slots ++ replicate (room k - length slots) zeroRow
 
   block : List Row
-  block = take (room k) (slots ++ replicate (room k - length slots) zeroRow)
+  block = take (room k) filled
+
+  block-length : length block ≡ room k
+  unfolding block filled
+  block-length =
+      omega (
+        arith,
+        length-take (room k) filled,
+        length-append slots (replicate (room k - length slots) zeroRow),
+        length-replicate (room k - length slots) zeroRow,
+      )
+
+  inside : firstSlot (orderOf t) k + room k ≤ length t
+  inside = omega (arith, room-ends (orderOf t) k inOrder, long)
 
   pasted : Table
-  pasted = take first t ++ block ++ drop (first + room k) t
+  pasted = paste t (firstSlot (orderOf t) k) block (room k)
 
   put-steps : putBucket k slots live t ≡ putSizes k (length slots) live pasted
-  unfolding putBucket pasted block first
-  put-steps = refl
+  unfolding putBucket pasted block filled
+  put-steps =
+      ap (λ (rows : List Row). putSizes k (length slots) live (take (firstSlot (orderOf t) k) t ++ rows ++ drop (firstSlot (orderOf t) k + room k) t))
+      (sym (take-take (room k) (room k) filled (omega arith)))
 
-  front-length : length (take first t) ≡ first
-  unfolding first
-  front-length = length-take-le first t (omega (arith, room-ends (orderOf t) k inOrder, long))
+  paste-between : Between (firstSlot (orderOf t) k) (firstSlot (orderOf t) k + room k) t pasted
+  unfolding pasted
+  paste-between =
+      record {
+        before = before-paste t block (firstSlot (orderOf t) k) (room k) inside block-length;
+        after = after-paste t block (firstSlot (orderOf t) k) (room k) inside block-length;
+        long = paste-length t block (firstSlot (orderOf t) k) (room k) inside block-length;
+      }
 
-  sizes-first : (j : ℕ) → j ≤ orderOf t → sizesRow j < length (take first t)
-  unfolding first
-  sizes-first j h = omega (arith, front-length, sizes-before-slots (orderOf t) j k h)
+  pasted-only : Only (λ j. j ≡ k → ⊥) t pasted
+  pasted-only = only-slots k inOrder paste-between
 
-  pasted-sizes : (j : ℕ) → j ≤ orderOf t → rowAt pasted (sizesRow j) ≡ rowAt t (sizesRow j)
-  unfolding rowAt pasted
-  pasted-sizes j h =
-      List·getD-append (take first t ++ block) (drop (first + room k) t) [] (sizesRow j) (omega (arith, sizes-first j h, length-append (take first t) block))
-      ∙ List·getD-append (take first t) block [] (sizesRow j) (sizes-first j h)
-      ∙ getD-take first t (sizesRow j) [] (omega (arith, front-length, sizes-first j h))
+  pasted-in : k ≤ orderOf pasted
+  pasted-in = rw (same-order (pasted-only .header)) inOrder
+
+  pasted-long : tableRows (orderOf pasted) ≤ length pasted
+  pasted-long = rw (same-order (pasted-only .header)) (omega (arith, long, pasted-only .long))
 
   put-own : rowAt (putBucket k slots live t) (sizesRow k) ≡ pairRow (length slots) live
-  unfolding rowAt putSizes pasted
-  put-own =
-      rw put-steps
-      (getD-set-same pasted (sizesRow k) (pairRow (length slots) live) []
-      (omega (arith, sizes-first k inOrder, length-append (take first t) block, length-append (take first t ++ block) (drop (first + room k) t))))
+  put-own = rw put-steps (put-sizes-row pasted k pasted-in pasted-long (length slots) live)
 
-  put-other : (j : ℕ) → j ≤ orderOf t → (j ≡ k → ⊥) → rowAt (putBucket k slots live t) (sizesRow j) ≡ rowAt t (sizesRow j)
-  unfolding rowAt putSizes sizesRow
-  put-other j h ne =
-      rw put-steps (getD-set-other pasted (sizesRow k) (sizesRow j) (pairRow (length slots) live) [] (λ e. ne (omega (arith, e))) ∙ pasted-sizes j h)
+  put-only : Only (λ j. j ≡ k → ⊥) t (putBucket k slots live t)
+  put-only = rw put-steps (only-twice pasted-only (put-sizes-only pasted k pasted-in pasted-long (length slots) live))
 
 module _ (t : Table) (long : tableRows (orderOf t) ≤ length t) (ks : List ℕ) (inOrder : All (λ k. k ≤ orderOf t) ks) (g : ℕ) (reached : g ≤ orderOf t) (rows : List Row) where
   tree : List Row
@@ -88,29 +101,27 @@ module _ (t : Table) (long : tableRows (orderOf t) ≤ length t) (ks : List ℕ)
       rw rebuilt-steps
       (put-own (emptied ks t) cleared-long g (rw order reached) tree (length rows) ∙ ap (λ (n : ℕ). pairRow n (length rows)) tree-length)
 
-  other-row : (j : ℕ) → j ≤ orderOf t → (j ≡ g → ⊥) → rowAt (rebuilt t ks g rows .table) (sizesRow j) ≡ rowAt (emptied ks t) (sizesRow j)
-  other-row j h ne = rw rebuilt-steps (put-other (emptied ks t) cleared-long g (rw order reached) tree (length rows) j (rw order h) ne)
+  last-only : Only (λ j. j ≡ g → ⊥) (emptied ks t) (rebuilt t ks g rows .table)
+  last-only = rw rebuilt-steps (put-only (emptied ks t) cleared-long g (rw order reached) tree (length rows))
 
-  gone-rows : All (λ j. (j ≡ g → ⊥) → rowAt (rebuilt t ks g rows .table) (sizesRow j) ≡ pairRow 0 0) ks
-  gone-rows = all-both (λ j h held ne. other-row j h ne ∙ held .sizes) ks inOrder (emptied-holds ks t inOrder long)
+  pub moved-empties : All (λ j. (j ≡ g → ⊥) → Holds (rebuilt t ks g rows .table) j [] 0) ks
+  moved-empties = all-both (λ j h held ne. kept-holds (last-only .others j (rw order h) ne) held) ks inOrder (emptied-holds ks t inOrder long)
 
-  kept-row : (j : ℕ) → j ≤ orderOf t → All (λ i. j ≡ i → ⊥) (g ∷ ks) → rowAt (rebuilt t ks g rows .table) (sizesRow j) ≡ rowAt t (sizesRow j)
-  kept-row j h a = other-row j h (a .0) ∙ cleared .others j h (a .1) .sizes
+  pub moved-only : Only (λ j. All (λ i. j ≡ i → ⊥) (g ∷ ks)) t (rebuilt t ks g rows .table)
+  moved-only = only-twice (only-fewer (λ j a. a .1) cleared) (only-fewer (λ j a. a .0) last-only)
 
   pub built-moved : Moved (orderOf t) ks g (length rows) (builtOf t) (builtOf (rebuilt t ks g rows .table))
-  unfolding builtOf
   built-moved =
       record {
         here = pair-built (rebuilt t ks g rows .table) g (length rows) (length rows) own-row;
-        gone = all-weaken (λ j h ne. pair-built (rebuilt t ks g rows .table) j 0 0 (h ne)) ks gone-rows;
-        kept = λ j h a. ap (λ (r : Row). word r 0) (kept-row j h a);
+        gone = all-weaken (λ j h ne. held-built (h ne)) ks moved-empties;
+        kept = λ j h a. kept-built (moved-only .others j h a);
       }
 
   pub live-moved : Moved (orderOf t) ks g (length rows) (liveOf t) (liveOf (rebuilt t ks g rows .table))
-  unfolding liveOf
   live-moved =
       record {
         here = pair-live (rebuilt t ks g rows .table) g (length rows) (length rows) own-row;
-        gone = all-weaken (λ j h ne. pair-live (rebuilt t ks g rows .table) j 0 0 (h ne)) ks gone-rows;
-        kept = λ j h a. ap (λ (r : Row). word r 1) (kept-row j h a);
+        gone = all-weaken (λ j h ne. held-live (h ne)) ks moved-empties;
+        kept = λ j h a. kept-live (moved-only .others j h a);
       }

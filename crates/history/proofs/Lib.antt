@@ -12,6 +12,7 @@ pub mod FirstFaults
 pub mod Nationals
 pub mod Alike
 pub mod EndsAlike
+pub mod ShutOut
 mod Invariant
 mod Amortized
 mod AmortizedMoved
@@ -63,3 +64,4 @@ mod Counting
 mod CountingHistory
 mod Independence
 mod IndependenceBatch
+mod Naming

@@ -1,18 +1,18 @@
--- What add, remove and the lines of a herd list report, of whatever they are lent: c(n) for the n items that they built. By the sizes alone, for they are read and written whatever
--- the slots hold: a row too short to be marked dead is gathered again, and a rebuild may then be of more rows than its bucket has room for.
+-- What add, remove and the lines of a herd list report, of whatever they are lent: c(n) for the n items that they built, the other buckets being kept or emptied, but for a slot
+-- marked. By the sizes, whatever the slots hold: a row too short to be marked dead is gathered again, and a rebuild may then be of more rows than its bucket has room for.
 use Prim.Native.Nat.{ℕ, zero, suc, _+_, _-_, _*_, _≤_, _<_}
 use native.Mathlib.Omega.{arith}
 use native.Mathlib.Decide.{ℕ-discrete}
-use mathlib.Core.Path.{_≡_, refl, _∙_, ap, ap₂}
+use mathlib.Core.Path.{_≡_, refl, sym, _∙_, ap, ap₂}
 use mathlib.Core.Bool.{Bool, true, false}
-use mathlib.Core.Logic.{inl, inr}
+use mathlib.Core.Logic.{_⊎_, inl, inr}
 use mathlib.Core.List.{List, [], _∷_, flatten}
 use mathlib.Core.Option.{Option, none, some}
-use lib.ListN.{length, take, length-append}
+use lib.ListN.{length, take, set, length-append}
 use Rattle.lists.specs.Lists.{countFrom, select, All}
 use Rattle.lists.proofs.Lists.{all-weaken}
 use Rattle.metric_rules.specs.declared.Profile.{Profile}
-use Rattle.metric_rules.specs.Row.{Row, isLive, withMark}
+use Rattle.metric_rules.specs.Row.{Row, tagOf, isLive, withMark}
 use Rattle.table_rules.specs.declared.Added.{Added}
 use Rattle.table_rules.specs.declared.Removed.{Removed}
 use Rattle.table_rules.specs.Geometry.{room, tableRows}
@@ -22,8 +22,8 @@ use Rattle.table_rules.specs.Checks.{changeRefusal}
 use Rattle.table_rules.specs.LookUp.{Place, find}
 use Rattle.table_rules.specs.Add.{addRefusal, lowestEmpty, gathered, addTarget, added, addReply, tableAfterAdd, workAfterAdd}
 use Rattle.table_rules.specs.Remove.{removeRefusal, marked, united, moved, afterDeletion, removed, removeReply, tableAfterRemove}
-use Rattle.table_rules.proofs.Views.{Only, only-own, only-fewer, same-order, kept-built, kept-live, kept-live-slots}
-use Rattle.table_rules.proofs.Puts.{held-built, apart-or, emptied-only, emptied-holds}
+use Rattle.table_rules.proofs.Views.{kept-twice, Only, only-own, only-fewer, same-order, kept-built, kept-live, kept-live-slots}
+use Rattle.table_rules.proofs.Puts.{Holds, apart-or, emptied-only, emptied-holds}
 use Rattle.table_rules.proofs.Passing.{bucket-within}
 use Rattle.table_rules.proofs.Changes.{marked-only, marked-built, marked-live, marked-slots}
 use Rattle.table_rules.proofs.Live.{slots-length}
@@ -36,10 +36,10 @@ use Rattle.table_rules.proofs.Deletion.Deletion.{empties, ends, rebuilds}
 use Rattle.table_rules.proofs.Fill.{passed-roomy, Changeable, changeable, add-accepted, add-fits}
 use Rattle.list_rules.specs.Lines.{ListLine, hasHeader, itemLines}
 use Rattle.list_rules.specs.Lines.ListLine.{anItem, malformed}
-use Rattle.list_rules.specs.ReadList.{Reading, badListHeader, stopped, oneMore, reading, listReading, readListReply}
-use Rattle.history.specs.Reports.{builtIn, buildCost, addsCost, ReportsBuilds}
+use Rattle.list_rules.specs.ReadList.{Reading, badListHeader, stopped, oneMore, reading, listReading, readListReply, tableAfterReadList}
+use Rattle.history.specs.Reports.{builtIn, buildCost, BucketKept, OnlyBuilds, OneMarked, addsCost, tableAfterAdds, ReportsBuilds}
 use Rattle.history.proofs.RefinesLists.{select-set}
-use Rattle.history.proofs.ReportingBuilds.{dead-not-built, kept-not-built, none-built, no-build, kept-reports, rebuild-reports}
+use Rattle.history.proofs.ReportingBuilds.{dead-not-built, kept-not-built, kept-bucket, no-build, Reported, idle-reports, kept-reports, rebuild-reports}
 use Rattle.table_rules.proofs.Chains.{or-zero}
 
 -- of the live items of some buckets each bucket has a part
@@ -69,9 +69,16 @@ module _ (t : Table) (work : List Row) (tag : ℕ) (p : Profile) (day : ℕ) (ac
         | inr part ↦ omega (arith, lives, part)
       ]
 
-  added-reports : added t tag p day .distances ≡ buildCost t (added t tag p day .table)
+  added-reports : Reported t (added t tag p day)
   unfolding added
-  added-reports = rebuild-reports (countFrom 0 (lowestEmpty t)) only-own (allowed .passed .framed .long) (gathered-buckets t) (addTarget t tag p day) (target .reached) (gathered t tag p day) one-more
+  added-reports = rebuild-reports (countFrom 0 (lowestEmpty t)) only-own (passed-roomy (allowed .passed)) (gathered-buckets t) (addTarget t tag p day) (target .reached) (gathered t tag p day) one-more
+
+-- a removal that reports c(n) of what it built, or marked one slot and built nothing
+abbrev RemovalReported : Table → ℕ → Rebuilt → Type 0
+RemovalReported t tag r = (r .distances ≡ buildCost t (r .table)) × (OnlyBuilds t (r .table) ⊎ OneMarked t (r .table) tag)
+
+building : {t : Table} {r : Rebuilt} (tag : ℕ) → Reported t r → RemovalReported t tag r
+building tag reported = (reported .report, inl (reported .builds))
 
 -- an item found, and its slot marked dead
 module _ {work : List Row} {t : Table} (c : Changeable work t) (tag : ℕ) (place : Place) (here : find t tag ≡ some place) where
@@ -122,27 +129,44 @@ module _ {work : List Row} {t : Table} (c : Changeable work t) (tag : ℕ) (plac
         ap (λ (rs : List Row). length (select isLive rs)) (marked-slots t place (at .inOrder) long slot-room slot-built (within k (at .inOrder) .1)),
       )
 
+  kept-others : (j : ℕ) → j ≤ orderOf t → (j ≡ k → ⊥) → BucketKept t v j
+  kept-others j h ne = kept-bucket (only .others j h ne) (within j h .1)
+
   left-reports : 0 ≡ buildCost t v
   left-reports =
       no-build t v
       (λ j h. elim (ℕ-discrete j k) [
         | yes e ↦ ap (builtIn t v) e ∙ dead-not-built t v k (omega (arith, built-same, one-less, used .live-built))
-        | no ne ↦ kept-not-built t v j (kept-built (only .others j h ne)) (kept-live (only .others j h ne))
+        | no ne ↦ kept-not-built t v j (kept-others j h ne)
       ])
 
-  emptied-reports : 0 ≡ buildCost t (emptied (k ∷ []) v)
+  left-marked : OneMarked t v tag
+  left-marked =
+      record {
+        bucket = k;
+        slot = place .slot;
+        inOrder = at .inOrder;
+        within = slot-built;
+        live = ap isLive (at .row) ∙ at .live;
+        tagged = ap tagOf (at .row) ∙ at .tagged;
+        slots =
+            marked-slots t place (at .inOrder) long slot-room slot-built (within k (at .inOrder) .1)
+            ∙ ap (λ (row : Row). set (slotsOf t k) (place .slot) (withMark 1 row)) (sym (at .row));
+        built = built-same;
+        oneLess = sym one-less;
+        others = kept-others;
+      }
+
+  emptied-reports : Reported t (record { table = emptied (k ∷ []) v; distances = 0 })
   emptied-reports =
       let order : orderOf v ≡ orderOf t = same-order (only .header) in
       let long′ : tableRows (orderOf v) ≤ length v = rw order (omega (arith, long, only .long)) in
       let inOrder : All (λ j. j ≤ orderOf v) (k ∷ []) = (rw order (at .inOrder), tt) in
       let u : Table = emptied (k ∷ []) v in
-      no-build t u
-      (λ j h. elim (ℕ-discrete j k) [
-        | yes e ↦ ap (builtIn t u) e ∙ none-built t u k (held-built (emptied-holds (k ∷ []) v inOrder long′ .0))
-        | no ne ↦
-            (let last = emptied-only (k ∷ []) v inOrder long′ .others j (rw order h) (ne, tt) in
-            let first = only .others j h ne in
-            kept-not-built t u j (kept-built last ∙ kept-built first) (kept-live last ∙ kept-live first))
+      idle-reports t u
+      (λ j h. elim (apart-or (λ i. Holds u i [] 0) j (k ∷ []) (emptied-holds (k ∷ []) v inOrder long′)) [
+        | inl a ↦ inl (kept-bucket (kept-twice (only .others j h (a .0)) (emptied-only (k ∷ []) v inOrder long′ .others j (rw order h) a)) (within j h .1))
+        | inr held ↦ inr held
       ])
 
   -- sparse: its items and those of other buckets are more than the bucket built had
@@ -152,10 +176,10 @@ module _ {work : List Row} {t : Table} (c : Changeable work t) (tag : ℕ) (plac
 
     united-reports :
         (rest : List ℕ) → All (λ j. j ≤ orderOf t) rest → (g : ℕ) → g ≤ orderOf t → liveOf t g < length (liveItems v (k ∷ rest))
-        → united v (k ∷ rest) g .distances ≡ buildCost t (united v (k ∷ rest) g .table)
+        → Reported t (united v (k ∷ rest) g)
     unfolding united
     united-reports rest inOrder g reached more =
-        rebuild-reports (k ∷ rest) (only-fewer (λ j a. a .0) only) long (at .inOrder, inOrder) g reached (liveItems v (k ∷ rest)) more
+        rebuild-reports (k ∷ rest) (only-fewer (λ j a. a .0) only) (passed-roomy (c .passed)) (at .inOrder, inOrder) g reached (liveItems v (k ∷ rest)) more
 
     -- with the items of the next lower bucket
     pair-number : liveOf v k + liveOf t (k - 1) ≤ length (liveItems v (k ∷ (k - 1) ∷ []))
@@ -188,7 +212,7 @@ module _ {work : List Row} {t : Table} (c : Changeable work t) (tag : ℕ) (plac
     one : All (λ j. j ≤ orderOf t) ((k - 1) ∷ [])
     one = (omega (arith, at .inOrder), tt)
 
-    rebuilds-report : {r : Rebuilt} → Rebuilds v k r → r .distances ≡ buildCost t (r .table)
+    rebuilds-report : {r : Rebuilt} → Rebuilds v k r → Reported t r
     unfolding moved
     rebuilds-report (unites-in-k u more) =
         let same : liveOf v (k - 1) ≡ liveOf t (k - 1) = kept-live (only .others (k - 1) (one .0) (λ z. absurd (omega (arith, z, positive)))) in
@@ -198,54 +222,63 @@ module _ {work : List Row} {t : Table} (c : Changeable work t) (tag : ℕ) (plac
         united-reports ((k - 2) ∷ []) (omega (arith, at .inOrder), tt) (k - 1) (one .0) (vacant-more ((k - 2) ∷ []) (k - 1) (omega (arith, positive)) e)
     rebuilds-report (moves e f) = united-reports [] tt (k - 2) (omega (arith, at .inOrder)) (vacant-more [] (k - 2) (omega (arith, positive)) f)
 
-  deletion-reports : {r : Rebuilt} → Deletion v k r → r .distances ≡ buildCost t (r .table)
-  deletion-reports (empties z) = emptied-reports
-  deletion-reports (ends positive enough) = left-reports
-  deletion-reports (rebuilds positive few step) = rebuilds-report positive few step
+  deletion-reports : {r : Rebuilt} → Deletion v k r → RemovalReported t tag r
+  deletion-reports (empties z) = building tag emptied-reports
+  deletion-reports (ends positive enough) = (left-reports, inr left-marked)
+  deletion-reports (rebuilds positive few step) = building tag (rebuilds-report positive few step)
 
 -- an accepted removal
-removed-reports : (t : Table) (work : List Row) (tag : ℕ) → removeRefusal t work tag ≡ 0 → removed t tag .distances ≡ buildCost t (removed t tag .table)
+removed-reports : (t : Table) (work : List Row) (tag : ℕ) → removeRefusal t work tag ≡ 0 → RemovalReported t tag (removed t tag)
 unfolding removed removeRefusal
 removed-reports t work tag accepted = go (find t tag) refl
   where
-    result : Option Place → Rebuilt
-    result o = elim o [ some place ↦ afterDeletion (marked t place) (place .bucket) | none ↦ record { table = t; distances = 0 } ]
-
-    go : (o : Option Place) → find t tag ≡ o → result o .distances ≡ buildCost t (result o .table)
+    go : (o : Option Place) → find t tag ≡ o
+        → RemovalReported t tag (elim o [ some place ↦ afterDeletion (marked t place) (place .bucket) | none ↦ record { table = t; distances = 0 } ])
     go (some place) e =
         deletion-reports (changeable work t (or-zero (changeRefusal (length work) t) _ accepted .0)) tag place e (deletion (marked t place) (place .bucket))
-    go none e = kept-reports t
+    go none e = building tag (kept-reports t)
 
 -- accepted or refused
-adds-report : (t : Table) (work : List Row) (tag : ℕ) (p : Profile) (day : ℕ) → addReply t work tag p day .distances ≡ buildCost t (tableAfterAdd t work tag p day)
+adds-report : (t : Table) (work : List Row) (tag : ℕ) (p : Profile) (day : ℕ)
+    → Reported t (record { table = tableAfterAdd t work tag p day; distances = addReply t work tag p day .distances })
 unfolding addReply tableAfterAdd
 adds-report t work tag p day = go (addRefusal t work tag p day) refl
   where
     go : (n : ℕ) → addRefusal t work tag p day ≡ n
-        → (elim n as (λ _. Added) [
-          | zero ↦ record { refusal = 0; bucket = addTarget t tag p day; distances = added t tag p day .distances }
-          | suc j ↦ record { refusal = suc j; bucket = 0; distances = 0 }
-        ]) .distances
-        ≡ buildCost t (elim n as (λ _. Table) [ zero ↦ added t tag p day .table | suc j ↦ t ])
+        → Reported t (record {
+          table = elim n as (λ _. Table) [ zero ↦ added t tag p day .table | suc j ↦ t ];
+          distances =
+              (elim n as (λ _. Added) [
+                | zero ↦ record { refusal = 0; bucket = addTarget t tag p day; distances = added t tag p day .distances }
+                | suc j ↦ record { refusal = suc j; bucket = 0; distances = 0 }
+              ]) .distances;
+        })
     go zero e = added-reports t work tag p day e
     go (suc n) e = kept-reports t
 
-removes-report : (t : Table) (work : List Row) (tag : ℕ) → removeReply t work tag .distances ≡ buildCost t (tableAfterRemove t work tag)
+removes-report : (t : Table) (work : List Row) (tag : ℕ)
+    → RemovalReported t tag (record { table = tableAfterRemove t work tag; distances = removeReply t work tag .distances })
 unfolding removeReply tableAfterRemove
 removes-report t work tag = go (removeRefusal t work tag) refl
   where
     go : (n : ℕ) → removeRefusal t work tag ≡ n
-        → (elim n as (λ _. Removed) [ zero ↦ record { refusal = 0; distances = removed t tag .distances } | suc j ↦ record { refusal = suc j; distances = 0 } ]) .distances
-        ≡ buildCost t (elim n as (λ _. Table) [ zero ↦ removed t tag .table | suc j ↦ t ])
+        → RemovalReported t tag (record {
+          table = elim n as (λ _. Table) [ zero ↦ removed t tag .table | suc j ↦ t ];
+          distances =
+              (elim n as (λ _. Removed) [ zero ↦ record { refusal = 0; distances = removed t tag .distances } | suc j ↦ record { refusal = suc j; distances = 0 } ]) .distances;
+        })
     go zero e = removed-reports t work tag e
-    go (suc n) e = kept-reports t
+    go (suc n) e = building tag (kept-reports t)
 
--- a herd list's lines from one on: each that is added reports what its add does
-lines-report : (day : ℕ) (lines : List ListLine) (t : Table) (work : List Row) (i : ℕ)
-    → reading day t work i lines .reply .distances ≡ addsCost day t work (take (reading day t work i lines .reply .added) lines)
-unfolding reading stopped oneMore addsCost
-lines-report day [] t work i = refl
-lines-report day (malformed ∷ lines) t work i = refl
+-- a herd list's lines from one on: each that is added reports what its add does, and leaves the table that its add does
+record LinesReported (day : ℕ) (t : Table) (work : List Row) (lines : List ListLine) (r : Reading) : Type 0 where
+  report : r .reply .distances ≡ addsCost day t work (take (r .reply .added) lines)
+  adds : r .table ≡ tableAfterAdds day t work (take (r .reply .added) lines)
+
+lines-report : (day : ℕ) (lines : List ListLine) (t : Table) (work : List Row) (i : ℕ) → LinesReported day t work lines (reading day t work i lines)
+unfolding reading stopped oneMore addsCost tableAfterAdds
+lines-report day [] t work i = record { report = refl; adds = refl }
+lines-report day (malformed ∷ lines) t work i = record { report = refl; adds = refl }
 lines-report day (anItem tag p ∷ lines) t work i = go (addRefusal t work tag p day) (lines-report day lines u v (suc i))
   where
     u : Table
@@ -254,25 +287,28 @@ lines-report day (anItem tag p ∷ lines) t work i = go (addRefusal t work tag p
     v : List Row
     v = workAfterAdd t work tag p day
 
-    read : ℕ → Reading
-    read n = elim n [ suc r ↦ stopped (suc r) i t work | zero ↦ oneMore (addReply t work tag p day .distances) (reading day u v (suc i) lines) ]
+    go : (n : ℕ) → LinesReported day u v lines (reading day u v (suc i) lines)
+        → LinesReported day t work (anItem tag p ∷ lines)
+        (elim n [ suc r ↦ stopped (suc r) i t work | zero ↦ oneMore (addReply t work tag p day .distances) (reading day u v (suc i) lines) ])
+    go zero e = record { report = ap₂ _+_ (adds-report t work tag p day .report) (e .report); adds = e .adds }
+    go (suc n) e = record { report = refl; adds = refl }
 
-    go : (n : ℕ) → reading day u v (suc i) lines .reply .distances ≡ addsCost day u v (take (reading day u v (suc i) lines .reply .added) lines)
-        → read n .reply .distances ≡ addsCost day t work (take (read n .reply .added) (anItem tag p ∷ lines))
-    go zero e = ap₂ _+_ (adds-report t work tag p day) e
-    go (suc n) e = refl
-
-lists-report : (t : Table) (work : List Row) (list : List ℕ) (day : ℕ)
-    → readListReply t work list day .distances ≡ addsCost day t work (take (readListReply t work list day .added) (itemLines list))
-unfolding readListReply listReading stopped addsCost
+lists-report : (t : Table) (work : List Row) (list : List ℕ) (day : ℕ) → LinesReported day t work (itemLines list) (listReading t work list day)
+unfolding listReading stopped addsCost tableAfterAdds
 lists-report t work list day = go (hasHeader list)
   where
-    read : Bool → Reading
-    read b = elim b [ false ↦ stopped badListHeader 1 t work | true ↦ reading day t work 2 (itemLines list) ]
-
-    go : (b : Bool) → read b .reply .distances ≡ addsCost day t work (take (read b .reply .added) (itemLines list))
-    go false = refl
+    go : (b : Bool) → LinesReported day t work (itemLines list) (elim b [ false ↦ stopped badListHeader 1 t work | true ↦ reading day t work 2 (itemLines list) ])
+    go false = record { report = refl; adds = refl }
     go true = lines-report day (itemLines list) t work 2
 
 pub reports : (t : Table) (work : List Row) → ReportsBuilds t work
-reports t work = record { adds = adds-report t work; removes = removes-report t work; lists = lists-report t work }
+unfolding readListReply tableAfterReadList
+reports t work =
+    record {
+      adds = λ tag p day. adds-report t work tag p day .report;
+      removes = λ tag. removes-report t work tag .0;
+      lists = λ list day. lists-report t work list day .report;
+      addBuilds = λ tag p day. adds-report t work tag p day .builds;
+      removeBuilds = λ tag. removes-report t work tag .1;
+      listAdds = λ list day. lists-report t work list day .adds;
+    }

@@ -28,6 +28,7 @@ pub use Rattle.history.proofs.ImagesBack.{accepted-gives-back}
 pub use Rattle.history.proofs.StatesBack.{save-keeps}
 pub use Rattle.history.proofs.Independence.{independent-of-history}
 pub use Rattle.history.proofs.CountingHistory.{binary-counter}
+pub use Rattle.history.proofs.Naming.{replies-bucket}
 
 pub counts-visits : CountsVisits
 counts-visits = range-visits

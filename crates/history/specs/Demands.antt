@@ -37,7 +37,7 @@ use Rattle.history.specs.Model.{Model, itemOf, modelRange, modelNearest,
 use Rattle.history.specs.Trace.{ownRows, overlaid, stateAfter}
 use Rattle.history.specs.History.{before, opening, History, finalState, finalModel}
 use Rattle.history.specs.Images.{imageSize, LoadsBack, GivesBack, RestoresBack, KeepsStates}
-use Rattle.history.specs.Represents.{Holds}
+use Rattle.history.specs.Represents.{Holds, NamesBuckets}
 use Rattle.history.specs.Reports.{ReportsBuilds}
 use Rattle.history.specs.Trees.{TreeFacts}
 use Rattle.history.specs.Agreement.{SameItems, SameAnswers}
@@ -129,8 +129,16 @@ AnyArea = (left area : Table) → take (length (ownRows left)) area ≡ take (le
 abbrev pub EveryList : Type 0
 EveryList = (h : History) → Holds h
 
+-- Demand 2 (RULES 8.5, 10.2), the bucket in a reply. After every such list, whatever table area is lent: an accepted look up replies the one bucket that has a live item
+-- with the tag, and an accepted add the one bucket that has it after the call.
+-- Theorem: `replies-bucket`
+abbrev pub RepliesBucket : Type 0
+RepliesBucket = (h : History) (area : Table) → NamesBuckets (overlaid (finalState h .table) area)
+
 -- Demand 3, the numbers that are added up: whatever they are lent, accepted or refused, add and remove report c(n) for the n items that they built, and
--- 0 where they built none; the reading of a herd list reports the sum of c(n) of what the adds of its accepted lines built.
+-- 0 where they built none; the reading of a herd list reports the sum of c(n) of what the adds of its accepted lines built, and leaves the table that these adds leave.
+-- Nothing is built besides: each bucket keeps its sizes and slots, or is built afresh of live items alone and counted, or is emptied. Only a removal that builds and
+-- empties nothing changes a bucket otherwise: it marks one slot.
 -- Theorem: `every-report`
 abbrev pub EveryReport : Type 0
 EveryReport = (t : Table) (work : List Row) → ReportsBuilds t work

@@ -2,22 +2,25 @@
 use Prim.Native.Nat.{ℕ, _+_, _*_, _≤_, _<_}
 use mathlib.Core.Path.{_≡_}
 use mathlib.Core.Bool.{Bool, true, not, _||_}
-use mathlib.Core.List.{List, map, List·Permᴰ}
+use mathlib.Core.List.{List, [], _∷_, map, List·Permᴰ}
 use lib.ListN.{length}
 use lib.Dec.{ltb, eqb}
 use Rattle.lists.specs.Lists.{every, select, distinct}
 use Rattle.metric_rules.specs.declared.Profile.{Profile}
-use Rattle.metric_rules.specs.Row.{IsProfile, tagOf, zeroRow}
+use Rattle.metric_rules.specs.Row.{Row, IsProfile, tagOf, zeroRow}
 use Rattle.metric_rules.specs.Distance.{validSpace, distance}
 use Rattle.tree_rules.specs.Layout.{isLayout}
 use Rattle.table_rules.specs.Geometry.{validOrder, room, bucketsOf, headerRow, sizesRow, firstSlot, tableRows}
 use Rattle.table_rules.specs.Table.{Table, rowAt, orderOf, tableSpace, builtOf, liveOf, slotsOf, inUse, liveSlots, pairRow, headerOf}
 use Rattle.table_rules.specs.Checks.{sizesPass, marksPass}
 use Rattle.table_rules.specs.Rebuild.{liveItems}
+use Rattle.table_rules.specs.LookUp.{lookUpReply}
+use Rattle.table_rules.specs.Add.{addReply, tableAfterAdd}
 use Rattle.table_rules.specs.Search.{rangeAnswer, nearestAnswer}
+use Rattle.call_rules.specs.Calls.Change.{add}
 use Rattle.history.specs.Trace.{Sums, trace}
 use Rattle.history.specs.Model.{Model, Item, itemOf, modelRange, modelNearest, modelTrace}
-use Rattle.history.specs.History.{History, before, blankModel, steps, finalState, finalModel}
+use Rattle.history.specs.History.{IsChange, History, before, blankModel, steps, finalState, finalModel}
 
 -- RULES 17.6: the items in the table's built slots of mark 0
 unfoldable pub itemsIn : Table → List Item
@@ -60,6 +63,13 @@ pub record Represents (t : Table) (m : Model) : Type 0 where
   pub range : (q : Profile) (r firstDay : ℕ) → IsProfile q → rangeAnswer t q r firstDay .entries ≡ modelRange m q r firstDay
   -- 11. nearest likewise, for every query, k and first day
   pub nearest : (q : Profile) (k firstDay : ℕ) → IsProfile q → nearestAnswer t q k firstDay .entries ≡ modelNearest m q k firstDay
+
+-- RULES 8.5, 10.2, the bucket in a reply: an accepted look up names the one in which a live slot has the tag, and no other has it; an accepted add names the one
+-- that has it in the table after the call
+pub record NamesBuckets (t : Table) : Type 0 where
+  pub lookUps : (tag : ℕ) → lookUpReply t tag .refusal ≡ 0 → bucketsWith t tag ≡ lookUpReply t tag .bucket ∷ []
+  pub adds : (work : List Row) (tag : ℕ) (p : Profile) (day : ℕ) → IsChange (add tag p day) → addReply t work tag p day .refusal ≡ 0
+      → bucketsWith (tableAfterAdd t work tag p day) tag ≡ addReply t work tag p day .bucket ∷ []
 
 -- RULES 17.7, the bound on all rebuilds together, with A adds, a herd list's accepted lines among them, and R removals at order T: 4·T·(T+1)·A + 11·T·R
 unfoldable pub rebuildBound : ℕ → Sums → ℕ
