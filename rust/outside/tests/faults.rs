@@ -238,9 +238,9 @@ fn a_bad_field_anywhere() {
     });
 }
 
-// The Rust interface names the bucket and the byte, in every form: the tag or the threshold of the slot stands there.
+// The Rust interface names the slot and the bytes, in every form: its tag or its threshold stands there.
 #[test]
-fn the_byte_that_is_told() {
+fn the_bytes_that_are_told() {
     tables(88, 60, |random, table| {
         let used: Vec<usize> = in_use(table).into_iter().filter(|&k| table.buckets[k].slots.len() > 1).collect();
         let Some(&k) = used.last() else { return };
@@ -251,14 +251,16 @@ fn the_byte_that_is_told() {
         {
             let image = of_form(form, spoiled);
             let refused = ProvedTable::load(&image).expect_err("spoiled");
-            let SlotAt { slot, bucket, place, byte } = refused.at.expect("a fault of a tree");
-            assert_eq!((slot, bucket, place), (over_all(table, k, at), k as u32, at as u32));
+            let fault = refused.fault.expect("a fault of a tree");
+            let expected = SlotAt { slot: over_all(table, k, at), bucket: k as u32, place: at as u32 };
+            assert_eq!((fault.slot, fault.bucket), (Some(expected), Some(k as u32)));
             let found = &spoiled.buckets[k].slots[at];
-            if is_tag {
-                assert_eq!(image[byte..byte + 8], found.tag.to_le_bytes());
+            let (field, bytes) = if is_tag {
+                ("item", found.tag.to_le_bytes().to_vec())
             } else {
-                assert_eq!(image[byte..byte + 4], found.threshold.to_le_bytes());
-            }
+                ("threshold", found.threshold.to_le_bytes().to_vec())
+            };
+            assert_eq!((fault.field, &image[fault.bytes]), (field, &bytes[..]));
         }
     });
 }

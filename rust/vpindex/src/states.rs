@@ -39,9 +39,10 @@ impl States {
         &mut self.0
     }
 
-    // The image and what follows it, whatever the length says.
-    pub(crate) fn behind_length(&self, name: Name) -> &[u8] {
-        self.split(name).map_or(&[], |(_, rest)| rest)
+    // The image under a name, of the length that is said before it; none if that is past its part.
+    pub(crate) fn image(&self, name: Name) -> Option<&[u8]> {
+        let (length, rest) = self.split(name)?;
+        rest.get(..u32::from_le_bytes(*length) as usize)
     }
 
     // The part of a name as the length of the image and what follows it; none if the part is too short for a length.

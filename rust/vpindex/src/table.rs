@@ -94,7 +94,8 @@ impl Table {
     /// The image is checked whole. [`Refusal::BadLength`], [`Refusal::BadOrder`], [`Refusal::BadMetric`],
     /// [`Refusal::BadWeight`], [`Refusal::BadTable`], [`Refusal::BadDay`] and [`Refusal::BadImage`] say what is wrong
     /// with it, and where all fields pass [`Refusal::DuplicateTag`], [`Refusal::MisplacedItem`] and
-    /// [`Refusal::BadThreshold`] what is wrong with a tree, at the lowest slot:
+    /// [`Refusal::BadThreshold`] what is wrong with a tree, at the lowest slot. In which field it is, and at which
+    /// bytes, is in [`ImageRefusal::fault`]:
     ///
     /// ```
     /// use vpindex::{Day, Metric, Order, Profile, Refusal, Table, Tag};
@@ -107,25 +108,31 @@ impl Table {
     /// image[24] = 1; // the second tag is the first again
     /// let refused = Table::load(&image).unwrap_err();
     /// assert_eq!(refused.refusal, Refusal::DuplicateTag);
-    /// assert_eq!(refused.at.map(|at| (at.slot, at.bucket, at.place, at.byte)), Some((1, 1, 1, 24)));
+    /// assert_eq!(
+    ///     refused.to_string(),
+    ///     "slot 1 (slot 1 of bucket 1), its tag at byte 24 is 036000000000001, which slot 0 (slot 0 of bucket 1) has"
+    /// );
+    /// let fault = refused.fault.expect("the bytes show it");
+    /// assert_eq!((fault.field, fault.bytes, fault.bucket), ("tag", 24..32, Some(1)));
     /// # Ok::<(), vpindex::Refusal>(())
     /// ```
     pub fn load(image: &[u8]) -> Result<Table, ImageRefusal> {
-        Table::begun(image, |rows| ffi::load(rows, image))
+        Table::begun(Some(image), |rows| ffi::load(rows, image))
     }
 
     /// The table that was saved under the name by [`Table::save`].
     ///
     /// [`Refusal::NotSaved`] if nothing was. States that were kept elsewhere meanwhile may be damaged; then it is
-    /// [`Refusal::BadLength`] or what [`Table::load`] says of the image, whose bytes are counted from its own first.
+    /// [`Refusal::BadLength`] without a fault if the image would end past its part of the states, or what
+    /// [`Table::load`] says of the image, whose bytes are counted from its own first.
     pub fn restore(states: &States, name: Name) -> Result<Table, ImageRefusal> {
-        Table::begun(states.behind_length(name), |rows| ffi::restore(rows, states.as_bytes(), name.get()))
+        Table::begun(states.image(name), |rows| ffi::restore(rows, states.as_bytes(), name.get()))
     }
 
-    // By a call that writes every row that the order needs, which the image's first byte says. An order that is not
-    // valid is refused before the area's length is looked at.
-    fn begun(image: &[u8], call: impl FnOnce(&mut [ffi::Row]) -> ffi::Loaded) -> Result<Table, ImageRefusal> {
-        let order = image.first().and_then(|&byte| Order::new(byte as u32).ok()).unwrap_or(Order::MIN);
+    // By a call that writes every row that the order needs, which the image's first byte says. No image and an order
+    // that is not valid are refused before the area's length is looked at.
+    fn begun(image: Option<&[u8]>, call: impl FnOnce(&mut [ffi::Row]) -> ffi::Loaded) -> Result<Table, ImageRefusal> {
+        let order = image.and_then(|image| Order::new(*image.first()? as u32).ok()).unwrap_or(Order::MIN);
         let mut table = Table::blank(Header { order, metric: Metric::SumOfDifferences, weights: Weights::ONE });
         image::check(call(&mut table.rows), image)?;
         table.header = Header::of(&table.rows[0])?;

@@ -2,8 +2,8 @@
 
 use crate::{Refusal, ffi};
 
-const COUNTRY: u64 = 1_000_000_000_000;
-const LAST_NATIONAL: u64 = 274_877_906_943;
+pub(crate) const COUNTRY: u64 = 1_000_000_000_000;
+pub(crate) const LAST_NATIONAL: u64 = 274_877_906_943;
 
 /// What an item is known by: a country, 1 to 999, and a national number of 38 bits.
 #[derive(Clone, Copy, PartialEq, Eq, PartialOrd, Ord, Hash)]

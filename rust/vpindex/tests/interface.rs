@@ -1,8 +1,7 @@
 //! What a Rust caller meets: values that are checked when they are made, and refusals.
 
 use vpindex::{
-    Day, ImageRefusal, ListRead, ListRefusal, Metric, Name, Order, Profile, RangeQuery, Refusal, SlotAt, States, Table,
-    Tag, Weights,
+    Day, ListRead, ListRefusal, Metric, Name, Order, Profile, RangeQuery, Refusal, States, Table, Tag, Weights,
 };
 
 #[test]
@@ -173,51 +172,7 @@ fn an_image_without_a_day_is_refused() {
     let mut image = table.image();
     assert_eq!((image.len(), image[60..].to_vec()), (62, vec![255, 255]));
     image[60..].fill(0);
-    assert_eq!(Table::load(&image).err(), Some(Refusal::BadDay.into()));
-}
-
-// Tag 5 in bucket 0, and tags 1 to 4 in bucket 2: the tags begin at byte 24, the records at byte 64.
-#[test]
-fn an_image_says_where_its_trees_are_wrong() {
-    let mut table = Table::new(Order::new(3).expect("valid"), Metric::SumOfDifferences);
-    for (national, measure) in [(1, 10), (2, 13), (3, 13), (4, 20), (5, 0)] {
-        let profile = Profile::new([measure, 0, 0, 0], [0, 0]).expect("in range");
-        table.add(Tag::new(36, national).expect("valid"), &profile, Day::MIN).expect("room");
-    }
-    let refused = |changes: &[(usize, u8)]| {
-        let mut image = table.image();
-        changes.iter().for_each(|&(at, byte)| image[at] = byte);
-        Table::load(&image).expect_err("spoiled").to_string()
-    };
-    let threshold = "its threshold is not the one that the tree's layout gives it";
-    assert_eq!(refused(&[(96, 1)]), format!("slot 0 (slot 0 of bucket 0, byte 96): {threshold}"));
-    assert_eq!(refused(&[(138, 4)]), format!("slot 1 (slot 0 of bucket 2, byte 138): {threshold}"));
-    assert_eq!(refused(&[(264, 1)]), format!("slot 4 (slot 3 of bucket 2, byte 264): {threshold}"));
-    let item = "its item is not the one that the tree's layout puts there";
-    assert_eq!(refused(&[(40, 3), (48, 2)]), format!("slot 2 (slot 1 of bucket 2, byte 40): {item}"));
-    let tag = "an earlier slot of its bucket has its tag, or it is live and an earlier live slot has it";
-    assert_eq!(refused(&[(40, 3)]), format!("slot 3 (slot 2 of bucket 2, byte 48): {tag}"));
-    assert_eq!(refused(&[(24, 4)]), format!("slot 4 (slot 3 of bucket 2, byte 56): {tag}"));
-    let field = "the image is of no known form, or a tag, a measure, a mark or the number of marks breaks a rule";
-    assert_eq!(refused(&[(24, 4), (268, 2)]), field);
-}
-
-// Of one that was saved, the byte is counted in the image.
-#[test]
-fn a_damaged_state_says_where() {
-    let order = Order::new(1).expect("valid");
-    let mut table = Table::new(order, Metric::SumOfDifferences);
-    for national in [1, 2] {
-        table.add(Tag::new(36, national).expect("valid"), &Profile::default(), Day::MIN).expect("room");
-    }
-    let (mut states, name) = (States::new(order), Name::new(2).expect("valid"));
-    table.save(&mut states, name).expect("room");
-    let mut bytes = Vec::from(states);
-    let image = bytes.len() / 8 + 4;
-    bytes[image + 24] = 1;
-    let refused = Table::restore(&States::from(bytes), name).expect_err("damaged");
-    let at = SlotAt { slot: 1, bucket: 1, place: 1, byte: 24 };
-    assert_eq!(refused, ImageRefusal { refusal: Refusal::DuplicateTag, at: Some(at) });
+    assert_eq!(Table::load(&image).err().map(Refusal::from), Some(Refusal::BadDay));
 }
 
 fn read(table: &mut Table, list: &str) -> Result<u32, String> {

@@ -6,8 +6,9 @@ use std::collections::HashSet;
 use std::thread;
 
 use vpindex::{
-    Added, Batch, Cents, Day, Drafted, Dues, Hit, Hits, ImageRefusal, Item, Items, ListFault, ListRead, ListRefusal,
-    LookedUp, Lots, Metric, Name, Order, ParseError, Profile, RangeQuery, Refusal, SlotAt, States, Table, Tag, Weights,
+    Added, Batch, Cents, Day, Drafted, Dues, Hit, Hits, ImageFault, ImageRefusal, Item, Items, ListFault, ListRead,
+    ListRefusal, LookedUp, Lots, Metric, Name, Order, ParseError, Profile, RangeQuery, Refusal, SlotAt, States, Table,
+    Tag, Weights,
 };
 
 // Counts what this thread allocates.
@@ -69,7 +70,7 @@ fn all_can_be_sent_and_shared() {
     both::<(Hit, Hits, Batch, RangeQuery, Item, Items, Added, LookedUp, States)>();
     both::<(Tag, Profile, Day, Weights, Order, Metric, Name)>();
     both::<(Cents, Dues, Drafted, Lots, ListRead)>();
-    both::<(Refusal, ImageRefusal, SlotAt, ListRefusal, ListFault, ParseError)>();
+    both::<(Refusal, ImageRefusal, ImageFault, SlotAt, ListRefusal, ListFault, ParseError)>();
 }
 
 #[test]
