@@ -54,6 +54,8 @@ needs() {
         ! grep ' U ' "$out/undefined" | grep -Ev ' mem(set|cpy|move|cmp)$'
 }
 list() { sh examples/list.sh "$@"; }
+# How many bytes a page has is not looked at.
+herd() { sh examples/herd.sh > "$out/herd.txt" && sed 's/[0-9]* bytes, /so many bytes, /' "$out/herd.txt"; }
 # A list that is not there is named.
 no_list() { ! list examples/none.list 2> "$out/said" && grep -q '^examples/none.list: ' "$out/said"; }
 
@@ -83,3 +85,8 @@ step list-example example examples/herd.expected list
 step list-refused example examples/fault.expected refused list examples/fault.list
 step list-of-bytes example examples/byte.expected refused list examples/byte.list
 step list-missing no_list
+step herd-example example examples/yard.expected herd
+step herd-on-a-terminal python3 tools/herd_terminal.py target/rust/release/herd
+if command -v chromium > /dev/null; then
+    step herd-page python3 tools/herd_page.py target/rust/release/herd
+fi

@@ -6,8 +6,8 @@ use std::slice;
 use crate::{Day, Profile, Tag, ffi};
 
 // What a slot's row has where, and the mark of a live one.
-const MARK: usize = 11;
-const LIVE: u32 = 0;
+pub(crate) const MARK: usize = 11;
+pub(crate) const LIVE: u32 = 0;
 
 /// An item of a table.
 #[derive(Clone, Copy, Debug, PartialEq, Eq, Hash)]
@@ -21,7 +21,7 @@ pub struct Item {
 }
 
 impl Item {
-    fn of(&[t0, t1, a, b, c, d, e, f, g, h, _, _, day]: &ffi::Row) -> Item {
+    pub(crate) fn of(&[t0, t1, a, b, c, d, e, f, g, h, _, _, day]: &ffi::Row) -> Item {
         let word = |low: u32, high: u32| (high as u64) << 32 | low as u64;
         let profile = ffi::Profile { measures: [a, b, c, d].map(|m| m as i32), code: [word(e, f), word(g, h)] };
         Item { tag: Tag::as_stored(word(t0, t1)), profile: Profile::as_stored(profile), day: Day::as_stored(day) }

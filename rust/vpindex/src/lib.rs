@@ -31,6 +31,7 @@
 struct Readme;
 
 mod batch;
+mod buckets;
 mod dues;
 #[doc(hidden)]
 pub mod ffi;
@@ -49,6 +50,7 @@ mod text;
 mod values;
 
 pub use batch::Batch;
+pub use buckets::{Bucket, Slot};
 pub use dues::{Cents, Dues};
 pub use hits::{Hit, Hits};
 pub use image::ImageRefusal;

@@ -32,14 +32,17 @@ pub struct ListRefusal {
     pub distances: u32,
 }
 
+impl ListRefusal {
+    /// What is wrong with the line, without how many were added before it.
+    pub fn words(&self) -> String {
+        let ListRefusal { line, refusal, fault, .. } = self;
+        fault.as_ref().map_or_else(|| format!("line {line}: {refusal}"), |fault| fault.told(*line))
+    }
+}
+
 impl fmt::Display for ListRefusal {
     fn fmt(&self, f: &mut fmt::Formatter<'_>) -> fmt::Result {
-        let ListRefusal { line, refusal, fault, added, .. } = self;
-        match fault {
-            None => write!(f, "line {line}: {refusal}"),
-            Some(fault) => fault.write_at(*line, f),
-        }?;
-        write!(f, " ({added} added before it)")
+        write!(f, "{} ({} added before it)", self.words(), self.added)
     }
 }
 

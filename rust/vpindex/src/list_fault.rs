@@ -1,8 +1,6 @@
 //! What is wrong with a refused line of a herd list. The archive says which line and why in a number; here its text is
 //! looked at once more, to say it in words.
 
-use std::fmt;
-
 use crate::{Profile, Refusal};
 
 const HEADER: &str = "tag;kg;hip;girth;gain";
@@ -54,18 +52,19 @@ impl ListFault {
         }
     }
 
-    pub(crate) fn write_at(&self, line: u32, f: &mut fmt::Formatter<'_>) -> fmt::Result {
+    // A sentence that names the line.
+    pub(crate) fn told(&self, line: u32) -> String {
         match self {
-            ByteOrderMark => write!(f, "line {line}: a byte order mark stands before the header"),
-            OtherHeader(text) if text.is_empty() => write!(f, "line {line}: nothing stands where `{HEADER}` belongs"),
-            OtherHeader(text) => write!(f, "line {line}: `{text}` stands where `{HEADER}` belongs"),
-            CarriageReturn => write!(f, "line {line} ends in a carriage return"),
-            NoLineFeed => write!(f, "line {line}: the last line has no line feed"),
-            EmptyLine => write!(f, "line {line} is empty"),
-            FieldCount(1) => write!(f, "line {line} has 1 field, and {FIELDS} belong there"),
-            FieldCount(count) => write!(f, "line {line} has {count} fields, and {FIELDS} belong there"),
-            Field { field, text, .. } if text.is_empty() => write!(f, "line {line}, field {field} is empty"),
-            Field { field, text, words } => write!(f, "line {line}, field {field}: `{text}` {words}"),
+            ByteOrderMark => format!("line {line}: a byte order mark stands before the header"),
+            OtherHeader(text) if text.is_empty() => format!("line {line}: nothing stands where `{HEADER}` belongs"),
+            OtherHeader(text) => format!("line {line}: `{text}` stands where `{HEADER}` belongs"),
+            CarriageReturn => format!("line {line} ends in a carriage return"),
+            NoLineFeed => format!("line {line}: the last line has no line feed"),
+            EmptyLine => format!("line {line} is empty"),
+            FieldCount(1) => format!("line {line} has 1 field, and {FIELDS} belong there"),
+            FieldCount(count) => format!("line {line} has {count} fields, and {FIELDS} belong there"),
+            Field { field, text, .. } if text.is_empty() => format!("line {line}, field {field} is empty"),
+            Field { field, text, words } => format!("line {line}, field {field}: `{text}` {words}"),
         }
     }
 }

@@ -2,6 +2,7 @@
 
 use std::fmt;
 
+use crate::buckets::{self, Bucket};
 use crate::image::{self, ImageRefusal};
 use crate::list::{self, ListRead, ListRefusal};
 use crate::{
@@ -231,6 +232,11 @@ impl Table {
     pub fn iter(&self) -> Items<'_> {
         let (front, slots) = self.rows.split_at(self.order().get() as usize + 2);
         Items::new(&front[1..], slots)
+    }
+
+    /// All buckets, from bucket 0 up, empty ones too.
+    pub fn buckets(&self) -> impl ExactSizeIterator<Item = Bucket<'_>> {
+        buckets::all(&self.rows, self.order().get())
     }
 
     /// All items whose distance from the query is at most the radius and which were weighed on the first day or later;

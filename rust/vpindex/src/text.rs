@@ -88,8 +88,8 @@ impl FromStr for Profile {
     type Err = ParseError;
 
     fn from_str(text: &str) -> Result<Profile, ParseError> {
-        let form = "a profile: four measures such as -0.95 and a code of 32 lowercase hex digits or -, each after one \
-                    space";
+        let form = "a profile: four measures with a point and two digits, such as -0.95, and a code of 32 lowercase hex \
+                    digits or -, each after one space";
         let Some([a, b, c, d, code]) = split(text, ' ') else { return Err(ParseError::Form(form)) };
         let read = [a, b, c, d].map(hundredths);
         let ([Some(a), Some(b), Some(c), Some(d)], Some(code)) = (read, words(code)) else {
