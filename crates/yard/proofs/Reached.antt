@@ -5,10 +5,10 @@ use mathlib.Core.Path.{_≡_, ap, sym, subst, _∙_}
 use mathlib.Core.List.{List, [], _++_}
 use native.Mathlib.Omega.{arith}
 use lib.ListN.{length}
-use Rattle.yard_rules.specs.Conversation.{Areas}
+use Rattle.yard_rules.specs.Conversation.{Areas, afterLines}
 use Rattle.yard_lines.specs.Pieces.{gathering}
 use Rattle.yard_session.specs.declared.Place.{Place}
-use Rattle.yard_session.specs.Fed.{Midway, afterLines, begun, fed, stretch}
+use Rattle.yard_session.specs.Fed.{Midway, begun, fed, stretch}
 use Rattle.yard_session.specs.Matches.{Matches, Takes}
 use Rattle.yard_session.proofs.Feeding.{fed-both}
 use Rattle.yard_session.proofs.Conversation.{stretches-adjoin, stretch-whole}

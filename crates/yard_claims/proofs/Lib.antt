@@ -1,3 +1,5 @@
 -- The theorems of `specs/Claims`.
 pub mod Theorems
 mod Serving
+mod NoShorter
+mod Kept

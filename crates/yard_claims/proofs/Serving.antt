@@ -26,27 +26,25 @@ use Rattle.table_rules.proofs.Fill.{rooms-grow}
 use Rattle.call_rules.specs.Calls.Begin.{fresh}
 use Rattle.history.specs.Model.{Model, modelBegun}
 use Rattle.history.proofs.LongAreas.{Served, fresh-served, add-refusal-alike, remove-refusal-alike, add-served, remove-served, range-refused, nearest-refused, range-alike, nearest-alike, search-served}
+use Rattle.yard_rules.specs.declared.Stage.the-variants as stage
 use Rattle.yard_rules.specs.declared.Command.{Command}
 use Rattle.yard_rules.specs.declared.Command.the-variants as command
-use Rattle.yard_rules.specs.Line.{letterA, letterN, letterR, letterW}
+use Rattle.yard_rules.specs.Line.{letterA, letterF, letterN, letterR, letterW}
 use Rattle.yard_rules.specs.Reply.{replyLine, replyNumbers, addText, removeText, entriesText, searchText}
-use Rattle.yard_rules.specs.Conversation.{Areas, Ample, mostYardOrder, yardSpace, headerRefusal, areasAfter, textAfter}
+use Rattle.yard_rules.specs.Conversation.{Areas, Yard, Ample, LineOutcome, mostYardOrder, yardSpace, headerRefusal, areasAfter, textAfter}
 use Rattle.yard_rules.proofs.Fitting.{CommandFits}
-use Rattle.yard_claims.specs.Claims.{Counts, lineRefusal, modelAfter, searchLines, modelText, firstRefusal}
+use Rattle.yard_claims.specs.Claims.{countsAt, lineRefusal, modelAfter, searchLines, modelText, firstRefusal}
 
 abbrev pub ServedBy : Areas → Model → Type 0
 ServedBy a m = Served (a .table) (a .work) (a .result) m
 
--- the counts of a line's own reply
-unfoldable pub countsAt : Areas → Command → Profile → Counts
-countsAt a (command.Add tag day) p = let r = addReply (a .table) (a .work) tag p day in record { bucket = r .bucket; distances = r .distances }
-countsAt a (command.Remove tag) p = record { bucket = 0; distances = removeReply (a .table) (a .work) tag .distances }
-countsAt a (command.Within radius firstDay) p = record { bucket = 0; distances = rangeAnswer (a .table) p radius firstDay .count }
-countsAt a (command.Nearest k firstDay) p = record { bucket = 0; distances = nearestAnswer (a .table) p k firstDay .count }
-countsAt a command.Other p = record { bucket = 0; distances = 0 }
+-- what stands where lines are calls
+abbrev pub serving : Areas → ℕ → Yard
+serving a n = record { areas = a; stage = stage.Serving; lines = n }
 
 -- a search's text is its number or its entries
-search-text : (letter n : ℕ) (result : List Entry) (a : Answer) → searchText letter (searchReply n a) (resultAfter n result a) ≡ searchLines letter n (a .entries) (a .count)
+search-text : (letter n : ℕ) (result : List Entry) (a : Answer)
+    → searchText letter (searchReply n a) (resultAfter n result a) ≡ searchLines letter n (a .entries) (searchReply n a .distances)
 unfolding searchText searchReply resultAfter searchLines replyNumbers entriesText
 search-text letter zero result a =
     ap (λ (es : List Entry). replyLine letter (0 ∷ length (a .entries) ∷ a .count ∷ []) ++ entriesText es)
@@ -64,11 +62,13 @@ module _ {a : Areas} {m : Model} (s : ServedBy a m) where
   text-served number (command.Within radius firstDay) p =
       let found : Answer = rangeAnswer (a .table) p radius firstDay in
       search-text letterW (rangeRefusal (a .table) (a .result) p radius firstDay) (a .result) found
-      ∙ ap₂ (λ (n : ℕ) (es : List Entry). searchLines letterW n es (found .count)) (range-refused s p radius firstDay) (range-alike (s .matches) p radius firstDay)
+      ∙ ap₂ (λ (n : ℕ) (es : List Entry). searchLines letterW n es (rangeReply (a .table) (a .result) p radius firstDay .distances))
+      (range-refused s p radius firstDay) (range-alike (s .matches) p radius firstDay)
   text-served number (command.Nearest k firstDay) p =
       let found : Answer = nearestAnswer (a .table) p k firstDay in
       search-text letterN (nearestRefusal (a .table) (a .result) p k firstDay) (a .result) found
-      ∙ ap₂ (λ (n : ℕ) (es : List Entry). searchLines letterN n es (found .count)) (nearest-refused s p k firstDay) (nearest-alike (s .matches) p k firstDay)
+      ∙ ap₂ (λ (n : ℕ) (es : List Entry). searchLines letterN n es (nearestReply (a .table) (a .result) p k firstDay .distances))
+      (nearest-refused s p k firstDay) (nearest-alike (s .matches) p k firstDay)
   text-served number command.Other p = refl
 
   pub stays-served : (c : Command) (p : Profile) → CommandFits c p → ServedBy (areasAfter a c p) (modelAfter m c p)
@@ -83,6 +83,22 @@ module _ {a : Areas} {m : Model} (s : ServedBy a m) where
 rows-grow : {j k : ℕ} → j ≤ k → tableRows j ≤ tableRows k
 unfolding tableRows firstSlot
 rows-grow {j} {k} h = omega (arith, rooms-grow {j = suc j} {k = suc k} (omega arith))
+
+-- what the first line leads to, by its refusal, and what stands after it
+abbrev pub firstOutcome : Areas → ℕ → ℕ → ℕ → LineOutcome
+firstOutcome a order metric n =
+    elim n [
+      | zero ↦
+          record {
+            areas = record { table = tableAfterFresh order (yardSpace metric) (a .table); work = a .work; result = a .result };
+            stage = stage.Serving;
+            text = [];
+          }
+      | suc i ↦ record { areas = a; stage = stage.Ended; text = replyLine letterF (suc i ∷ []) }
+    ]
+
+abbrev pub afterFirst : LineOutcome → Yard
+afterFirst o = record { areas = o .areas; stage = o .stage; lines = 1 }
 
 module _ {a : Areas} (ample : Ample a) (order metric : ℕ) where
   pub first-refused : headerRefusal (a .table) order metric ≡ firstRefusal order metric

@@ -11,7 +11,6 @@ use Rattle.metric_rules.specs.declared.Profile.{Profile}
 use Rattle.metric_rules.specs.Validity.{validTag, validMeasures, validDay}
 use Rattle.table_rules.specs.Refusals.{badDay}
 use Rattle.table_rules.specs.Geometry.{room}
-use Rattle.table_rules.specs.Fresh.{tableAfterFresh}
 use Rattle.call_rules.specs.Calls.Begin.{fresh}
 use Rattle.history.specs.Model.{Model, isIn, tagRefusal, itemRefusal, modelBegun}
 use Rattle.yard_rules.specs.declared.Header.{Header}
@@ -21,72 +20,49 @@ use Rattle.yard_rules.specs.declared.Command.the-variants as command
 use Rattle.yard_rules.specs.declared.Stage.the-variants as stage
 use Rattle.yard_rules.specs.Line.{letterF, headerIn, commandIn, profileIn}
 use Rattle.yard_rules.specs.Reply.{replyLine}
-use Rattle.yard_rules.specs.Conversation.{Areas, Ample, LineOutcome, yardSpace, otherText, headerRefusal, headerOutcome, areasAfter, commandOutcome, lineOutcome, after, printed, linesIn, conversation}
+use Rattle.yard_rules.specs.Conversation.{Areas, Ample, LineOutcome, yardSpace, otherText, headerRefusal, headerOutcome, areasAfter, textAfter, commandOutcome, lineOutcome, after, afterLines, printed, linesIn, waiting, conversation}
 use Rattle.yard_rules.proofs.Ended.{ended-prints}
 use Rattle.yard_rules.proofs.Fitting.{command-fits}
-use Rattle.yard_claims.specs.Claims.{Counts, lineRefusal, modelAfter, modelPrinted, modelOpened, modelConversation, EveryConversation, NoAreaRefused}
-use Rattle.yard_claims.proofs.Serving.{ServedBy, countsAt, text-served, stays-served, first-refused, first-served}
-
--- no counts, and a line's counts before those of the lines after it
-none : ℕ → Counts
-none i = record { bucket = 0; distances = 0 }
-
-before : Counts → (ℕ → Counts) → ℕ → Counts
-before first rest zero = first
-before first rest (suc i) = rest i
-
--- a text is the model's with some counts
-abbrev AsModel : List ℕ → ((ℕ → Counts) → List ℕ) → Type 0
-AsModel text modelled = (counts : ℕ → Counts) × (text ≡ modelled counts)
+use Rattle.yard_claims.specs.Claims.{Counts, countsOf, lineRefusal, modelAfter, modelText, modelPrinted, modelOpened, modelConversation, EveryConversation, NoAreaRefused}
+use Rattle.yard_claims.proofs.Serving.{ServedBy, serving, text-served, stays-served, firstOutcome, afterFirst, first-refused, first-served}
+pub use Rattle.yard_claims.proofs.Kept.{every-table-kept}
 
 lines-served : (lines : List (List ℕ)) (a : Areas) (m : Model) (n : ℕ) → ServedBy a m
-    → AsModel (printed (record { areas = a; stage = stage.Serving; lines = n }) lines) (modelPrinted m (suc n) lines)
-unfolding printed after lineOutcome commandOutcome modelPrinted before
-lines-served [] a m n s = (none, refl)
+    → printed (serving a n) lines ≡ modelPrinted m (suc n) lines (countsOf (serving a n) lines)
+unfolding printed after lineOutcome commandOutcome modelPrinted countsOf afterLines
+lines-served [] a m n s = refl
 lines-served (line ∷ lines) a m n s =
     let c : Command = commandIn line in
     let p : Profile = profileIn line in
-    let rest = lines-served lines (areasAfter a c p) (modelAfter m c p) (suc n) (stays-served s c p (command-fits line)) in
-    (before (countsAt a c p) (rest .0), ap₂ _++_ (text-served s (suc n) c p) (rest .1))
+    let here : textAfter a (suc n) c p ≡ modelText m (suc n) c p (countsOf (serving a n) (line ∷ lines) 0) = text-served s (suc n) c p in
+    ap₂ _++_ here (lines-served lines (areasAfter a c p) (modelAfter m c p) (suc n) (stays-served s c p (command-fits line)))
 
 -- the first line: what it leads to and what the model prints, by the header's number
 module _ {a : Areas} (ample : Ample a) (lines : List (List ℕ)) where
   abbrev followed : LineOutcome → List ℕ
-  followed o = o .text ++ printed (record { areas = o .areas; stage = o .stage; lines = 1 }) lines
+  followed o = o .text ++ printed (afterFirst o) lines
 
   ended-as-model : (text : List ℕ) → followed (record { areas = a; stage = stage.Ended; text = text }) ≡ text
   ended-as-model text = ap (λ (t : List ℕ). text ++ t) (ended-prints a 1 lines) ∙ append-nil text
 
-  opened-as-model : (h : Header) → AsModel (followed (headerOutcome a 1 h)) (modelOpened h lines)
+  opened-as-model : (h : Header) → followed (headerOutcome a 1 h) ≡ modelOpened h lines (countsOf (afterFirst (headerOutcome a 1 h)) lines)
   unfolding headerOutcome modelOpened
-  opened-as-model header.Other = (none, ended-as-model (otherText 1))
+  opened-as-model header.Other = ended-as-model (otherText 1)
   opened-as-model (header.Of order metric) =
-      let here = go (headerRefusal (a .table) order metric) refl in
-      (here .0, here .1 ∙ ap (λ (n : ℕ). opened n (here .0)) (first-refused ample order metric))
+      let n = headerRefusal (a .table) order metric in
+      go n refl ∙ ap (λ (i : ℕ). opened i (countsOf (afterFirst (firstOutcome a order metric n)) lines)) (first-refused ample order metric)
     where
-      outcome : ℕ → LineOutcome
-      outcome n =
-          elim n [
-            | zero ↦
-                record {
-                  areas = record { table = tableAfterFresh order (yardSpace metric) (a .table); work = a .work; result = a .result };
-                  stage = stage.Serving;
-                  text = [];
-                }
-            | suc i ↦ record { areas = a; stage = stage.Ended; text = replyLine letterF (suc i ∷ []) }
-          ]
-
       opened : ℕ → (ℕ → Counts) → List ℕ
       opened n counts = elim n [ zero ↦ modelPrinted (modelBegun (fresh order (yardSpace metric))) 2 lines counts | suc i ↦ replyLine letterF (suc i ∷ []) ]
 
-      go : (n : ℕ) → headerRefusal (a .table) order metric ≡ n → AsModel (followed (outcome n)) (opened n)
+      go : (n : ℕ) → headerRefusal (a .table) order metric ≡ n → followed (firstOutcome a order metric n) ≡ opened n (countsOf (afterFirst (firstOutcome a order metric n)) lines)
       go zero e = lines-served lines _ _ 1 (first-served ample order metric e)
-      go (suc n) e = (none, ended-as-model (replyLine letterF (suc n ∷ [])))
+      go (suc n) e = ended-as-model (replyLine letterF (suc n ∷ []))
 
 all-as-model : (a : Areas) → Ample a → (lines : List (List ℕ))
-    → AsModel (printed (record { areas = a; stage = stage.Waiting; lines = 0 }) lines) (modelConversation lines)
-unfolding printed after lineOutcome modelConversation
-all-as-model a ample [] = (none, refl)
+    → printed (waiting a) lines ≡ modelConversation lines (countsOf (waiting a) lines)
+unfolding printed after lineOutcome modelConversation countsOf afterLines
+all-as-model a ample [] = refl
 all-as-model a ample (line ∷ lines) = opened-as-model ample lines (headerIn line)
 
 pub every-conversation : EveryConversation

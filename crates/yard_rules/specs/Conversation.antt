@@ -124,6 +124,11 @@ after y line =
     let outcome = lineOutcome (y .areas) (suc (y .lines)) (y .stage) line in
     record { areas = outcome .areas; stage = outcome .stage; lines = suc (y .lines) }
 
+-- what stands after some lines
+unfoldable pub afterLines : Yard → List (List ℕ) → Yard
+afterLines y [] = y
+afterLines y (line ∷ lines) = afterLines (after y line) lines
+
 -- what some lines print
 unfoldable pub printed : Yard → List (List ℕ) → List ℕ
 printed y [] = []
@@ -144,6 +149,10 @@ firstKept (line ∷ lines) = line ∷ lastKept lines
 unfoldable pub linesIn : List ℕ → List (List ℕ)
 linesIn input = firstKept (parted lineFeed input)
 
+-- what stands before the first line
+abbrev pub waiting : Areas → Yard
+waiting a = record { areas = a; stage = stage.Waiting; lines = 0 }
+
 -- RULES 18: all that the program prints
 unfoldable pub conversation : Areas → List ℕ → List ℕ
-conversation a input = printed (record { areas = a; stage = stage.Waiting; lines = 0 }) (linesIn input)
+conversation a input = printed (waiting a) (linesIn input)

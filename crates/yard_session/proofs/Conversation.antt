@@ -7,11 +7,11 @@ use lib.ListN.{length, take, drop}
 use lib.Seq.{take-all, take-add, drop-drop}
 use Rattle.yard_rules.specs.declared.Stage.{Stage}
 use Rattle.yard_rules.specs.declared.Stage.the-variants as stage
-use Rattle.yard_rules.specs.Conversation.{Areas, Yard, after, printed, linesIn, conversation}
+use Rattle.yard_rules.specs.Conversation.{Areas, Yard, after, afterLines, printed, linesIn, conversation}
 use Rattle.yard_rules.proofs.Ended.{ended-prints}
 use Rattle.yard_lines.specs.Pieces.{Gathering, gathering, gatherings, whole, ended}
 use Rattle.yard_lines.proofs.Whole.{lines-of-pieces}
-use Rattle.yard_session.specs.Fed.{Midway, afterLines, begun, fed, fedText, lastOf, lastLine, endText, piecesText, stretch}
+use Rattle.yard_session.specs.Fed.{Midway, begun, fed, fedText, lastOf, lastLine, endText, piecesText, stretch}
 use Rattle.yard_session.proofs.Feeding.{printed-both, fed-both, text-both}
 
 -- the pieces put end to end

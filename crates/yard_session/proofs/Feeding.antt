@@ -10,12 +10,12 @@ use lib.ListN.{length, take, drop, length-drop}
 use lib.Seq.{take-all}
 use borrow.Author.Tests.{ne-eqb}
 use Rattle.text_rules.specs.Text.{lineFeed}
-use Rattle.yard_rules.specs.Conversation.{Yard, after, lineOutcome, printed}
+use Rattle.yard_rules.specs.Conversation.{Yard, after, afterLines, lineOutcome, printed}
 use Rattle.text_rules.proofs.Parts.{Free}
 use Rattle.yard_lines.specs.Held.{untilFeed}
 use Rattle.yard_lines.specs.Pieces.{Gathering, gathering}
 use Rattle.yard_lines.proofs.Pieces.{feed-after, no-feed}
-use Rattle.yard_session.specs.Fed.{Midway, afterLines, fed, fedText, stretch}
+use Rattle.yard_session.specs.Fed.{Midway, fed, fedText, stretch}
 
 -- lines one after the other
 pub after-both : (y : Yard) (xs ys : List (List ℕ)) → afterLines y (xs ++ ys) ≡ afterLines (afterLines y xs) ys

@@ -13,7 +13,7 @@ use borrow.Author.Tests.{ne-eqb}
 use Rattle.yard_rules.specs.declared.Stage.{Stage}
 use Rattle.yard_rules.specs.declared.Stage.the-variants as stage
 use Rattle.text_rules.specs.Text.{lineFeed}
-use Rattle.yard_rules.specs.Conversation.{Areas, Yard, LineOutcome, lineOutcome, after, printed}
+use Rattle.yard_rules.specs.Conversation.{Areas, Yard, LineOutcome, lineOutcome, after, afterLines, printed}
 use Rattle.text_rules.proofs.Parts.{Free}
 use Rattle.yard_lines.specs.declared.Held.{Held}
 use Rattle.yard_lines.specs.declared.Gathered.{Gathered}
@@ -25,7 +25,7 @@ use Rattle.yard_step.specs.declared.Stepped.{Stepped}
 use Rattle.yard_step.specs.StepLeaves.{StepLeaves}
 use Rattle.yard_step.proofs.Longer.{long-outcome}
 use Rattle.yard_session.specs.declared.Place.{Place}
-use Rattle.yard_session.specs.Fed.{Midway, afterLines, begun, fed, fedText, lastOf, lastLine, endText, stretch}
+use Rattle.yard_session.specs.Fed.{Midway, begun, fed, fedText, lastOf, lastLine, endText, stretch}
 use Rattle.yard_session.specs.Matches.{AnsweredAs, Matches, Takes, Ends}
 use Rattle.yard_session.proofs.Feeding.{fed-both, text-both, fed-free, text-free, fed-feed, text-feed, stretch-feed, stretch-end}
 

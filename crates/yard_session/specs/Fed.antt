@@ -5,13 +5,8 @@ use mathlib.Core.List.{List, [], _∷_, _++_}
 use lib.ListN.{take, drop}
 use Rattle.yard_rules.specs.declared.Stage.{Stage}
 use Rattle.yard_rules.specs.declared.Stage.the-variants as stage
-use Rattle.yard_rules.specs.Conversation.{Areas, Yard, after, printed}
+use Rattle.yard_rules.specs.Conversation.{Areas, Yard, afterLines, printed, waiting}
 use Rattle.yard_lines.specs.Pieces.{gathering, someLeft}
-
--- what stands after some lines
-unfoldable pub afterLines : Yard → List (List ℕ) → Yard
-afterLines y [] = y
-afterLines y (line ∷ lines) = afterLines (after y line) lines
 
 -- between two bytes of the input: what stands after the lines that have ended, and the bytes of the one that has not
 pub record Midway : Type 0 where
@@ -19,7 +14,7 @@ pub record Midway : Type 0 where
   pub pending : List ℕ
 
 unfoldable pub begun : Areas → Midway
-begun a = record { yard = record { areas = a; stage = stage.Waiting; lines = 0 }; pending = [] }
+begun a = record { yard = waiting a; pending = [] }
 
 -- some bytes more: a line feed ends the pending line, and any other byte goes to it (`gathering`)
 unfoldable pub fed : Midway → List ℕ → Midway

@@ -4,11 +4,11 @@ use mathlib.Core.Path.{_≡_}
 use mathlib.Core.List.{List}
 use Rattle.yard_rules.specs.declared.Stage.{Stage}
 use Rattle.yard_rules.specs.declared.Stage.the-variants as stage
-use Rattle.yard_rules.specs.Conversation.{Areas, lineOutcome}
+use Rattle.yard_rules.specs.Conversation.{Areas, lineOutcome, afterLines}
 use Rattle.yard_lines.specs.Held.{Holds}
 use Rattle.yard_reply.specs.Put.{Puts}
 use Rattle.yard_session.specs.declared.Place.{Place}
-use Rattle.yard_session.specs.Fed.{Midway, fed, fedText, endText, lastLine, afterLines}
+use Rattle.yard_session.specs.Fed.{Midway, fed, fedText, endText, lastLine}
 
 -- one line is answered as another is, whatever came before it
 abbrev pub AnsweredAs : List ℕ → List ℕ → Type 0
