@@ -29,6 +29,7 @@ use Rattle.call_rules.specs.Calls.Begin.{fresh}
 use Rattle.history.specs.Model.{Item, Model, with, without, canChange, tagRefusal, itemRefusal, addRefusalOf, removeRefusalOf, afterUnless, scanned, modelRange, modelNearest, fits, questionRefusal, askRefusal, modelBegun}
 use Rattle.history.proofs.RefinesItems.{Matches, live-total}
 pub use Rattle.history.proofs.RefinesItems.{range-alike, nearest-alike}
+pub use Rattle.history.proofs.RefinesRefusals.{begun-alike}
 use Rattle.history.proofs.RefinesRefusals.{can-read, add-refusal, remove-refusal, range-refusal, nearest-refusal}
 use Rattle.history.proofs.RefinesReading.{can-go-on}
 use Rattle.history.proofs.RefinesShown.{add-number, remove-number}

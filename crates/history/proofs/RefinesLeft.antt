@@ -18,11 +18,11 @@ use Rattle.list_rules.specs.ReadList.{Reading, stopped, oneMore, tableAfterRead
 use Rattle.call_rules.specs.Calls.{Begin, beginReply, tableBegun, Change, tableChanged, Call, Areas, tableAfter}
 use Rattle.call_rules.specs.Calls.Change.{add, remove, readList}
 use Rattle.call_rules.specs.Calls.Call.{begin, change, ask, write}
-use Rattle.history.specs.Trace.{Step, State, overlaid, leftBy, beginShown, stateAfter}
+use Rattle.history.specs.Trace.{Step, State, Shown, overlaid, leftBy, beginShown, stateAfter}
 use Rattle.history.specs.Model.{Model, ListAnswered, lengthsOf, canChange, tagRefusal, itemRefusal, addRefusalOf, removeRefusalOf, afterUnless, stopsAt, oneMoreAdded, modelBegun, beginAnswer, changeAnswer, answer, answerAt}
 use Rattle.history.specs.History.{IsBegin, IsChange, IsCall}
 use Rattle.history.proofs.RefinesItems.{Matches}
-use Rattle.history.proofs.RefinesRefusals.{changeable, long-accepts, add-refusal, remove-refusal}
+use Rattle.history.proofs.RefinesRefusals.{changeable, long-accepts, add-refusal, remove-refusal, begun-alike}
 use Rattle.history.proofs.RefinesReading.{Reads, reads, reads-matches}
 use Rattle.history.proofs.RefinesReading.Reads.{stops, takesIn}
 use Rattle.history.proofs.RefinesOwn.{matches-own}
@@ -79,7 +79,9 @@ module _ {left : Table} {m : Model} (ok : Matches left m) where
   after-begin : (b : Begin) → IsBegin b → (area : Table)
       → Matches (leftBy left (tableBegun b (overlaid left area))) (beginAnswer m b (length (overlaid left area)) .model)
   unfolding beginAnswer afterUnless leftBy
-  after-begin b is area = go (beginShown b (beginReply b (length (overlaid left area))) .refusal) refl
+  after-begin b is area =
+      subst (λ (s : Shown). Matches (leftBy left (tableBegun b (overlaid left area))) (afterUnless (s .refusal) m (modelBegun b))) (begun-alike b (length (overlaid left area)))
+      (go (beginShown b (beginReply b (length (overlaid left area))) .refusal) refl)
     where
       go : (n : ℕ) → beginShown b (beginReply b (length (overlaid left area))) .refusal ≡ n
           → Matches (leftBy left (tableBegun b (overlaid left area))) (afterUnless n m (modelBegun b))

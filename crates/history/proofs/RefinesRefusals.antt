@@ -1,34 +1,40 @@
 -- Refusals alike: a table that matches the model, or one too short for the model's order, refuses a call by the number by which the model does.
--- A sound table that is long enough is never stopped by 24, and a shorter one is stopped by 23 whatever its rows hold.
-use Prim.Native.Nat.{ℕ, _/_, _<_}
+-- A sound table that is long enough is never stopped by 24, and a shorter one is stopped by 23 whatever its rows hold. Of fresh, test by test.
+use Prim.Native.Nat.{ℕ, suc, _+_, _/_, _^_, _<_}
 use mathlib.Core.Path.{_≡_, refl, sym, _∙_, ap, ap₂}
 use mathlib.Core.Logic.{_⊎_, inl, inr}
-use mathlib.Core.Bool.{Bool, true, false, _&&_, false≢true}
+use mathlib.Core.Bool.{Bool, true, false, not, _&&_, _||_, false≢true}
 use mathlib.Core.List.{List, [], _∷_, map}
 use mathlib.Core.Option.{Option, none, some}
 use lib.IntN.{ℤ}
-use lib.Dec.{leb, eqb}
+use lib.Dec.{leb, ltb, eqb}
 use lib.ListN.{length}
 use native.Mathlib.Omega.{arith}
-use borrow.Author.Tests.{le-leb, lt-leb}
-use Rattle.lists.specs.Lists.{every}
+use borrow.Author.Tests.{ltb-true, ltb-false, le-leb, lt-leb}
+use Rattle.lists.specs.Lists.{every, any}
 use Rattle.lists.proofs.Tests.{and-first, and-second, and-pass, every-map}
 use Rattle.metric_rules.specs.declared.Profile.{Profile}
 use Rattle.metric_rules.specs.Row.{Row}
 use Rattle.metric_rules.specs.Validity.{validTag, validMeasures, validDay}
+use Rattle.metric_rules.specs.declared.Space.{Space}
 use Rattle.metric_rules.specs.Distance.{validMetric, validWeights}
 use Rattle.search_rules.specs.Range.{Entry}
-use Rattle.table_rules.specs.Refusals.{badTag, badMeasure, badDay, noCount, noRoom, alreadyLive, notLive, full, shortArea, badTable, unless, when, orElse}
+use Rattle.table_rules.specs.Refusals.{badTag, badMeasure, badOrder, badMetric, badWeight, badDay, noCount, noRoom, alreadyLive, notLive, full, shortArea, badTable, unless, when, orElse}
 use Rattle.table_rules.specs.Geometry.{validOrder, room, tableRows, workRows, firstSlot}
 use Rattle.table_rules.specs.Table.{Table, orderOf, tableSpace, builtOf, liveOf, liveTotal}
 use Rattle.table_rules.specs.Checks.{sizesPass, marksPass, frameRefusal, headerPasses, readRefusal, changeRefusal}
+use Rattle.table_rules.specs.Fresh.{freshRefusal}
 use Rattle.table_rules.specs.Add.{addRefusal}
 use Rattle.table_rules.specs.Remove.{removeRefusal}
 use Rattle.table_rules.specs.LookUp.{Place, find, isLiveTag, liveTagRefusal, lookUpRefusal}
 use Rattle.table_rules.specs.Search.{fitRefusal, rangeRefusal, nearestRefusal}
 use Rattle.dues_rules.specs.Listed.{weightsRefusal, duesRefusal}
+use Rattle.call_rules.specs.Calls.{Begin, beginReply}
+use Rattle.call_rules.specs.Calls.Begin.{fresh, load, restore}
 use Rattle.call_rules.specs.Calls.Ask.{lookUp, range, nearest, dues, rangeBatch}
-use Rattle.history.specs.Model.{Item, itemOf, Model, withTag, isIn, canRead, canChange, tagRefusal, itemRefusal, addRefusalOf, removeRefusalOf, fits, questionRefusal, askRefusal}
+use Rattle.history.specs.Trace.{beginShown, shows}
+use Rattle.history.specs.Trace.Payload.{bare}
+use Rattle.history.specs.Model.{Item, itemOf, Model, withTag, isIn, canRead, canChange, tagRefusal, itemRefusal, addRefusalOf, removeRefusalOf, fits, questionRefusal, askRefusal, freshRefusalOf, begunShown}
 use Rattle.history.proofs.Invariant.{Invariant}
 use Rattle.history.proofs.RefinesFinding.{rowFound}
 use Rattle.history.proofs.RefinesItems.{Matches, range-alike, nearest-alike, found-items, weights-alike, live-total, ranges-alike}
@@ -210,3 +216,42 @@ module _ (m : Model) (t : Table) where
         (λ e. ap (λ (b : Bool). orElse (queriesRefusal queries) (unless b noRoom 0))
         (sym (every-map (λ a. a .entries) (λ es. leb (length es) (length result / length queries)) (λ a. leb (length (a .entries)) (length result / length queries)) (λ a. refl) (singleAnswers t queries))
         ∙ ap (every (λ es. leb (length es) (length result / length queries))) (ranges-alike (readable lendable e) queries)))
+
+-- a test that asks for the most and one that is met above it stop a call alike
+most-above : (n most : ℕ) → leb n most ≡ not (ltb most n)
+most-above n most = go (ltb most n) refl
+  where
+    go : (above : Bool) → ltb most n ≡ above → leb n most ≡ not above
+    go true e = lt-leb n most (ltb-true most n e)
+    go false e = le-leb n most (ltb-false most n e)
+
+all-any : (most : ℕ) (ns : List ℕ) → every (λ n. leb n most) ns ≡ not (any (λ n. ltb most n) ns)
+unfolding every any
+all-any most [] = refl
+all-any most (n ∷ ns) = ap₂ _&&_ (most-above n most) (all-any most ns) ∙ go (ltb most n)
+  where
+    go : (above : Bool) → (not above && not (any (λ n. ltb most n) ns)) ≡ not (above || any (λ n. ltb most n) ns)
+    go true = refl
+    go false = refl
+
+stops-alike : {passes : Bool} (met : Bool) (number : ℕ) {rest after : ℕ} → passes ≡ not met → rest ≡ after → unless passes number rest ≡ when met number after
+stops-alike true number {rest} e f = ap (λ (b : Bool). unless b number rest) e
+stops-alike false number {rest} e f = ap (λ (b : Bool). unless b number rest) e ∙ f
+
+fresh-refusal : (rows order : ℕ) (space : Space) → freshRefusal rows order space ≡ freshRefusalOf rows order space
+unfolding freshRefusal freshRefusalOf validOrder validMetric validWeights tableRows firstSlot room
+fresh-refusal rows order space =
+    let next : suc order ≡ order + 1 = omega arith in
+    let ordered : (leb 0 order && leb order 12) ≡ not (ltb 12 order) = ap (λ (b : Bool). b && leb order 12) (le-leb 0 order (omega arith)) ∙ most-above order 12 in
+    stops-alike (ltb 12 order) badOrder ordered
+    (stops-alike (ltb 2 (space .metric)) badMetric (most-above (space .metric) 2)
+    (stops-alike (any (λ w. ltb 100 w) (space .weights .each)) badWeight (all-any 100 (space .weights .each))
+    (stops-alike (ltb rows (order + 1 + 2 ^ (order + 1))) shortArea (ap (λ (n : ℕ). leb (order + 1 + 2 ^ n) rows) next ∙ most-above (order + 1 + 2 ^ (order + 1)) rows)
+    refl)))
+
+-- a call that begins a table, lent so many rows
+pub begun-alike : (b : Begin) (rows : ℕ) → beginShown b (beginReply b rows) ≡ begunShown b rows
+unfolding beginShown begunShown
+begun-alike (fresh order space) rows = ap (λ (n : ℕ). shows n bare) (fresh-refusal rows order space)
+begun-alike (load image) rows = refl
+begun-alike (restore states name) rows = refl

@@ -38,7 +38,7 @@ use Rattle.history.specs.Model.{Item, itemOf, Model, AskLengths, askLeng
 use Rattle.history.specs.History.{IsChange, IsCall}
 use Rattle.history.proofs.RefinesFinding.{rowFound}
 use Rattle.history.proofs.RefinesItems.{Matches, range-alike, nearest-alike, found-items, weights-alike, ranges-alike}
-use Rattle.history.proofs.RefinesRefusals.{Lendable, readable, long-accepts, add-refusal, remove-refusal, look-up-refusal, range-refusal, nearest-refusal, dues-refusal, batch-refusal}
+use Rattle.history.proofs.RefinesRefusals.{Lendable, readable, long-accepts, add-refusal, remove-refusal, look-up-refusal, range-refusal, nearest-refusal, dues-refusal, batch-refusal, begun-alike}
 use Rattle.history.proofs.RefinesBatch.{batch-shows}
 use Rattle.history.proofs.RefinesLots.{shows-draft, lots-refusal, summaries-alike, listing-alike}
 use Rattle.history.proofs.RefinesReading.{reads, reads-alike}
@@ -175,7 +175,7 @@ module _ (m : Model) (t : Table) (lendable : Lendable t m) where
   -- what each call shows; a call that begins a table reads nothing of it but its length
   pub shown-alike : (c : Call) → IsCall c → (areas : Areas c) → shown c (replyTo c t areas) (areasAfter c t areas) ≡ answer m c (length t) (lengthsOf c areas) .shows
   unfolding shown answer beginAnswer
-  shown-alike (begin b) is areas = refl
+  shown-alike (begin b) is areas = begun-alike b (length t)
   shown-alike (change c) is work = change-shown c is work
   shown-alike (ask q) is areas = ask-shown q areas
   shown-alike (write w) is bytes = refl

@@ -25,7 +25,7 @@ use Rattle.history.proofs.Amortized.{below, below-zero, below-changed, 
 use Rattle.history.proofs.AmortizedMoved.{moved-only, moved-empties, built-moved, live-moved}
 
 -- of two tests the second fails
-second-fails : (a : Bool) {b : Bool} → b ≡ false → (a && b) ≡ false
+pub second-fails : (a : Bool) {b : Bool} → b ≡ false → (a && b) ≡ false
 second-fails true e = e
 second-fails false e = refl
 

@@ -25,7 +25,7 @@ use Rattle.history.proofs.Ordering.{range-ascends, answer-ascends, mode
 pub use Rattle.history.proofs.RefinesStep.{any-area}
 pub use Rattle.history.proofs.BuildsKeep.{builds-keep-items}
 pub use Rattle.history.proofs.ImagesBack.{accepted-gives-back}
-pub use Rattle.history.proofs.StatesBack.{save-keeps}
+pub use Rattle.history.proofs.StatesBack.{save-keeps, restore-loads}
 pub use Rattle.history.proofs.Independence.{independent-of-history}
 pub use Rattle.history.proofs.CountingHistory.{binary-counter}
 pub use Rattle.history.proofs.Naming.{replies-bucket}

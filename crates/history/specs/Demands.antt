@@ -36,7 +36,7 @@ use Rattle.lots_rules.specs.Claims.{Lots, DraftsLots, OneEach, OneLot}
 use Rattle.history.specs.Model.{Model, itemOf, modelRange, modelNearest, betweenItems, modelLots}
 use Rattle.history.specs.Trace.{ownRows, overlaid, stateAfter}
 use Rattle.history.specs.History.{before, opening, History, finalState, finalModel}
-use Rattle.history.specs.Images.{imageSize, LoadsBack, GivesBack, RestoresBack, KeepsStates}
+use Rattle.history.specs.Images.{imageSize, LoadsBack, GivesBack, RestoresBack, KeepsStates, LoadsPart}
 use Rattle.history.specs.Represents.{Holds, NamesBuckets}
 use Rattle.history.specs.Reports.{ReportsBuilds}
 use Rattle.history.specs.Trees.{TreeFacts}
@@ -124,7 +124,8 @@ AnyArea = (left area : Table) → take (length (ownRows left)) area ≡ take (le
 -- Demands 2 and 3, one claim over every list of calls on one table, refused ones and herd lists read too, that an accepted fresh, load or restore began (`History`):
 -- at each call table and reference model show the same; after the list the table is a valid one of the published method (which buckets a call builds is
 -- settled by the definitions that `tableAfter` joins), it holds the model's items, range and nearest answer as a scan of them, and all rebuilds together
--- keep within 4·T·(T+1)·A + 11·T·R distances.
+-- keep within 4·T·(T+1)·A + 11·T·R distances. The replies of load and restore, which read nothing of the table but its length, the model has from
+-- the definitions of the calls: of these more is claimed from `WrittenLoads` on, and load's checks before the trees and its numbers are settled by its definition.
 -- Theorem: `every-list`
 abbrev pub EveryList : Type 0
 EveryList = (h : History) → Holds h
@@ -163,6 +164,12 @@ SavedRestores =
 -- Theorem: `save-keeps`
 abbrev pub SaveKeeps : Type 0
 SaveKeeps = (t : Table) (states : List ℕ) (name : ℕ) → KeepsStates t states name
+
+-- W7 (RULES 19.6 to 19.8), and of every restore, whoever wrote the states: it is refused by 34, 35 or 7 as the name and its part say, or else it is a load of exactly the
+-- image in the part, of whatever form: the same refusal and slot or none, and the same table.
+-- Theorem: `restore-loads`
+abbrev pub RestoreLoads : Type 0
+RestoreLoads = (states : List ℕ) (name : ℕ) (other : Table) → LoadsPart states name other
 
 -- RULES 17.5, and whatever bytes of the newest form are handed to load: they are accepted only if writing the loaded table, into any areas that are long
 -- enough, gives them back.

@@ -1,18 +1,18 @@
 -- RULES 17.5, demand 2 on images, of writing and loading, saving and restoring as calls, each lent any areas that are long enough.
-use Prim.Native.Nat.{ℕ, _+_, _≤_}
+use Prim.Native.Nat.{ℕ, _+_, _≤_, _<_}
 use mathlib.Core.Path.{_≡_}
-use mathlib.Core.Bool.{true}
+use mathlib.Core.Bool.{true, false}
 use mathlib.Core.List.{List, map}
 use lib.ListN.{take, drop, length}
 use lib.Dec.{leb}
 use Rattle.lists.specs.Lists.{total}
-use Rattle.table_rules.specs.Refusals.{shortArea, unless}
+use Rattle.table_rules.specs.Refusals.{badLength, shortArea, unless}
 use Rattle.table_rules.specs.Geometry.{bucketsOf, tableRows}
 use Rattle.table_rules.specs.Table.{Table, orderOf, builtOf}
 use Rattle.image_rules.specs.declared.Written.{Written}
 use Rattle.image_rules.specs.Bytes.{writtenForm, imageLength}
 use Rattle.image_rules.specs.Write.{imageOf}
-use Rattle.state_rules.specs.Parts.{validName, partOf, leftOver, lengthBytes}
+use Rattle.state_rules.specs.Parts.{badName, notSaved, validName, partBytes, partOf, leftOver, lengthBytes, savedLength, savedImage}
 use Rattle.call_rules.specs.Calls.{beginReply, tableBegun, Write, replyTo, areasAfter}
 use Rattle.call_rules.specs.Calls.Begin.{load, restore}
 use Rattle.call_rules.specs.Calls.Call.{write}
@@ -67,3 +67,20 @@ pub record KeepsStates (t : Table) (states : List ℕ) (name : ℕ) : Type 0 whe
       drop (lengthBytes + length (imageOf t)) (partOf (areasAfter (write (Write.save name)) t states) name)
       ≡ drop (lengthBytes + length (imageOf t)) (partOf states name)
   pub unused : leftOver (areasAfter (write (Write.save name)) t states) ≡ leftOver states
+
+-- RULES 19.6, 14.2: a restore into `other` is refused by a number that has no slot, and leaves the table as it was
+pub record RefusesRestore (states : List ℕ) (name : ℕ) (other : Table) (number : ℕ) : Type 0 where
+  pub replied : beginReply (restore states name) (length other) ≡ record { refusal = number; slot = 0 }
+  pub left : tableBegun (restore states name) other ≡ other
+
+-- RULES 19.6, 19.7, a restore from any states, with p bytes to a part, into `other`: 34 for a name outside 1 to 8; 35 for a part under four bytes, and for one with a
+-- length of 0; 7 for a length above p - 4; else the reply and the table after it are those of a load of the image in the part, of exactly as many bytes as the length says
+pub record LoadsPart (states : List ℕ) (name : ℕ) (other : Table) : Type 0 where
+  pub unnamed : validName name ≡ false → RefusesRestore states name other badName
+  pub short : validName name ≡ true → partBytes (length states) < lengthBytes → RefusesRestore states name other notSaved
+  pub none : validName name ≡ true → savedLength (partOf states name) ≡ 0 → RefusesRestore states name other notSaved
+  pub past : validName name ≡ true → lengthBytes ≤ partBytes (length states) → partBytes (length states) < lengthBytes + savedLength (partOf states name)
+      → RefusesRestore states name other badLength
+  pub loads : validName name ≡ true → 0 < savedLength (partOf states name) → lengthBytes + savedLength (partOf states name) ≤ partBytes (length states)
+      → (beginReply (restore states name) (length other) ≡ beginReply (load (savedImage (partOf states name))) (length other))
+      × (tableBegun (restore states name) other ≡ tableBegun (load (savedImage (partOf states name))) other)

@@ -1,20 +1,20 @@
 -- RULES 16, the reference model: an order, a metric, four weights and a list of items. It is fed the calls' arguments, a load's image, a restore's states and a herd list
 -- too, and the lengths of the lent areas, but never an answer or what the table holds.
-use Prim.Native.Nat.{ℕ, zero, suc, _-_, _/_}
+use Prim.Native.Nat.{ℕ, zero, suc, _+_, _-_, _/_, _^_}
 use mathlib.Core.Bool.{Bool, true, false, not, _&&_}
 use mathlib.Core.List.{List, [], _∷_, map, _++_, flatten}
 use mathlib.Core.Option.{Option}
 use lib.IntN.{ℤ}
 use lib.ListN.{length, take, replicate}
-use lib.Dec.{leb, eqb}
-use Rattle.lists.specs.Lists.{select, total, every}
+use lib.Dec.{leb, ltb, eqb}
+use Rattle.lists.specs.Lists.{select, total, every, any}
 use Rattle.metric_rules.specs.declared.Profile.{Profile}
 use Rattle.metric_rules.specs.Row.{Row, tagOf, profileOf, dayOf, measure, thresholdOf}
 use Rattle.metric_rules.specs.Validity.{validTag, validMeasures, validDay}
 use Rattle.metric_rules.specs.declared.Space.{Space}
 use Rattle.metric_rules.specs.Distance.{distance}
 use Rattle.search_rules.specs.Range.{Entry, entry, entryDistance, ordered}
-use Rattle.table_rules.specs.Refusals.{badTag, badMeasure, badDay, noCount, noRoom, alreadyLive, notLive, full, shortArea, unless, when, orElse}
+use Rattle.table_rules.specs.Refusals.{badTag, badMeasure, badOrder, badMetric, noCount, noRoom, alreadyLive, notLive, full, shortArea, badWeight, badDay, unless, when, orElse}
 use Rattle.table_rules.specs.Geometry.{room, tableRows, workRows}
 use Rattle.table_rules.specs.LookUp.{noProfile}
 use Rattle.image_rules.specs.Read.{orderIn, spaceIn}
@@ -262,9 +262,26 @@ modelBegun (fresh order space) = record { order = order; space = space; items = 
 modelBegun (load image) = imageModel image
 modelBegun (restore states name) = imageModel (savedImage (partOf states name))
 
+-- RULES 7.2, 14.4, fresh, by figures of the model's own: 3 for an order above 12, 4 for a metric above 2, 32 for a weight above 100, 23 for fewer rows than T + 1 + 2^(T+1)
+unfoldable pub freshRefusalOf : ℕ → ℕ → Space → ℕ
+freshRefusalOf rows order space =
+    when (ltb 12 order) badOrder
+    (when (ltb 2 (space .metric)) badMetric
+    (when (any (λ w. ltb 100 w) (space .weights .each)) badWeight
+    (when (ltb rows (order + 1 + 2 ^ (order + 1))) shortArea
+    0)))
+
+-- RULES 16.3, what a call that begins a table shows. Fresh: the model's own refusal. Load and restore read nothing of the table but its length, and the model has their
+-- replies from the definitions of the calls: these two are alike by definition. What is claimed of their replies stands in Demands: `WrittenLoads`, `AcceptedGivesBack`,
+-- `AcceptsTrees` and `OlderTranslates` of load, `SavedRestores` and `RestoreLoads` of restore
+unfoldable pub begunShown : Begin → ℕ → Shown
+begunShown (fresh order space) rows = shows (freshRefusalOf rows order space) bare
+begunShown (load image) rows = beginShown (load image) (beginReply (load image) rows)
+begunShown (restore states name) rows = beginShown (restore states name) (beginReply (restore states name) rows)
+
 unfoldable pub beginAnswer : Model → Begin → ℕ → Answered
 beginAnswer m b rows =
-    let s = beginShown b (beginReply b rows) in
+    let s = begunShown b rows in
     record { model = afterUnless (s .refusal) m (modelBegun b); shows = s }
 
 unfoldable pub changeAnswer : Model → Change → ℕ → ℕ → Answered

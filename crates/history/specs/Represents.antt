@@ -76,7 +76,7 @@ unfoldable pub rebuildBound : ℕ → Sums → ℕ
 rebuildBound order sums = 4 * order * (order + 1) * sums .adds + 11 * order * sums .removals
 
 -- RULES 17.6, 17.7, demand 3: at each call table and model show the same; after the list the table represents the model, and all rebuilds since the
--- last fresh or load keep within the bound, of the order that the calls set
+-- last fresh, load or restore keep within the bound, of the order that the calls set
 pub record Holds (h : History) : Type 0 where
   pub traces : trace (before (h .initial)) (steps h) ≡ modelTrace blankModel (steps h)
   pub represents : Represents (finalState h .table) (finalModel h)

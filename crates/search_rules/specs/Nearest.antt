@@ -30,7 +30,7 @@ unfoldable pub opens : ℕ → (ℕ → Bool) → List Entry → Bool
 unfolding worst
 opens k enters kept = ltb (length kept) k || enters (worst kept)
 
--- `reports` tells which slots' items may be reported: those that are live
+-- `reports` tells which slots' items may be reported (RULES 11.2)
 module _ (dist : Profile → Profile → ℕ) (query : Profile) (reports : Row → Bool) (k : ℕ) where
   -- RULES 11.2: the slot's own item is taken in where it may be reported, and its distance is counted, dead or not
   unfoldable pub taken : Tally → Row → Tally

@@ -75,7 +75,7 @@ module _ (dist : Profile → Profile → ℕ) (query : Profile) where
   unfolding entry toQuery tagOf
   entryOf row = entry (tagOf row) (toQuery row)
 
-  -- `reports` tells which slots' items may be reported: those that are live
+  -- `reports` tells which slots' items may be reported (RULES 11.2)
   module _ (reports : Row → Bool) (radius : ℕ) where
     -- RULES 11.5: such an item is reported if d ≤ r
     unfoldable pub isHit : Row → Bool

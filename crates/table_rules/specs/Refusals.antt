@@ -22,7 +22,7 @@ badMetric = 4
 abbrev pub noCount : ℕ
 noCount = 5
 
--- an area too short for the result: fewer entries than the reply, fewer bytes than the image or the snapshot, fewer numbers than tags
+-- an area too short for the result: fewer entries than the reply, fewer bytes than the image or the snapshot, fewer numbers than tags, fewer entries than radii or live items
 abbrev pub noRoom : ℕ
 noRoom = 6
 
@@ -50,7 +50,7 @@ full = 22
 abbrev pub shortArea : ℕ
 shortArea = 23
 
--- order, metric, weights or sizes of a lent table, or sizes of an image, break the rules; in add and remove also the marks of a lent bucket
+-- order, metric, weights or sizes of a lent table, or sizes of an image, break the rules; in add, remove, a herd list and lots also the marks of a lent table
 abbrev pub badTable : ℕ
 badTable = 24
 

@@ -26,9 +26,10 @@ use Rattle.text_rules.specs.Text.{space, partsIn, numeral}
 use Rattle.text_rules.specs.Fields.{isTag}
 use Rattle.text_rules.proofs.Digits.{numeral-below}
 use Rattle.call_rules.specs.Calls.Begin.{fresh}
-use Rattle.history.specs.Trace.{Step, State, ownRows, overlaid, leftBy, beginShown, shown, stateAfter, shownAt, stateAfterAll}
+use Rattle.history.specs.Trace.{Step, State, Shown, ownRows, overlaid, leftBy, beginShown, shown, stateAfter, shownAt, stateAfterAll}
 use Rattle.history.specs.Model.{Model, with, without, canRead, canChange, tagRefusal, itemRefusal, addRefusalOf, removeRefusalOf, afterUnless, modelBegun, beginAnswer, changeAnswer, answer, answerAt, modelAfterAll}
 use Rattle.history.specs.History.{IsBegin, IsCall, before, blankModel, opening, History, steps, finalState, finalModel}
+use Rattle.history.proofs.LongAreas.{begun-alike}
 use Rattle.history.proofs.Theorems.{any-area}
 use Rattle.yard_rules.specs.declared.Header.{Header}
 use Rattle.yard_rules.specs.declared.Header.the-variants as header
@@ -221,7 +222,9 @@ module _ {a : Areas} (ample : Ample a) (first : List ℕ) (order metric : ℕ) (
 
   first-model : answerAt blankModel opened .model ≡ modelBegun (fresh order (yardSpace metric))
   unfolding answerAt answer beginAnswer opening beginShown afterUnless
-  first-model = ap (λ (n : ℕ). afterUnless n blankModel (modelBegun (fresh order (yardSpace metric)))) fresh-accepted
+  first-model =
+      let b = fresh order (yardSpace metric) in
+      ap (λ (n : ℕ). afterUnless n blankModel (modelBegun b)) (ap (λ (s : Shown). s .refusal) (sym (begun-alike b (length (a .table)))) ∙ fresh-accepted)
 
   listed : List (List ℕ) → History
   listed lines =
