@@ -1,4 +1,4 @@
-// Looks up what the page's data has, and draws it. Every answer there is a proved call's: nothing is worked out here.
+// Looks up what the page's data has, and draws it: no distance, no lot and no dues are worked out here.
 
 const herd = JSON.parse(document.getElementById("herd").textContent);
 const items = herd.items.map(([tag, day, kg, hip, girth, gain, code, dues]) =>

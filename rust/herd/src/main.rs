@@ -1,5 +1,5 @@
-//! `herd`: herd images made, filled, asked and shown, for the people beside the crate. Every answer is that of a proved
-//! call of `vpindex`; what is here reads arguments and files, and writes what was answered.
+//! `herd`: herd images made, filled, asked and shown, for the people beside the crate. Searches, lots, dues and whether an
+//! image is accepted are proved calls of `vpindex`; what is here reads arguments and files, and writes what was answered.
 //!
 //! The status is 0, 1 where something was refused, 2 for wrong use.
 

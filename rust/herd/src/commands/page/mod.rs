@@ -1,4 +1,4 @@
-//! A herd as one page. Every answer on it is asked of a proved call here; its script looks up and draws.
+//! A herd as one page. Lots, dues and nearest on it are asked of proved calls here; its script looks up and draws.
 
 mod radii;
 
