@@ -28,17 +28,19 @@ use Rattle.table_rules.proofs.Chains.{unless-zero, when-zero}
 use Rattle.table_rules.proofs.Views.{same-order, same-space}
 use Rattle.table_rules.proofs.Changes.{fresh-order, fresh-space}
 use Rattle.table_rules.proofs.Live.{allLive}
-use Rattle.image_rules.specs.Load.{loadRefusal, loadedTable, tableAfterLoad}
+use Rattle.image_rules.specs.declared.Loaded.{Loaded}
+use Rattle.image_rules.specs.Load.{orLoaded, loadRefusal, loadedTable, tableAfterLoad}
 use Rattle.image_rules.proofs.Accepting.{accepted}
 use Rattle.image_rules.proofs.ReadTests.{reads-live}
 use Rattle.image_rules.proofs.LoadedTable.{loaded, loaded-reads}
 use Rattle.state_rules.specs.Parts.{partOf, savedImage}
-use Rattle.state_rules.specs.Restore.{restoreRefusal}
+use Rattle.state_rules.specs.Restore.{nameRefusal, restoreReply, restoreRefusal, tableAfterRestore}
 use Rattle.state_rules.proofs.Restored.{restored, restore-left, image-all}
 use Rattle.call_rules.specs.Calls.{Begin, beginReply, tableBegun}
 use Rattle.call_rules.specs.Calls.Begin.{fresh, load, restore}
 use Rattle.history.specs.Trace.{beginShown}
 use Rattle.history.specs.History.{IsBegin}
+use Rattle.history.specs.LoadTests.{imageIn}
 use Rattle.history.specs.Model.{Item, itemOf, Model, isIn, with, without, itemRefusal, tagRefusal, imageModel, modelBegun}
 use Rattle.history.specs.Represents.{itemsIn}
 use Rattle.history.proofs.BuildsKeep.{item-placed, new-item}
@@ -48,6 +50,8 @@ use Rattle.history.proofs.InvariantRemove.{invariant-removed, removed-o
 use Rattle.history.proofs.RefinesLists.{select-perm}
 use Rattle.history.proofs.RefinesRepresents.{tags-once}
 use Rattle.history.proofs.ImagesLoaded.{loaded-invariant}
+use Rattle.history.proofs.LoadTests.{restore-refusal, restored-image}
+use Rattle.history.proofs.LoadItems.{readModel, image-model}
 use Rattle.history.proofs.RefinesItems.{Matches, live-total}
 use Rattle.history.proofs.RefinesRefusals.{live-alike}
 
@@ -68,10 +72,10 @@ matches-fresh order space t four h =
     }
 
 -- a loaded table matches the model that is fed the image
-pub load-matches : (image : List ℕ) (t : Table) → All (λ b. b < 2 ^ 8) image → loadRefusal (length t) image ≡ 0
-    → Matches (loadedTable image t) (imageModel image)
-unfolding imageModel itemsIn
-load-matches image t bytes h =
+pub read-matches : (image : List ℕ) (t : Table) → All (λ b. b < 2 ^ 8) image → loadRefusal (length t) image ≡ 0
+    → Matches (loadedTable image t) (readModel image)
+unfolding itemsIn
+read-matches image t bytes h =
     let ok = accepted (length t) image h in
     let here = loaded image t ok in
     record {
@@ -80,6 +84,9 @@ load-matches image t bytes h =
       space = here .space;
       same = perm-of-eq (ap (map itemOf) (sym (reads-live (loadedTable image t) (loaded-reads image t (loadedTable image t) here))));
     }
+
+load-matches : (image : List ℕ) (t : Table) → All (λ b. b < 2 ^ 8) image → loadRefusal (length t) image ≡ 0 → Matches (loadedTable image t) (imageModel image)
+load-matches image t bytes h = subst (Matches (loadedTable image t)) (image-model image) (read-matches image t bytes h)
 
 -- what the model asked of an accepted add
 module _ {t : Table} {m : Model} (ok : Matches t m) where
@@ -173,14 +180,21 @@ unfolding tableAfterLoad
 after-load-matches image t bytes e =
     subst (λ (n : ℕ). Matches (elim n as (λ _. Table) [ zero ↦ loadedTable image t | suc j ↦ t ]) (imageModel image)) (sym e) (load-matches image t bytes e)
 
+-- a restore that is not refused is not by its name or its part
+named-first : (n : ℕ) (reply : Loaded) → orLoaded n reply .refusal ≡ 0 → n ≡ 0
+named-first zero reply e = refl
+named-first (suc n) reply e = e
+
 pub begin-matches : (b : Begin) → IsBegin b → (t : Table) → beginShown b (beginReply b (length t)) .refusal ≡ 0 → Matches (tableBegun b t) (modelBegun b)
-unfolding beginShown modelBegun loadRefusal restoreRefusal
+unfolding beginShown modelBegun loadRefusal restoreRefusal restoreReply
 begin-matches (fresh order space) is t e = fresh-matches order space (is .1 .weights .four) t e
 begin-matches (load image) is t e = after-load-matches image t is e
 begin-matches (restore states name) is t e =
     let image = savedImage (partOf states name) in
     let as-load = restored states name t e in
-    subst (λ (u : Table). Matches u (imageModel image)) (sym (as-load .1)) (after-load-matches image t (image-all states name (λ b. b < 2 ^ 8) (is .0)) (as-load .0))
+    let same : image ≡ imageIn states name = restored-image states name (sym (restore-refusal states name) ∙ named-first (nameRefusal states name) _ e) in
+    subst (λ (bytes : List ℕ). Matches (tableAfterRestore states name t) (imageModel bytes)) same
+    (subst (λ (u : Table). Matches u (imageModel image)) (sym (as-load .1)) (after-load-matches image t (image-all states name (λ b. b < 2 ^ 8) (is .0)) (as-load .0)))
 
 pub begin-refused : (b : Begin) (t : Table) (n : ℕ) → beginShown b (beginReply b (length t)) .refusal ≡ suc n → tableBegun b t ≡ t
 unfolding beginShown tableAfterFresh tableAfterLoad loadRefusal restoreRefusal

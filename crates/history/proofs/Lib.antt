@@ -23,12 +23,19 @@ mod AmortizedSums
 mod AmortizedSteps
 mod AmortizedHistory
 mod ReportingBuilds
+mod RefusedKeeps
+mod RowsPast
+mod AcceptedLeaves
+mod WritesRefused
 mod Reporting
 mod ImagesFit
 mod ImagesLoaded
 mod ImagesWritten
 mod ImagesBack
 mod StatesBack
+mod ImageBytes
+mod LoadTests
+mod LoadItems
 mod Ordering
 mod AnyDistance
 mod Batches
@@ -65,3 +72,12 @@ mod CountingHistory
 mod Independence
 mod IndependenceBatch
 mod Naming
+mod Visiting
+mod Weighing
+mod ListPrinted
+mod ListBack
+pub mod PlainUses
+mod FindsFirst
+mod Framing
+mod Entered
+mod FoundThere

@@ -36,6 +36,7 @@ use Rattle.history.specs.Trace.{beginShown, shows}
 use Rattle.history.specs.Trace.Payload.{bare}
 use Rattle.history.specs.Model.{Item, itemOf, Model, withTag, isIn, canRead, canChange, tagRefusal, itemRefusal, addRefusalOf, removeRefusalOf, fits, questionRefusal, askRefusal, freshRefusalOf, begunShown}
 use Rattle.history.proofs.Invariant.{Invariant}
+use Rattle.history.proofs.LoadTests.{most-above, all-any, stops-alike, load-shown, restore-shown}
 use Rattle.history.proofs.RefinesFinding.{rowFound}
 use Rattle.history.proofs.RefinesItems.{Matches, range-alike, nearest-alike, found-items, weights-alike, live-total, ranges-alike}
 use Rattle.batch_rules.specs.Batch.{singleAnswers, partSize, queriesRefusal, partsRefusal, batchRefusal}
@@ -217,27 +218,7 @@ module _ (m : Model) (t : Table) where
         (sym (every-map (λ a. a .entries) (λ es. leb (length es) (length result / length queries)) (λ a. leb (length (a .entries)) (length result / length queries)) (λ a. refl) (singleAnswers t queries))
         ∙ ap (every (λ es. leb (length es) (length result / length queries))) (ranges-alike (readable lendable e) queries)))
 
--- a test that asks for the most and one that is met above it stop a call alike
-most-above : (n most : ℕ) → leb n most ≡ not (ltb most n)
-most-above n most = go (ltb most n) refl
-  where
-    go : (above : Bool) → ltb most n ≡ above → leb n most ≡ not above
-    go true e = lt-leb n most (ltb-true most n e)
-    go false e = le-leb n most (ltb-false most n e)
-
-all-any : (most : ℕ) (ns : List ℕ) → every (λ n. leb n most) ns ≡ not (any (λ n. ltb most n) ns)
-unfolding every any
-all-any most [] = refl
-all-any most (n ∷ ns) = ap₂ _&&_ (most-above n most) (all-any most ns) ∙ go (ltb most n)
-  where
-    go : (above : Bool) → (not above && not (any (λ n. ltb most n) ns)) ≡ not (above || any (λ n. ltb most n) ns)
-    go true = refl
-    go false = refl
-
-stops-alike : {passes : Bool} (met : Bool) (number : ℕ) {rest after : ℕ} → passes ≡ not met → rest ≡ after → unless passes number rest ≡ when met number after
-stops-alike true number {rest} e f = ap (λ (b : Bool). unless b number rest) e
-stops-alike false number {rest} e f = ap (λ (b : Bool). unless b number rest) e ∙ f
-
+-- fresh, test by test
 fresh-refusal : (rows order : ℕ) (space : Space) → freshRefusal rows order space ≡ freshRefusalOf rows order space
 unfolding freshRefusal freshRefusalOf validOrder validMetric validWeights tableRows firstSlot room
 fresh-refusal rows order space =
@@ -253,5 +234,5 @@ fresh-refusal rows order space =
 pub begun-alike : (b : Begin) (rows : ℕ) → beginShown b (beginReply b rows) ≡ begunShown b rows
 unfolding beginShown begunShown
 begun-alike (fresh order space) rows = ap (λ (n : ℕ). shows n bare) (fresh-refusal rows order space)
-begun-alike (load image) rows = refl
-begun-alike (restore states name) rows = refl
+begun-alike (load image) rows = load-shown rows image
+begun-alike (restore states name) rows = restore-shown rows states name

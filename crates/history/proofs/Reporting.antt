@@ -43,7 +43,7 @@ use Rattle.history.proofs.ReportingBuilds.{dead-not-built, kept-not-bui
 use Rattle.table_rules.proofs.Chains.{or-zero}
 
 -- of the live items of some buckets each bucket has a part
-parts : (t : Table) (ks : List ℕ) → All (λ j. length (liveSlots t j) ≤ length (liveItems t ks)) ks
+pub parts : (t : Table) (ks : List ℕ) → All (λ j. length (liveSlots t j) ≤ length (liveItems t ks)) ks
 unfolding liveItems flatten
 parts t [] = tt
 parts t (k ∷ ks) =
@@ -118,7 +118,7 @@ module _ {work : List Row} {t : Table} (c : Changeable work t) (tag : ℕ) (plac
   one-less = omega (arith, marked-live t place (at .inOrder) long slot-room, used .quarter)
 
   -- the bucket still has as many live slots as its live size says, and more only where a row is too short to be marked
-  enough : liveOf v k ≤ length (liveSlots v k)
+  pub enough : liveOf v k ≤ length (liveSlots v k)
   unfolding liveSlots
   enough =
       omega (

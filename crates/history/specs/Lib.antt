@@ -1,3 +1,5 @@
+pub mod ImageForm
+pub mod LoadTests
 pub mod Trace
 pub mod Model
 pub mod History
@@ -7,4 +9,11 @@ pub mod Reports
 pub mod Trees
 pub mod Agreement
 pub mod Counter
+pub mod Leaves
+pub mod Visits
+pub mod Weighing
+pub mod ListForm
+pub mod Slots
+pub mod Frame
+pub mod Entries
 pub mod Demands

@@ -1,13 +1,15 @@
 -- RULES 16, the reference model: an order, a metric, four weights and a list of items. It is fed the calls' arguments, a load's image, a restore's states and a herd list
 -- too, and the lengths of the lent areas, but never an answer or what the table holds.
-use Prim.Native.Nat.{ℕ, zero, suc, _+_, _-_, _/_, _^_}
+use Prim.Native.Nat.{ℕ, zero, suc, _+_, _-_, _*_, _/_, _^_}
 use mathlib.Core.Bool.{Bool, true, false, not, _&&_}
 use mathlib.Core.List.{List, [], _∷_, map, _++_, flatten}
 use mathlib.Core.Option.{Option}
 use lib.IntN.{ℤ}
 use lib.ListN.{length, take, replicate}
 use lib.Dec.{leb, ltb, eqb}
-use Rattle.lists.specs.Lists.{select, total, every, any}
+use mir.Syntax.{w32}
+use mir.Val.{toZ}
+use Rattle.lists.specs.Lists.{select, total, every, any, countFrom}
 use Rattle.metric_rules.specs.declared.Profile.{Profile}
 use Rattle.metric_rules.specs.Row.{Row, tagOf, profileOf, dayOf, measure, thresholdOf}
 use Rattle.metric_rules.specs.Validity.{validTag, validMeasures, validDay}
@@ -17,9 +19,7 @@ use Rattle.search_rules.specs.Range.{Entry, entry, entryDistance, ordered}
 use Rattle.table_rules.specs.Refusals.{badTag, badMeasure, badOrder, badMetric, noCount, noRoom, alreadyLive, notLive, full, shortArea, badWeight, badDay, unless, when, orElse}
 use Rattle.table_rules.specs.Geometry.{room, tableRows, workRows}
 use Rattle.table_rules.specs.LookUp.{noProfile}
-use Rattle.image_rules.specs.Read.{orderIn, spaceIn}
-use Rattle.image_rules.specs.Load.{liveRows}
-use Rattle.state_rules.specs.Parts.{partOf, savedImage}
+use Rattle.image_rules.specs.Load.{treesIn}
 use Rattle.list_rules.specs.Lines.{ListLine, hasHeader, itemLines}
 use Rattle.list_rules.specs.Lines.ListLine.{anItem, malformed}
 use Rattle.list_rules.specs.ReadList.{badListHeader, badListLine}
@@ -27,13 +27,16 @@ use Rattle.dues_rules.specs.Listed.{weightsRefusal, duesOf}
 use Rattle.batch_rules.specs.Batch.{mostQueries, firstDayOf, queriesRefusal}
 use Rattle.lots_rules.specs.Lots.{Summary, byTag, lots, summaryOf, listingOf}
 use Rattle.lots_rules.specs.Drafting.{badRadii, radiiPass, chosenRadius}
-use Rattle.call_rules.specs.Calls.{Begin, beginReply, Change, Ask, AskAreas, Call, Areas}
+use Rattle.call_rules.specs.Calls.{Begin, Change, Ask, AskAreas, Call, Areas}
 use Rattle.call_rules.specs.Calls.Begin.{fresh, load, restore}
 use Rattle.call_rules.specs.Calls.Change.{add, remove, readList}
 use Rattle.call_rules.specs.Calls.Ask.{lookUp, range, nearest, dues, rangeBatch}
 use Rattle.call_rules.specs.Calls.Call.{begin, change, ask, write}
-use Rattle.history.specs.Trace.{Step, Payload, Shown, zeroed, shows, beginShown}
-use Rattle.history.specs.Trace.Payload.{bare, aWeighing, someEntries, aListRead, someDues, someLists, aDraft}
+use Rattle.history.specs.ImageForm.{numberAt}
+use Rattle.history.specs.LoadTests.{orderByte, metricByte, formBytes, tagsFrom, slotsInAll, recordFrom, markIn}
+use Rattle.history.specs.LoadTests.{loadRefusalOf, imageIn, restoreRefusalOf}
+use Rattle.history.specs.Trace.{Step, Payload, Shown, zeroed, shows}
+use Rattle.history.specs.Trace.Payload.{bare, aSlot, aWeighing, someEntries, aListRead, someDues, someLists, aDraft}
 
 -- RULES 2.7: an item as handed over; and the item of a slot's row
 pub record Item : Type 0 where
@@ -253,14 +256,48 @@ unfoldable pub listAnswered : Model → ℕ → ℕ → List ℕ → ℕ → Lis
 listAnswered m rows work list day =
     elim (hasHeader list) [ false ↦ stopsAt m badListHeader 1 | true ↦ linesAnswered day m rows work 2 (itemLines list) ]
 
--- RULES 16.4, fresh: order, metric and weights as given and no item; load: those of the image, with its items of mark 0; restore: a load of the image in the part
+-- RULES 12.1, 12.3, an image as the model reads it, at places of its own (LoadTests). The weights are bytes 4 to 7, and 1
+-- in form 0; the day is 1 in forms 0 and 1
+unfoldable pub weightsRead : ℕ → List ℕ → List ℕ
+weightsRead zero bytes = 1 ∷ 1 ∷ 1 ∷ 1 ∷ []
+weightsRead (suc form) bytes = map (λ i. numberAt bytes (4 + i) 1) (0 ∷ 1 ∷ 2 ∷ 3 ∷ [])
+
+unfoldable pub dayRead : ℕ → List ℕ → ℕ → ℕ
+dayRead zero bytes place = 1
+dayRead (suc zero) bytes place = 1
+dayRead (suc (suc form)) bytes place = numberAt bytes (place + 40) 2
+
+-- slot i: its tag among the tags; in its record four measures in two's complement, two code words, and the day at the
+-- end
+unfoldable pub profileRead : List ℕ → ℕ → Profile
+profileRead bytes place =
+    record {
+      measures = map (λ j. toZ w32 (numberAt bytes (place + 4 * j) 4)) (0 ∷ 1 ∷ 2 ∷ 3 ∷ []);
+      code = numberAt bytes (place + 16) 8 ∷ numberAt bytes (place + 24) 8 ∷ [];
+    }
+
+unfoldable pub itemRead : List ℕ → ℕ → Item
+itemRead bytes i =
+    record {
+      tag = numberAt bytes (tagsFrom bytes + 8 * i) 8;
+      profile = profileRead bytes (recordFrom bytes i);
+      day = dayRead (formBytes bytes) bytes (recordFrom bytes i);
+    }
+
+-- RULES 16.4, fresh: order, metric and weights as given and no item; load: those of the image, with its items of mark 0;
+-- restore: a load of the image in the part
 unfoldable pub imageModel : List ℕ → Model
-imageModel image = record { order = orderIn image; space = spaceIn image; items = map itemOf (liveRows image) }
+imageModel bytes =
+    record {
+      order = orderByte bytes;
+      space = record { metric = metricByte bytes; weights = record { each = weightsRead (formBytes bytes) bytes } };
+      items = map (itemRead bytes) (select (λ i. eqb (markIn bytes i) 0) (countFrom 0 (slotsInAll bytes)));
+    }
 
 unfoldable pub modelBegun : Begin → Model
 modelBegun (fresh order space) = record { order = order; space = space; items = [] }
 modelBegun (load image) = imageModel image
-modelBegun (restore states name) = imageModel (savedImage (partOf states name))
+modelBegun (restore states name) = imageModel (imageIn states name)
 
 -- RULES 7.2, 14.4, fresh, by figures of the model's own: 3 for an order above 12, 4 for a metric above 2, 32 for a weight above 100, 23 for fewer rows than T + 1 + 2^(T+1)
 unfoldable pub freshRefusalOf : ℕ → ℕ → Space → ℕ
@@ -271,13 +308,24 @@ freshRefusalOf rows order space =
     (when (ltb rows (order + 1 + 2 ^ (order + 1))) shortArea
     0)))
 
--- RULES 16.3, what a call that begins a table shows. Fresh: the model's own refusal. Load and restore read nothing of the table but its length, and the model has their
--- replies from the definitions of the calls: these two are alike by definition. What is claimed of their replies stands in Demands: `WrittenLoads`, `AcceptedGivesBack`,
--- `AcceptsTrees` and `OlderTranslates` of load, `SavedRestores` and `RestoreLoads` of restore
+-- a refusal that has no slot, or else what is shown by the tests behind it
+abbrev pub orShown : ℕ → Shown → Shown
+orShown n shown = elim n [ zero ↦ shown | suc m ↦ shows (suc m) (aSlot 0) ]
+
+-- RULES 12.8, the trees of an image, by the definitions of the call: what more is claimed of them stands in Demands,
+-- `AcceptsTrees`
+unfoldable pub treesShown : List ℕ → Shown
+treesShown image = shows (treesIn image .refusal) (aSlot (treesIn image .slot))
+
+unfoldable pub loadShown : ℕ → List ℕ → Shown
+loadShown rows image = orShown (loadRefusalOf rows image) (treesShown image)
+
+-- RULES 16.3, what a call that begins a table shows. Fresh, load and restore read nothing of the table but its length.
+-- The model refuses them by figures of its own, of an image up to its trees; a restore is a load of the image in the part
 unfoldable pub begunShown : Begin → ℕ → Shown
 begunShown (fresh order space) rows = shows (freshRefusalOf rows order space) bare
-begunShown (load image) rows = beginShown (load image) (beginReply (load image) rows)
-begunShown (restore states name) rows = beginShown (restore states name) (beginReply (restore states name) rows)
+begunShown (load image) rows = loadShown rows image
+begunShown (restore states name) rows = orShown (restoreRefusalOf states name) (loadShown rows (imageIn states name))
 
 unfoldable pub beginAnswer : Model → Begin → ℕ → Answered
 beginAnswer m b rows =
