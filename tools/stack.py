@@ -16,12 +16,12 @@ HOME = Path(__file__).resolve().parent.parent
 WORD = 8
 
 # How many frames of a function can stand at once, for 4,096 items. A tree of n slots has halves of at most n / 2, so that
-# 4,096 slots are 13 deep.
+# 4,096 slots are 13 deep, and 11 where seven slots or fewer are visited at once.
 DEPTHS = {
     "tree_build::build_part": 13,
-    "tree_range::range_tree": 13,
+    "tree_range::range_tree": 11,
     "tree_range_batch::range_together": 13,
-    "tree_nearest::nearest_tree": 13,
+    "tree_nearest::nearest_tree": 11,
     "image_layout::first_fault": 14,  # it is called for an empty half too
     "tree_sort::sort": 9,             # halves of 4,095 rows, down to 16
     "entry_sort::sort_within": 9,     # it calls itself for at most half of the entries, down to 16
