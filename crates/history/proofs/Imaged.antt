@@ -1,9 +1,9 @@
--- Images worked by hand from RULES 12: order 0 with one item and weights that differ, and order 2 with a dead slot, written, loaded back, and spoiled; one
--- saved and restored; and what is of forms 0 and 1 with its translation.
--- Each is a run that antt computes.
-use Prim.Native.Nat.{ℕ}
+-- Images worked by hand from RULES 12: order 0 with one item, weights that differ and code words that differ, and order 2 with a dead slot, written, loaded
+-- back, and spoiled; one saved and restored; and what is of forms 0 and 1 with its translation. Each is a run that antt computes.
+use Prim.Native.Nat.{ℕ, _*_, _^_}
 use mathlib.Core.Path.{_≡_, refl}
 use mathlib.Core.List.{List, [], _∷_, _++_}
+use lib.IntN.{pos, negsuc}
 use lib.ListN.{take, drop, set, replicate}
 use Rattle.table_rules.specs.Table.{Table, rowAt}
 use Rattle.image_rules.specs.Write.{imageOf, imageAfterWrite}
@@ -12,7 +12,7 @@ use Rattle.image_rules.specs.Translate.{weightBytes, recordWithDay, translated}
 use Rattle.state_rules.specs.Save.{statesAfterSave}
 use Rattle.state_rules.specs.Restore.{tableAfterRestore}
 use Rattle.history.proofs.Computing.{performed}
-use Rattle.history.proofs.Running.{fresh, add, weighing, tag, valued, scratch, after, removing, table}
+use Rattle.history.proofs.Running.{fresh, add, weighing, by, tag, valued, scratch, after, removing, table}
 
 -- 36,000,000,000,000 in bytes, lowest first, is 0, 64, 54, 231, 189, 32, 0, 0, and n below 256 goes into the first
 unfoldable pub tagBytes : ℕ → List ℕ
@@ -75,6 +75,28 @@ writes = imageOf one ∷ imageOf dead ∷ []
 written : writes ≡ oneImage ∷ deadImage ∷ []
 unfolding writes oneImage deadImage
 written = refl
+
+-- four measures that differ, -1 among them, and two code words that differ: 258 is 2 and 1 in bytes, and 3·2^56 has seven zeros before 3
+unlike : Table
+unfolding after scratch tag
+unlike =
+    after scratch
+    (fresh 0 (by 0)
+    ∷ add (tag 1) (record { measures = pos 1 ∷ negsuc 0 ∷ pos 3 ∷ pos 4 ∷ []; code = 258 ∷ 3 * 2 ^ 56 ∷ [] }) 1
+    ∷ [])
+
+unlikeWritten :
+    imageOf unlike
+    ≡ (0 ∷ 0 ∷ 2 ∷ 0 ∷ 1 ∷ 1 ∷ 1 ∷ 1 ∷ [])
+    ++ (1 ∷ 0 ∷ 1 ∷ 0 ∷ [])
+    ++ tagBytes 1
+    ++ (1 ∷ 0 ∷ 0 ∷ 0 ∷ 255 ∷ 255 ∷ 255 ∷ 255 ∷ 3 ∷ 0 ∷ 0 ∷ 0 ∷ 4 ∷ 0 ∷ 0 ∷ 0 ∷ [])
+    ++ (2 ∷ 1 ∷ 0 ∷ 0 ∷ 0 ∷ 0 ∷ 0 ∷ 0 ∷ [])
+    ++ (0 ∷ 0 ∷ 0 ∷ 0 ∷ 0 ∷ 0 ∷ 0 ∷ 3 ∷ [])
+    ++ replicate 8 0
+    ++ (1 ∷ 0 ∷ [])
+unfolding imageOf unlike tagBytes
+unlikeWritten = refl
 
 -- 62 bytes into an area of 64: the last two are kept
 areaAfter : imageAfterWrite one (replicate 64 5) ≡ oneImage ++ replicate 2 5

@@ -6,6 +6,7 @@ pub mod Running
 pub mod Starred
 pub mod Removals
 pub mod Searches
+pub mod EqualTags
 pub mod Refused
 pub mod Imaged
 pub mod FirstFaults

@@ -1,19 +1,21 @@
--- Every refusal number of RULES 14.1 at least once, with what the areas then hold: a refusal replies its number and zeros, but for a load's slot, and leaves every area
--- as it was, but 6 on range and nearest leaves the result area all zero, and 6 on lots the summary and the listing. Each is a run that antt computes.
+-- Every refusal number of RULES 14.1 at least once, with what the areas then hold: a refusal replies its number and zeros, but for a load's slot, and leaves
+-- every area as it was, but 6 on range and nearest leaves the result area all zero, and 6 on lots the summary and the listing. Each is a run that antt
+-- computes.
 use Prim.Native.Nat.{ℕ, _+_, _-_, _^_}
 use mathlib.Core.Path.{_≡_, refl}
 use mathlib.Core.List.{List, [], _∷_, _++_, map}
 use lib.IntN.{ℤ, pos, negsuc}
 use lib.ListN.{set, take, replicate}
 use Rattle.metric_rules.specs.declared.Profile.{Profile}
-use Rattle.metric_rules.specs.Row.{rowWidth, zeroRow, rowOf, withMark}
+use Rattle.metric_rules.specs.Row.{rowWidth, zeroRow, rowOf, queryRow, withMark}
 use Rattle.table_rules.specs.Geometry.{firstSlot}
 use Rattle.table_rules.specs.Table.{Table, rowAt, pairRow, putSizes}
 use Rattle.table_rules.specs.LookUp.{notFound, lookUpReply}
 use Rattle.call_rules.specs.Calls.{Call, Areas, draftAreas}
 use Rattle.history.proofs.Computing.{performed}
 use Rattle.history.proofs.Imaged.{deadImage}
-use Rattle.history.proofs.Running.{fresh, load, restore, write, save, add, remove, readList, lookUp, range, nearest, dues, lots, weighing, by, tag, valued, areasFor, areaRows, replyNumbers, listOf, itemLine, table}
+use Rattle.history.proofs.Running.{fresh, load, restore, write, save, add, remove, readList, lookUp, range, nearest, dues, rangeBatch, lots, weighing}
+use Rattle.history.proofs.Running.{by, tag, valued, areasFor, areaRows, replyNumbers, listOf, itemLine, table}
 
 -- the table of the four items, written out, so that no try works it out again; and that it is theirs
 laid : Table
@@ -78,6 +80,10 @@ noImage n = n ∷ 0 ∷ []
 noDues : ℕ → List ℕ
 noDues n = n ∷ 0 ∷ []
 
+-- a batch's numbers found, and its area of nine entries
+noRanges : ℕ → List ℕ
+noRanges n = n ∷ 0 ∷ replicate 16 0 ++ replicate 18 8
+
 -- a load or a restore refused, at a slot or at none
 noLoad : ℕ → ℕ → List ℕ
 noLoad n slot = n ∷ slot ∷ []
@@ -89,7 +95,8 @@ noList n line = n ∷ line ∷ 0 ∷ 0 ∷ []
 below : Profile
 below = record { measures = pos 0 ∷ pos 0 ∷ pos 0 ∷ negsuc 1_000_000 ∷ []; code = 0 ∷ 0 ∷ [] }
 
--- that table with another header, of weights 0 or of a largest weight; other sizes in bucket 2, or a fifth live item in bucket 0; and a mark that is neither 0 nor 1
+-- that table with another header, of weights 0 or of a largest weight; other sizes in bucket 2, or a fifth live item in bucket 0; and a mark that is neither 0
+-- nor 1
 headed : ℕ → ℕ → Table
 unfolding pairRow laid
 headed order metric = set laid 0 (pairRow order metric)
@@ -106,6 +113,11 @@ misMarked : Table
 unfolding withMark rowAt firstSlot laid
 misMarked = let at = firstSlot 2 2 + 1 in set laid at (withMark 2 (rowAt laid at))
 
+-- the same with the live size that its 0 marks number, so that the mark alone is wrong
+markedTwo : Table
+unfolding putSizes misMarked
+markedTwo = putSizes 2 4 3 misMarked
+
 -- and with item 1 of so many hundredths of a kilo in the first slot of bucket 2
 weighing1 : ℤ → Table
 unfolding firstSlot rowOf tag laid
@@ -116,7 +128,7 @@ oneRecord : ℕ → List ℕ → List ℕ
 oneRecord form bytes = (0 ∷ 0 ∷ form ∷ 0 ∷ 1 ∷ 1 ∷ 1 ∷ 1 ∷ 1 ∷ 0 ∷ 1 ∷ 0 ∷ []) ++ bytes
 
 tries : List Try
-unfolding on laid tag valued below headed weighted sized misMarked weighing1 oneRecord deadImage listOf itemLine
+unfolding on laid tag valued below headed weighted sized misMarked markedTwo weighing1 oneRecord deadImage listOf itemLine
 tries =
     on laid (add (10 ^ 12) (valued 1_000_001) 1)
     ∷ on laid (add 999_999_999_999 (valued 1_000_001) 0)
@@ -173,6 +185,9 @@ tries =
     ∷ on (sized 2 4 1) (lookUp 0)
     ∷ on (sized 0 1 1) write
     ∷ on misMarked (add 0 below 0)
+    ∷ on markedTwo (add (tag 5) (valued 0) 1)
+    ∷ on markedTwo (remove (tag 1))
+    ∷ on markedTwo (lots (9 ∷ []) 1)
     ∷ on [] (readList (take 21 (listOf [])) 0)
     ∷ on [] (readList (listOf []) 1)
     ∷ on [] (readList (listOf []) 0)
@@ -188,6 +203,8 @@ tries =
     ∷ on [] (save 8)
     ∷ on (sized 0 1 1) (save 1)
     ∷ on laid (save 1)
+    ∷ record { call = save 8; table = sized 0 1 1; areas = replicate 64 5 }
+    ∷ record { call = save 8; table = laid; areas = replicate 64 5 }
     ∷ on [] (restore [] 0)
     ∷ on [] (restore (replicate 72 1) 9)
     ∷ on [] (restore (replicate 31 1) 8)
@@ -213,11 +230,20 @@ tries =
     ∷ record { call = lots [] 0; table = weighted 1 101; areas = draftAreas (replicate 4 (9 ∷ 9 ∷ [])) [] [] }
     ∷ on misMarked (lots [] 0)
     ∷ record { call = lots [] 0; table = laid; areas = draftAreas (replicate 4 (9 ∷ 9 ∷ [])) [] [] }
+    ∷ on laid (lots [] 1)
+    ∷ on laid (lots (replicate 33 9) 33)
+    ∷ on laid (lots (9 ∷ []) 0)
+    ∷ on laid (lots (9 ∷ []) 2)
+    ∷ on [] (rangeBatch [])
+    ∷ on (headed 2 3) (rangeBatch [])
+    ∷ on laid (rangeBatch [])
+    ∷ on laid (rangeBatch (replicate 17 (queryRow below 0 0)))
+    ∷ on laid (rangeBatch (queryRow (valued 0) 0 0 ∷ queryRow below 0 0 ∷ []))
     ∷ []
 
 -- in the order of the tries: the first number that applies
 expected : List (List ℕ)
-unfolding number noAdd noRemove noProfile noSearch noImage noLoad noList noDues
+unfolding number noAdd noRemove noProfile noSearch noImage noLoad noList noDues noRanges
 expected =
     noAdd 2
     ∷ noAdd 1
@@ -274,6 +300,9 @@ expected =
     ∷ noProfile 24
     ∷ noImage 24
     ∷ noAdd 24
+    ∷ noAdd 24
+    ∷ noRemove 24
+    ∷ number 24
     ∷ noList 30 1
     ∷ noList 0 0
     ∷ noList 0 0
@@ -287,6 +316,8 @@ expected =
     ∷ noImage 34
     ∷ noImage 34
     ∷ noImage 23
+    ∷ noImage 24
+    ∷ noImage 6
     ∷ noImage 24
     ∷ noImage 6
     ∷ noLoad 34 0
@@ -314,6 +345,15 @@ expected =
     ∷ number 24
     ∷ number 24
     ∷ number 41
+    ∷ number 41
+    ∷ number 41
+    ∷ number 41
+    ∷ number 41
+    ∷ noRanges 23
+    ∷ noRanges 24
+    ∷ noRanges 40
+    ∷ noRanges 40
+    ∷ noRanges 2
     ∷ []
 
 unchanged : outcomes tries ≡ refusals expected tries
@@ -324,6 +364,44 @@ unchanged = refl
 profiles : map (lookUpReply laid) (0 ∷ tag 5 ∷ []) ≡ notFound 1 ∷ notFound 21 ∷ []
 unfolding performed laid tag
 profiles = refl
+
+-- a save does not ask for the marks: with mark 2 in its second slot, and a live size of 4 or the 3 that fit, a table is saved as it is, here as the last of
+-- eight parts of 224 bytes. Its live size is at byte 18 of the image and that mark at 130
+saves : List Left
+unfolding outcomes misMarked markedTwo
+saves =
+    outcomes
+    (record { call = save 8; table = misMarked; areas = replicate 1792 5 } ∷ record { call = save 8; table = markedTwo; areas = replicate 1792 5 } ∷ [])
+
+saved : Table → List ℕ → Left
+saved t image = record { reply = 0 ∷ 220 ∷ []; table = t; areas = (replicate 1568 5 ++ (220 ∷ 0 ∷ 0 ∷ 0 ∷ []) ++ image) ∷ [] }
+
+marksSaved :
+    saves
+    ≡ saved misMarked (set (set (set deadImage 214 0) 130 2) 18 4)
+    ∷ saved markedTwo (set (set deadImage 214 0) 130 2)
+    ∷ []
+unfolding saves saved misMarked markedTwo deadImage
+marksSaved = refl
+
+-- nor does a batch, in which a slot of mark 2 is counted and not found
+answered : Table → Left
+unfolding outcomes tag
+answered t =
+    record {
+      reply = 0 ∷ 4 ∷ 1 ∷ replicate 15 0 ++ (tag 3 ∷ 0 ∷ 0 ∷ 0 ∷ []);
+      table = t;
+      areas = (tag 3 ∷ 0 ∷ []) ∷ (0 ∷ 0 ∷ []) ∷ [];
+    }
+
+marksAnswered :
+    outcomes
+    (record { call = rangeBatch (queryRow (valued 13) 0 0 ∷ []); table = misMarked; areas = replicate 2 (8 ∷ 8 ∷ []) }
+    ∷ record { call = rangeBatch (queryRow (valued 13) 0 0 ∷ []); table = markedTwo; areas = replicate 2 (8 ∷ 8 ∷ []) }
+    ∷ [])
+    ≡ answered misMarked ∷ answered markedTwo ∷ []
+unfolding outcomes answered misMarked markedTwo
+marksAnswered = refl
 
 -- 6 on range and nearest: four and two entries for an area of one
 emptied : Left
@@ -349,14 +427,15 @@ paying :
 unfolding outcomes on weighing1
 paying = refl
 
--- the same with tag 1 in two slots, which only a foreign table holds, and the lots of a radius of 2: equal tags go by slot, so that the first leads a lot of its own and the
--- second another. The work area is zero in its first four entries, and summary and listing past theirs
+-- the same with tag 1 in two slots, which only a foreign table holds, and the lots of a radius of 2: equal tags go by slot, so that the first leads a lot of
+-- its own and the second another. The work area is zero in its first four entries, and summary and listing past theirs
 twins : Table
 unfolding firstSlot rowOf tag valued laid
 twins = set laid (firstSlot 2 2 + 1) (rowOf (tag 1) (valued 13) 0 0 1)
 
 drafting :
-    outcomes (record { call = lots (2 ∷ []) 1; table = twins; areas = draftAreas (replicate 5 (9 ∷ 9 ∷ [])) (replicate 2 (3 ∷ 3 ∷ [])) (replicate 5 (8 ∷ 8 ∷ [])) } ∷ [])
+    (let areas = draftAreas (replicate 5 (9 ∷ 9 ∷ [])) (replicate 2 (3 ∷ 3 ∷ [])) (replicate 5 (8 ∷ 8 ∷ [])) in
+    outcomes (record { call = lots (2 ∷ []) 1; table = twins; areas = areas } ∷ []))
     ≡ record {
       reply = number 0;
       table = twins;

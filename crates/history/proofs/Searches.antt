@@ -1,5 +1,5 @@
--- Searches worked by hand from RULES 11: equal bounds, dead and foreign slots, the three metrics, weights, days, ties of tag and of rank, and the largest
--- distance.
+-- Searches worked by hand from RULES 11: equal bounds, dead and foreign slots, the three metrics, weights, days, counts, ties of tag and of rank, and the
+-- largest distance.
 -- Each is a run that antt computes. A reply is refusal, found, distances and then each entry's tag and distance.
 use Prim.Native.Nat.{ℕ, _+_, _-_, _*_, _^_}
 use mathlib.Core.Path.{_≡_, refl}
@@ -10,11 +10,13 @@ use Rattle.metric_rules.specs.declared.Profile.{Profile}
 use Rattle.metric_rules.specs.Row.{Row, word, rowOf, tagOf, thresholdOf, withThreshold, withMark}
 use Rattle.metric_rules.specs.Validity.{nationals}
 use Rattle.metric_rules.specs.declared.Space.{Space}
-use Rattle.metric_rules.specs.Distance.{mostDistance, saturated, gap, weight, weighted, distance, measureDistance, codeDistance, largest, worstDistance, weightsOne}
+use Rattle.metric_rules.specs.Distance.{mostDistance, saturated, gap, weight, weighted, weightsOne, distance, measureDistance, codeDistance, largest}
+use Rattle.metric_rules.specs.Distance.{worstDistance}
 use Rattle.tree_rules.specs.Layout.{layout}
 use Rattle.table_rules.specs.Geometry.{firstSlot}
 use Rattle.table_rules.specs.Table.{Table, rowAt}
-use Rattle.history.proofs.Running.{fresh, add, lookUp, range, nearest, weighing, by, tag, valued, measured, scratch, replies, after, removing, table, dated}
+use Rattle.history.proofs.Running.{fresh, add, lookUp, range, nearest, weighing, by, tag, valued, measured, scratch, replies, after, removing, table}
+use Rattle.history.proofs.Running.{dated}
 
 -- four items in one tree of order 2, by their nationals and values
 four : ℕ → ℕ → ℕ → ℕ → ℕ → ℕ → ℕ → ℕ → Table
@@ -155,6 +157,49 @@ sinceWorked :
     ∷ [])
 unfolding since tag
 sinceWorked = refl
+
+-- nearest's counts: six items in two buckets; four of which one alone is of day 9
+inTwo : Table
+unfolding after scratch tag valued
+inTwo =
+    after scratch
+    (fresh 3 (by 0)
+    ∷ add (tag 1) (valued 3) 1
+    ∷ add (tag 2) (valued 5) 1
+    ∷ add (tag 3) (valued 20) 1
+    ∷ add (tag 4) (valued 9) 1
+    ∷ add (tag 5) (valued 3) 1
+    ∷ add (tag 6) (valued 10) 1
+    ∷ [])
+
+oneLate : Table
+unfolding after scratch tag valued
+oneLate =
+    after scratch
+    (fresh 2 (by 0) ∷ add (tag 1) (valued 10) 9 ∷ add (tag 2) (valued 14) 1 ∷ add (tag 3) (valued 30) 1 ∷ add (tag 4) (valued 20) 1 ∷ [])
+
+counts : List (List (List ℕ))
+unfolding replies four inTwo oneLate valued
+counts =
+    replies inTwo (nearest (valued 16) 1 0 ∷ [])
+    ∷ replies (four 1 6 2 3 3 15 4 0) (nearest (valued 12) 1 0 ∷ [])
+    ∷ replies (four 1 0 2 5 3 10 4 40) (nearest (valued 6) 1 0 ∷ [])
+    ∷ replies oneLate (nearest (valued 10) 9 9 ∷ nearest (valued 10) 1 9 ∷ [])
+    ∷ []
+
+counted :
+    counts
+    ≡ ( -- bucket 2 first: 1 at 13, then right, 3 at 4, and left no more (13 > 6 + 4). With that bucket 1 is 5 at 13 alone (13 > 7 + 4): 3 slots in all
+    ((0 ∷ 1 ∷ 3 ∷ tag 3 ∷ 4 ∷ []) ∷ [])
+    -- d = 6 = m from 1, so left first: with 1 at 6 still the best, 2 at 9 lets 4 be entered (9 ≤ 3 + 6). After 3 at 3, on the right, it would not have
+    ∷ ((0 ∷ 1 ∷ 4 ∷ tag 3 ∷ 3 ∷ []) ∷ [])
+    -- d = 6 from 1, m 10: right would be entered with 1 at 6 (10 ≤ 6 + 6), and after the left half, with 2 at 1, is not (10 > 6 + 1)
+    ∷ ((0 ∷ 1 ∷ 3 ∷ tag 2 ∷ 1 ∷ []) ∷ [])
+    -- of day 9 there is 1 alone, at 0: k 9 is never reached, so every slot is visited; k 1 is, and shuts the right half (10 > 0 + 0)
+    ∷ ((0 ∷ 1 ∷ 4 ∷ tag 1 ∷ 0 ∷ []) ∷ (0 ∷ 1 ∷ 3 ∷ tag 1 ∷ 0 ∷ []) ∷ [])
+    ∷ [])
+unfolding counts tag
+counted = refl
 
 -- Equal tags, ranked by the order gathered at depth 2 too: from tag 5 at 0 the left half is tag 7 at 1 (gathered last) and tag 7 at 2 (gathered
 -- second), and of these the one gathered first is the half's first slot
