@@ -74,10 +74,14 @@ mod IndependenceBatch
 mod Naming
 mod Visiting
 mod Weighing
+mod DistancesTop
+mod Earlier
 mod ListPrinted
 mod ListBack
 pub mod PlainUses
 mod FindsFirst
 mod Framing
+mod SearchBounds
+mod BuildBounds
 mod Entered
 mod FoundThere
