@@ -12,7 +12,7 @@ use Rattle.table_rules.specs.LookUp.{noProfile}
 use Rattle.state_rules.specs.Parts.{snapshotOf}
 use Rattle.lots_rules.specs.Lots.{Summary}
 use Rattle.call_rules.specs.Calls.{Call, draftAreas}
-use Rattle.history.specs.ImageForm.{numberAt}
+use Rattle.history.specs.Places.{numberFrom}
 use Rattle.history.specs.LoadTests.{orderByte, metricByte, formBytes, pairsFrom, recordSize, builtAt, liveAt, slotsUpTo, tagsFrom, slotsInAll, recordFrom, weightTooLarge, sizesSound, allSizesSound, dayMissing, tagSound, measureSound, markIn, slotSound, slotsAt, bucketSound, allFieldsSound, loadRefusalOf, partFrom, lengthIn, imageIn, restoreRefusalOf}
 use Rattle.history.specs.Trace.{Step, Shown, zeroed, shows, ownRows, overlaid, leftBy, beginShown, changeShown, duesIn, listedIn, draftedIn, draftIn, askShown, shown, noSums, plus, imageSums, starting, begunSums, ifAccepted, counted, sumsAfter, stateAfter, shownAt, stateAfterAll, trace}
 use Rattle.history.specs.Trace.Payload.{bare, aSlot, aWeighing, someEntries, aListRead, someDues, someLists, aDraft}
@@ -137,7 +137,7 @@ modelShows : modelTrace blankModel steps ≡ expected
 unfolding
     performed steps expected zeroed beginShown itemOf withTag isIn with without weighedIn scanned modelRange modelNearest weightOf weightsIn modelLots modelSummaries modelListing canRead canChange tagRefusal
     itemRefusal addRefusalOf removeRefusalOf fits questionRefusal askRefusal found paid answerTo showsUnless afterUnless stopsAt oneMoreAdded
-    linesAnswered listAnswered weightsRead dayRead profileRead itemRead imageModel modelBegun freshRefusalOf numberAt orderByte metricByte formBytes pairsFrom recordSize builtAt liveAt slotsUpTo tagsFrom slotsInAll recordFrom weightTooLarge sizesSound allSizesSound dayMissing tagSound measureSound markIn slotSound slotsAt bucketSound allFieldsSound loadRefusalOf partFrom lengthIn imageIn restoreRefusalOf treesShown loadShown begunShown beginAnswer changeAnswer answer answerAt modelTrace blankModel
+    linesAnswered listAnswered weightsRead dayRead profileRead itemRead imageModel modelBegun freshRefusalOf numberFrom orderByte metricByte formBytes pairsFrom recordSize builtAt liveAt slotsUpTo tagsFrom slotsInAll recordFrom weightTooLarge sizesSound allSizesSound dayMissing tagSound measureSound markIn slotSound slotsAt bucketSound allFieldsSound loadRefusalOf partFrom lengthIn imageIn restoreRefusalOf treesShown loadShown begunShown beginAnswer changeAnswer answer answerAt modelTrace blankModel
 modelShows = refl
 
 -- since the load of three live items and a dead one: item 8 added (no distance, into bucket 0), item 3 removed (enough are left), item 1 removed (2 and 8

@@ -46,7 +46,8 @@ use Rattle.table_rules.proofs.Chains.{or-zero, unless-zero, when-zero, or-not, 
 use Rattle.table_rules.proofs.Changes.{marked-live}
 use Rattle.table_rules.proofs.Deletion.{Deletion, deletion}
 use Rattle.table_rules.proofs.Deletion.Deletion.{empties, ends, rebuilds}
-use Rattle.history.specs.Slots.{slotRow, wordIn, builtSize, liveSize, TagAt, FirstAt, RepliesFirst, Struck, StrikesFirst, PaysFirst, NoneAt, profileIn}
+use Rattle.history.specs.Places.{wordIn, builtSize, liveSize, slotRow, profileIn}
+use Rattle.history.specs.Slots.{TagAt, FirstAt, RepliesFirst, Struck, StrikesFirst, PaysFirst, NoneAt}
 use Rattle.history.specs.Demands.{FindsFirst}
 
 -- a slot that has the tag: its row is live, and its tag is that

@@ -29,7 +29,7 @@ use Rattle.table_rules.proofs.Live.{slots-length}
 use Rattle.table_rules.proofs.Passing.{read-passed}
 use Rattle.table_rules.proofs.Fill.{passed-roomy}
 use Rattle.table_rules.proofs.Keeping.{nearest-size}
-use Rattle.history.specs.Slots.{slotRow}
+use Rattle.history.specs.Places.{slotRow}
 use Rattle.history.specs.Entries.{EntryThere, isDated, entryAt, placesWith, Words}
 use Rattle.history.specs.Demands.{FoundAreThere}
 use Rattle.history.proofs.RefinesLists.{flatten-perm}

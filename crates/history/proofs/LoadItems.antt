@@ -20,7 +20,7 @@ use Rattle.image_rules.specs.Read as reader
 use Rattle.image_rules.specs.Read.{fieldsAt, orderIn, weightsAs, spaceIn, slotsIn, rowIn, bucketIn}
 use Rattle.image_rules.specs.Load.{liveRows}
 use Rattle.image_rules.proofs.EachBucket.{rows-in-buckets}
-use Rattle.history.specs.ImageForm.{numberAt}
+use Rattle.history.specs.Places.{numberFrom}
 use Rattle.history.specs.LoadTests.{metricByte, formBytes, slotsInAll, recordFrom, markIn}
 use Rattle.history.specs.Model.{itemOf, Model, weightsRead, profileRead, itemRead, imageModel}
 use Rattle.history.proofs.ImageBytes.{number-wide}
@@ -65,20 +65,20 @@ module _ (image : List ℕ) where
       let here = record-place image i in
       let there = recordFrom image i in
       let e = record-from image i in
-      let at : (place n : ℕ) → place ≡ here + n → reader.numberAt image 4 place ≡ numberAt image (there + n) 4 =
+      let at : (place n : ℕ) → place ≡ here + n → reader.numberAt image 4 place ≡ numberFrom image (there + n) 4 =
       λ place n f. number-from image 4 place (there + n) (f ∙ ap (λ (p : ℕ). p + n) e) in
-      let m0 : reader.numberAt image 4 here ≡ numberAt image (there + 4 * 0) 4 = at here 0 (omega arith) in
-      let m1 : reader.numberAt image 4 (here + 4) ≡ numberAt image (there + 4 * 1) 4 = at (here + 4) 4 (omega arith) in
-      let m2 : reader.numberAt image 4 (here + 4 + 4) ≡ numberAt image (there + 4 * 2) 4 = at (here + 4 + 4) 8 (omega arith) in
-      let m3 : reader.numberAt image 4 (here + 4 + 4 + 4) ≡ numberAt image (there + 4 * 3) 4 = at (here + 4 + 4 + 4) 12 (omega arith) in
+      let m0 : reader.numberAt image 4 here ≡ numberFrom image (there + 4 * 0) 4 = at here 0 (omega arith) in
+      let m1 : reader.numberAt image 4 (here + 4) ≡ numberFrom image (there + 4 * 1) 4 = at (here + 4) 4 (omega arith) in
+      let m2 : reader.numberAt image 4 (here + 4 + 4) ≡ numberFrom image (there + 4 * 2) 4 = at (here + 4 + 4) 8 (omega arith) in
+      let m3 : reader.numberAt image 4 (here + 4 + 4 + 4) ≡ numberFrom image (there + 4 * 3) 4 = at (here + 4 + 4 + 4) 12 (omega arith) in
       let far : there + 16 + 4 ≡ there + 20 = omega arith in
       let further : there + 24 + 4 ≡ there + 28 = omega arith in
-      let first : numberAt image (there + 16) 8 ≡ wide (reader.numberAt image 4 (here + 4 + 4 + 4 + 4)) (reader.numberAt image 4 (here + 4 + 4 + 4 + 4 + 4)) =
+      let first : numberFrom image (there + 16) 8 ≡ wide (reader.numberAt image 4 (here + 4 + 4 + 4 + 4)) (reader.numberAt image 4 (here + 4 + 4 + 4 + 4 + 4)) =
       number-wide image (there + 16) _ _ (sym (at (here + 4 + 4 + 4 + 4) 16 (omega arith)))
-      (ap (λ (p : ℕ). numberAt image p 4) far ∙ sym (at (here + 4 + 4 + 4 + 4 + 4) 20 (omega arith))) in
-      let second : numberAt image (there + 24) 8 ≡ wide (reader.numberAt image 4 (here + 4 + 4 + 4 + 4 + 4 + 4)) (reader.numberAt image 4 (here + 4 + 4 + 4 + 4 + 4 + 4 + 4)) =
+      (ap (λ (p : ℕ). numberFrom image p 4) far ∙ sym (at (here + 4 + 4 + 4 + 4 + 4) 20 (omega arith))) in
+      let second : numberFrom image (there + 24) 8 ≡ wide (reader.numberAt image 4 (here + 4 + 4 + 4 + 4 + 4 + 4)) (reader.numberAt image 4 (here + 4 + 4 + 4 + 4 + 4 + 4 + 4)) =
       number-wide image (there + 24) _ _ (sym (at (here + 4 + 4 + 4 + 4 + 4 + 4) 24 (omega arith)))
-      (ap (λ (p : ℕ). numberAt image p 4) further ∙ sym (at (here + 4 + 4 + 4 + 4 + 4 + 4 + 4) 28 (omega arith))) in
+      (ap (λ (p : ℕ). numberFrom image p 4) further ∙ sym (at (here + 4 + 4 + 4 + 4 + 4 + 4 + 4) 28 (omega arith))) in
       ap₂ {C = Profile} (λ (ms : List ℤ) (code : List ℕ). record { measures = ms; code = code })
       (λ j. toZ w32 (m0 j) ∷ toZ w32 (m1 j) ∷ toZ w32 (m2 j) ∷ toZ w32 (m3 j) ∷ [])
       (λ j. sym first j ∷ sym second j ∷ [])

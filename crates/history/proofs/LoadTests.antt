@@ -33,7 +33,7 @@ use Rattle.state_rules.specs.Parts.{badName, notSaved, validName, partBytes, pa
 use Rattle.state_rules.specs.Restore.{holdsSnapshot, partRefusal, nameRefusal, restoreReply}
 use Rattle.state_rules.proofs.Parts.{part-length}
 use Rattle.table_rules.proofs.Chains.{when-zero}
-use Rattle.history.specs.ImageForm.{numberAt}
+use Rattle.history.specs.Places.{numberFrom}
 use Rattle.history.specs.Trace.{Shown, shows}
 use Rattle.history.specs.Trace.Payload.{aSlot}
 use Rattle.history.specs.Model.{dayRead, orShown, treesShown, loadShown}
@@ -41,15 +41,15 @@ use Rattle.history.specs.LoadTests.{orderByte, metricByte, formBytes, pa
 use Rattle.history.proofs.ImageBytes.{number-wide}
 
 -- a number past the end is 0
-number-past : (bytes : List ℕ) (place w : ℕ) → length bytes ≤ place → numberAt bytes place w ≡ 0
-unfolding numberAt
+number-past : (bytes : List ℕ) (place w : ℕ) → length bytes ≤ place → numberFrom bytes place w ≡ 0
+unfolding numberFrom
 number-past bytes place zero h = refl
 number-past bytes place (suc w) h =
     ap₂ (λ (x y : ℕ). x + 256 * y) (List·getD-eq-default bytes 0 {n = place} h) (number-past bytes (place + 1) w (omega arith))
 
 -- the number that the reader has from a place
-pub number-read : (bytes : List ℕ) (w place : ℕ) → reader.numberAt bytes w place ≡ numberAt bytes place w
-unfolding reader.numberAt numberAt numberOf
+pub number-read : (bytes : List ℕ) (w place : ℕ) → reader.numberAt bytes w place ≡ numberFrom bytes place w
+unfolding reader.numberAt numberFrom numberOf
 number-read bytes zero place = refl
 number-read bytes (suc w) place =
     elim (decLe (length bytes) place) [
@@ -181,11 +181,11 @@ module _ (image : List ℕ) where
 
   built-read : (k : ℕ) → builtIn image k ≡ builtAt image k
   unfolding builtIn sizeBytes pairBytes builtAt
-  built-read k = number-read image 2 _ ∙ ap (λ (p : ℕ). numberAt image (p + 4 * k) 2) head-read
+  built-read k = number-read image 2 _ ∙ ap (λ (p : ℕ). numberFrom image (p + 4 * k) 2) head-read
 
   live-read : (k : ℕ) → liveIn image k ≡ liveAt image k
   unfolding liveIn sizeBytes pairBytes liveAt
-  live-read k = number-read image 2 _ ∙ ap (λ (p : ℕ). numberAt image (p + 4 * k + 2) 2) head-read
+  live-read k = number-read image 2 _ ∙ ap (λ (p : ℕ). numberFrom image (p + 4 * k + 2) 2) head-read
 
   before-read : (k : ℕ) → slotsBefore image k ≡ slotsUpTo image k
   unfolding slotsBefore slotsUpTo
@@ -214,23 +214,23 @@ module _ (image : List ℕ) where
   record-from i =
       ap₂ _+_ (ap₂ (λ (p n : ℕ). p + 8 * n) tags-read slots-read) (ap (λ (w : ℕ). w * i) (record-size (formIn image) ∙ ap recordSize form-read))
 
-  pub number-from : (w place there : ℕ) → place ≡ there → reader.numberAt image w place ≡ numberAt image there w
-  number-from w place there e = number-read image w place ∙ ap (λ (p : ℕ). numberAt image p w) e
+  pub number-from : (w place there : ℕ) → place ≡ there → reader.numberAt image w place ≡ numberFrom image there w
+  number-from w place there e = number-read image w place ∙ ap (λ (p : ℕ). numberFrom image p w) e
 
   -- the words of a row that is read
-  pub tag-read : (i : ℕ) → tagOf (rowIn image i) ≡ numberAt image (tagsFrom image + 8 * i) 8
+  pub tag-read : (i : ℕ) → tagOf (rowIn image i) ≡ numberFrom image (tagsFrom image + 8 * i) 8
   unfolding rowIn tagOf word wide tagAt fieldsAt tagFields
   tag-read i =
       sym
       (number-wide image (tagsFrom image + 8 * i) _ _ (sym (number-from 4 (tag-place i) (tagsFrom image + 8 * i) (tag-from i)))
       (sym (number-from 4 (tag-place i + 4) (tagsFrom image + 8 * i + 4) (ap (λ (p : ℕ). p + 4) (tag-from i)))))
 
-  measures-read : (i : ℕ) → validMeasures (profileOf (rowIn image i)) ≡ every (λ j. measureSound (numberAt image (recordFrom image i + 4 * j) 4)) (0 ∷ 1 ∷ 2 ∷ 3 ∷ [])
+  measures-read : (i : ℕ) → validMeasures (profileOf (rowIn image i)) ≡ every (λ j. measureSound (numberFrom image (recordFrom image i + 4 * j) 4)) (0 ∷ 1 ∷ 2 ∷ 3 ∷ [])
   unfolding validMeasures every profileOf measuresAt codeAt rowIn word fieldsAt tagFields recordFields
   measures-read i =
       let here = record-place i in
       let e = record-from i in
-      let one : (place j : ℕ) → place ≡ here + 4 * j → validMeasure (toZ w32 (reader.numberAt image 4 place)) ≡ measureSound (numberAt image (recordFrom image i + 4 * j) 4) =
+      let one : (place j : ℕ) → place ≡ here + 4 * j → validMeasure (toZ w32 (reader.numberAt image 4 place)) ≡ measureSound (numberFrom image (recordFrom image i + 4 * j) 4) =
       λ place j f.
       measure-sound (reader.numberAt image 4 place) ∙ ap measureSound (number-from 4 place (recordFrom image i + 4 * j) (f ∙ ap (λ (p : ℕ). p + 4 * j) e)) in
       ap₂ _&&_ (one here 0 (omega arith))
@@ -296,13 +296,13 @@ module _ (image : List ℕ) where
   day-read i = day-by (formIn image) (tag-place i) (record-place i) (recordFrom image i) (record-from i) ∙ ap (λ (form : ℕ). dayRead form image (recordFrom image i)) form-read
 
   days-by : (form : ℕ) (is : List ℕ)
-      → every (λ i. leb 1 (dayRead form image (recordFrom image i))) is ≡ not (ltb 1 form && any (λ i. eqb (numberAt image (recordFrom image i + 40) 2) 0) is)
+      → every (λ i. leb 1 (dayRead form image (recordFrom image i))) is ≡ not (ltb 1 form && any (λ i. eqb (numberFrom image (recordFrom image i + 40) 2) 0) is)
   unfolding dayRead
   days-by zero is = every-true is
   days-by (suc zero) is = every-true is
   days-by (suc (suc form)) is =
-      every-not-any (λ i. leb 1 (numberAt image (recordFrom image i + 40) 2)) (λ i. eqb (numberAt image (recordFrom image i + 40) 2) 0) (λ i. some-not-none (numberAt image (recordFrom image i + 40) 2)) is
-      ∙ ap (λ (b : Bool). not (b && any (λ i. eqb (numberAt image (recordFrom image i + 40) 2) 0) is)) (sym (lt-ltb 1 (suc (suc form)) (omega arith)))
+      every-not-any (λ i. leb 1 (numberFrom image (recordFrom image i + 40) 2)) (λ i. eqb (numberFrom image (recordFrom image i + 40) 2) 0) (λ i. some-not-none (numberFrom image (recordFrom image i + 40) 2)) is
+      ∙ ap (λ (b : Bool). not (b && any (λ i. eqb (numberFrom image (recordFrom image i + 40) 2) 0) is)) (sym (lt-ltb 1 (suc (suc form)) (omega arith)))
 
   days-sound : daysPass image ≡ not (dayMissing image)
   unfolding daysPass dayMissing
@@ -312,14 +312,14 @@ module _ (image : List ℕ) where
       ∙ days-by (formBytes image) (countFrom 0 (slotsInAll image))
 
   -- the weights, which form 0 does not have
-  weights-by : (form : ℕ) → validWeights (weightsAs form image) ≡ not (ltb 0 form && any (λ i. ltb 100 (numberAt image (4 + i) 1)) (0 ∷ 1 ∷ 2 ∷ 3 ∷ []))
+  weights-by : (form : ℕ) → validWeights (weightsAs form image) ≡ not (ltb 0 form && any (λ i. ltb 100 (numberFrom image (4 + i) 1)) (0 ∷ 1 ∷ 2 ∷ 3 ∷ []))
   unfolding weightsAs weightsOne validWeights mostWeight weightFields startBytes startFields fieldsAt total every any
   weights-by zero = refl
   weights-by (suc form) =
-      let one : (i : ℕ) → leb (reader.numberAt image 1 (4 + i)) 100 ≡ not (ltb 100 (numberAt image (4 + i) 1)) =
-      λ i. ap (λ (n : ℕ). leb n 100) (number-read image 1 (4 + i)) ∙ most-above (numberAt image (4 + i) 1) 100 in
-      every-not-any (λ i. leb (reader.numberAt image 1 (4 + i)) 100) (λ i. ltb 100 (numberAt image (4 + i) 1)) one (0 ∷ 1 ∷ 2 ∷ 3 ∷ [])
-      ∙ ap (λ (b : Bool). not (b && any (λ i. ltb 100 (numberAt image (4 + i) 1)) (0 ∷ 1 ∷ 2 ∷ 3 ∷ []))) (sym (lt-ltb 0 (suc form) (omega arith)))
+      let one : (i : ℕ) → leb (reader.numberAt image 1 (4 + i)) 100 ≡ not (ltb 100 (numberFrom image (4 + i) 1)) =
+      λ i. ap (λ (n : ℕ). leb n 100) (number-read image 1 (4 + i)) ∙ most-above (numberFrom image (4 + i) 1) 100 in
+      every-not-any (λ i. leb (reader.numberAt image 1 (4 + i)) 100) (λ i. ltb 100 (numberFrom image (4 + i) 1)) one (0 ∷ 1 ∷ 2 ∷ 3 ∷ [])
+      ∙ ap (λ (b : Bool). not (b && any (λ i. ltb 100 (numberFrom image (4 + i) 1)) (0 ∷ 1 ∷ 2 ∷ 3 ∷ []))) (sym (lt-ltb 0 (suc form) (omega arith)))
 
   weights-sound : validWeights (spaceIn image .weights) ≡ not (weightTooLarge image)
   unfolding spaceIn weightTooLarge

@@ -1,3 +1,4 @@
+pub mod Places
 pub mod ImageForm
 pub mod LoadTests
 pub mod Trace

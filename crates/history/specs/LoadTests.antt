@@ -10,17 +10,17 @@ use Rattle.lists.specs.Lists.{total, every, any, select, countFrom}
 use Rattle.table_rules.specs.Refusals.{badOrder, badMetric, badLength, badImage, shortArea, badTable, badWeight, badDay}
 use Rattle.table_rules.specs.Refusals.{unless, when}
 use Rattle.state_rules.specs.Parts.{badName, notSaved}
-use Rattle.history.specs.ImageForm.{numberAt}
+use Rattle.history.specs.Places.{numberFrom}
 
 -- byte 0 is the order T, byte 1 the metric, bytes 2 and 3 are the form
 unfoldable pub orderByte : List ℕ → ℕ
-orderByte bytes = numberAt bytes 0 1
+orderByte bytes = numberFrom bytes 0 1
 
 unfoldable pub metricByte : List ℕ → ℕ
-metricByte bytes = numberAt bytes 1 1
+metricByte bytes = numberFrom bytes 1 1
 
 unfoldable pub formBytes : List ℕ → ℕ
-formBytes bytes = numberAt bytes 2 2
+formBytes bytes = numberFrom bytes 2 2
 
 -- the size pairs begin at byte 4 in form 0, and behind four weights at byte 8 in the others
 unfoldable pub pairsFrom : ℕ → ℕ
@@ -35,10 +35,10 @@ recordSize (suc (suc form)) = 42
 
 -- bucket k's built and live size, and N, the built sizes of all buckets before k added up
 unfoldable pub builtAt : List ℕ → ℕ → ℕ
-builtAt bytes k = numberAt bytes (pairsFrom (formBytes bytes) + 4 * k) 2
+builtAt bytes k = numberFrom bytes (pairsFrom (formBytes bytes) + 4 * k) 2
 
 unfoldable pub liveAt : List ℕ → ℕ → ℕ
-liveAt bytes k = numberAt bytes (pairsFrom (formBytes bytes) + 4 * k + 2) 2
+liveAt bytes k = numberFrom bytes (pairsFrom (formBytes bytes) + 4 * k + 2) 2
 
 unfoldable pub slotsUpTo : List ℕ → ℕ → ℕ
 slotsUpTo bytes k = total (map (builtAt bytes) (countFrom 0 k))
@@ -55,7 +55,7 @@ recordFrom bytes i = tagsFrom bytes + 8 * slotsInAll bytes + recordSize (formByt
 
 -- 32: from form 1 on a weight, bytes 4 to 7, above 100
 unfoldable pub weightTooLarge : List ℕ → Bool
-weightTooLarge bytes = ltb 0 (formBytes bytes) && any (λ i. ltb 100 (numberAt bytes (4 + i) 1)) (0 ∷ 1 ∷ 2 ∷ 3 ∷ [])
+weightTooLarge bytes = ltb 0 (formBytes bytes) && any (λ i. ltb 100 (numberFrom bytes (4 + i) 1)) (0 ∷ 1 ∷ 2 ∷ 3 ∷ [])
 
 -- 24: of a bucket both sizes are 0, or live ≤ built ≤ 2^k, 2^k < 2·built and 2^k < 4·live; at most 2^T are live in all
 unfoldable pub sizesSound : List ℕ → ℕ → Bool
@@ -75,7 +75,7 @@ allSizesSound bytes =
 unfoldable pub dayMissing : List ℕ → Bool
 dayMissing bytes =
     ltb 1 (formBytes bytes)
-    && any (λ i. eqb (numberAt bytes (recordFrom bytes i + 40) 2) 0) (countFrom 0 (slotsInAll bytes))
+    && any (λ i. eqb (numberFrom bytes (recordFrom bytes i + 40) 2) 0) (countFrom 0 (slotsInAll bytes))
 
 -- 8, of a tag: country × 10^12 + national, the country 1 to 999, the national at most 274,877,906,943
 unfoldable pub tagSound : ℕ → Bool
@@ -90,12 +90,12 @@ measureSound n = leb n 1_000_000 || leb 4_293_967_296 n
 
 -- a slot's mark, bytes 36 to 39 of its record, which is 0 or 1; and all of its fields
 unfoldable pub markIn : List ℕ → ℕ → ℕ
-markIn bytes i = numberAt bytes (recordFrom bytes i + 36) 4
+markIn bytes i = numberFrom bytes (recordFrom bytes i + 36) 4
 
 unfoldable pub slotSound : List ℕ → ℕ → Bool
 slotSound bytes i =
-    tagSound (numberAt bytes (tagsFrom bytes + 8 * i) 8)
-    && every (λ j. measureSound (numberAt bytes (recordFrom bytes i + 4 * j) 4)) (0 ∷ 1 ∷ 2 ∷ 3 ∷ [])
+    tagSound (numberFrom bytes (tagsFrom bytes + 8 * i) 8)
+    && every (λ j. measureSound (numberFrom bytes (recordFrom bytes i + 4 * j) 4)) (0 ∷ 1 ∷ 2 ∷ 3 ∷ [])
     && leb (markIn bytes i) 1
 
 -- of a bucket: each of its slots, and as many marks 0 as its live size says
@@ -133,7 +133,7 @@ unfoldable pub partFrom : List ℕ → ℕ → ℕ
 partFrom states name = (name - 1) * (length states / 8)
 
 unfoldable pub lengthIn : List ℕ → ℕ → ℕ
-lengthIn states name = numberAt states (partFrom states name) 4
+lengthIn states name = numberFrom states (partFrom states name) 4
 
 unfoldable pub imageIn : List ℕ → ℕ → List ℕ
 imageIn states name = take (lengthIn states name) (drop (partFrom states name + 4) states)

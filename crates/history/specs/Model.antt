@@ -32,7 +32,7 @@ use Rattle.call_rules.specs.Calls.Begin.{fresh, load, restore}
 use Rattle.call_rules.specs.Calls.Change.{add, remove, readList}
 use Rattle.call_rules.specs.Calls.Ask.{lookUp, range, nearest, dues, rangeBatch}
 use Rattle.call_rules.specs.Calls.Call.{begin, change, ask, write}
-use Rattle.history.specs.ImageForm.{numberAt}
+use Rattle.history.specs.Places.{numberFrom}
 use Rattle.history.specs.LoadTests.{orderByte, metricByte, formBytes, tagsFrom, slotsInAll, recordFrom, markIn}
 use Rattle.history.specs.LoadTests.{loadRefusalOf, imageIn, restoreRefusalOf}
 use Rattle.history.specs.Trace.{Step, Payload, Shown, zeroed, shows}
@@ -260,26 +260,26 @@ listAnswered m rows work list day =
 -- in form 0; the day is 1 in forms 0 and 1
 unfoldable pub weightsRead : ℕ → List ℕ → List ℕ
 weightsRead zero bytes = 1 ∷ 1 ∷ 1 ∷ 1 ∷ []
-weightsRead (suc form) bytes = map (λ i. numberAt bytes (4 + i) 1) (0 ∷ 1 ∷ 2 ∷ 3 ∷ [])
+weightsRead (suc form) bytes = map (λ i. numberFrom bytes (4 + i) 1) (0 ∷ 1 ∷ 2 ∷ 3 ∷ [])
 
 unfoldable pub dayRead : ℕ → List ℕ → ℕ → ℕ
 dayRead zero bytes place = 1
 dayRead (suc zero) bytes place = 1
-dayRead (suc (suc form)) bytes place = numberAt bytes (place + 40) 2
+dayRead (suc (suc form)) bytes place = numberFrom bytes (place + 40) 2
 
 -- slot i: its tag among the tags; in its record four measures in two's complement, two code words, and the day at the
 -- end
 unfoldable pub profileRead : List ℕ → ℕ → Profile
 profileRead bytes place =
     record {
-      measures = map (λ j. toZ w32 (numberAt bytes (place + 4 * j) 4)) (0 ∷ 1 ∷ 2 ∷ 3 ∷ []);
-      code = numberAt bytes (place + 16) 8 ∷ numberAt bytes (place + 24) 8 ∷ [];
+      measures = map (λ j. toZ w32 (numberFrom bytes (place + 4 * j) 4)) (0 ∷ 1 ∷ 2 ∷ 3 ∷ []);
+      code = numberFrom bytes (place + 16) 8 ∷ numberFrom bytes (place + 24) 8 ∷ [];
     }
 
 unfoldable pub itemRead : List ℕ → ℕ → Item
 itemRead bytes i =
     record {
-      tag = numberAt bytes (tagsFrom bytes + 8 * i) 8;
+      tag = numberFrom bytes (tagsFrom bytes + 8 * i) 8;
       profile = profileRead bytes (recordFrom bytes i);
       day = dayRead (formBytes bytes) bytes (recordFrom bytes i);
     }
