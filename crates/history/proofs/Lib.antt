@@ -73,6 +73,7 @@ mod Independence
 mod IndependenceBatch
 mod Naming
 mod Visiting
+mod Nearing
 mod Weighing
 mod DistancesTop
 mod Earlier
