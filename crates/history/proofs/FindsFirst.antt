@@ -261,7 +261,7 @@ deletion-ends {t} passed tag place e more d =
     go live (rebuilds positive few step) = absurd (omega (arith, few, live, more))
 
 -- a tag that has to be live is found, where its tests pass
-missing : (t : Table) (tag : ℕ) → liveTagRefusal t tag ≡ 0 → find t tag ≡ none → ⊥
+pub missing : (t : Table) (tag : ℕ) → liveTagRefusal t tag ≡ 0 → find t tag ≡ none → ⊥
 unfolding isLiveTag
 missing t tag tests f =
     let valid = unless-zero (validTag tag) badTag _ (omega arith) tests in

@@ -81,6 +81,7 @@ mod ListPrinted
 mod ListBack
 pub mod PlainUses
 mod FindsFirst
+mod ItemsStay
 mod Framing
 mod SearchBounds
 mod BuildBounds

@@ -40,6 +40,7 @@ pub use Rattle.history.proofs.ListBack.{list-form}
 pub use Rattle.history.proofs.SearchBounds.{searches-bounded}
 pub use Rattle.history.proofs.BuildBounds.{builds-bounded}
 pub use Rattle.history.proofs.FindsFirst.{finds-first}
+pub use Rattle.history.proofs.ItemsStay.{items-stay}
 pub use Rattle.history.proofs.Framing.{frame}
 pub use Rattle.history.proofs.FoundThere.{found-are-there}
 

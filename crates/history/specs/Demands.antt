@@ -47,6 +47,7 @@ use Rattle.history.specs.Images.{imageSize, LoadsBack, GivesBack, Restor
 use Rattle.history.specs.Represents.{Holds, NamesBuckets}
 use Rattle.history.specs.Reports.{ReportsBuilds}
 use Rattle.history.specs.Slots.{Finds}
+use Rattle.history.specs.Items.{Stay}
 use Rattle.history.specs.Frame.{Frames}
 use Rattle.history.specs.Entries.{AreThere}
 use Rattle.history.specs.Trees.{TreeFacts}
@@ -125,6 +126,13 @@ FoundAreThere = (t : Table) (query : Profile) (firstDay : ℕ) → AreThere t qu
 -- Theorem: `finds-first`
 abbrev pub FindsFirst : Type 0
 FindsFirst = (t : Table) (tag : ℕ) → Finds t tag
+
+-- RULES 8.3, 9.2 to 9.4, and whatever they build or empty on the way: on a table of 32-bit words, foreign ones too, the
+-- items at the built places of mark 0 are after an accepted add those before it and the new one, and after an accepted
+-- removal those before it without the one of the first slot, each as often as before (`Stay`).
+-- Theorem: `items-stay`
+abbrev pub ItemsStay : Type 0
+ItemsStay = (t : Table) (work : List Row) → All IsRow t → Stay t work
 
 -- W9, "every result, area and count is the one given today": an accepted removal replies the distances and leaves the
 -- table that the definition of before W9 gives.

@@ -16,6 +16,7 @@ pub mod Weighing
 pub mod Earlier
 pub mod ListForm
 pub mod Slots
+pub mod Items
 pub mod Frame
 pub mod Bounds
 pub mod Entries
