@@ -1,6 +1,6 @@
 -- The items in the slots of mark 0 after an accepted add or removal, of any table of rows of 13 words. By places they are
 -- those of the live slots; a slot struck leaves the others, and what a rebuild gathers goes through its layout permuted.
-use Prim.Native.Nat.{ℕ, zero, suc, _+_, _-_, _*_, _^_, _≤_, _<_}
+use Prim.Native.Nat.{ℕ, zero, suc, _+_, _-_, _^_, _≤_, _<_}
 use native.Mathlib.Omega.{arith}
 use native.Mathlib.Decide.{ℕ-discrete}
 use mathlib.Core.Path.{_≡_, refl, sym, ap, ap₂, _∙_, subst}
@@ -8,7 +8,7 @@ use mathlib.Core.Bool.{Bool, true, false}
 use mathlib.Core.Logic.{inl, inr}
 use mathlib.Core.Option.{Option, none, some}
 use mathlib.Core.List.{List, [], _∷_, _++_, map, map-append, flatten, append-nil}
-use mathlib.Core.List.{List·Permᴰ, List·Permᴰ·cons, List·Permᴰ·trans, Permᴰ·refl, Permᴰ·symm}
+use mathlib.Core.List.{List·Permᴰ, List·Permᴰ·cons, List·Permᴰ·trans, Permᴰ·symm}
 use lib.Dec.{eqb}
 use lib.ListN.{length, getD, drop}
 use Rattle.lists.specs.Lists.{select, countFrom, All}
@@ -33,27 +33,27 @@ use Rattle.table_rules.specs.Add.{addRefusal, lowestEmpty, gathered, addTarget,
 use Rattle.table_rules.specs.Remove.{removeRefusal, marked, afterDeletion, removed, removeReply, tableAfterRemove}
 use Rattle.table_rules.proofs.Chains.{or-zero, unless-zero}
 use Rattle.table_rules.proofs.ByNumber.{map-count, count-apart}
-use Rattle.table_rules.proofs.Views.{Only, same-order, kept-built, kept-live, kept-slots, kept-live-slots}
+use Rattle.table_rules.proofs.Views.{same-order, kept-built, kept-live, kept-slots, kept-live-slots}
 use Rattle.table_rules.proofs.Puts.{Holds, held-built, apart-or}
-use Rattle.table_rules.proofs.Changes.{marked-slots, marked-built}
+use Rattle.table_rules.proofs.Changes.{marked-slots}
 use Rattle.table_rules.proofs.Live.{Roomy, slots-length, allLive, changed-roomy, emptied-roomy, emptied-live}
 use Rattle.table_rules.proofs.Live.{rebuilt-holds, rebuilt-only, rebuilt-empties, rebuilt-permutes}
 use Rattle.table_rules.proofs.Finding.{Found, found, marked-loses, marked-permutes}
-use Rattle.table_rules.proofs.Sizes.{Used, size-in-use, sizes-at}
+use Rattle.table_rules.proofs.Sizes.{sizes-at}
 use Rattle.table_rules.proofs.Fill.{passed-roomy, Changeable, changeable, add-accepted, add-fits}
 use Rattle.table_rules.proofs.Adding.{Target, gathered-buckets}
-use Rattle.table_rules.proofs.Deletion.{Rebuilds, Deletion, deletion}
+use Rattle.table_rules.proofs.Deletion.{Deletion, deletion}
 use Rattle.table_rules.proofs.Deletion.Deletion.{empties, ends, rebuilds}
 use Rattle.table_rules.proofs.Removing.{Unites, sparse-unites}
-use Rattle.history.specs.Model.{Item, itemOf}
+use Rattle.history.specs.Model.{itemOf}
 use Rattle.history.specs.Places.{nthRow, wordIn, orderWord, builtSize, slotRow}
-use Rattle.history.specs.Items.{itemAt, liveAtPlaces, WithoutFirst, Stay}
+use Rattle.history.specs.Items.{itemAt, liveAtPlaces, WithoutFirst}
 use Rattle.history.specs.Demands.{ItemsStay}
 use Rattle.history.proofs.BuildsKeep.{item-placed, new-item}
 use Rattle.history.proofs.Marking.{all-set}
 use Rattle.history.proofs.Rebuilding.{live-all}
 use Rattle.history.proofs.FindsFirst.{slot-row, first-at, missing}
-use Rattle.history.proofs.Reporting.{within, slot-built, slot-room, only, one-less}
+use Rattle.history.proofs.Reporting.{slot-built, slot-room, used, built-same, only, one-less}
 
 -- what passes at the places of a list, by a function that gives its elements there
 by-places :
@@ -197,11 +197,8 @@ module _ {work : List Row} {t : Table} (c : Changeable work t) (whole : All IsRo
   order : orderOf v ≡ orderOf t
   order = same-order (only c tag place here .header)
 
-  built-same : builtOf v k ≡ builtOf t k
-  built-same = marked-built t place (at .inOrder) (roomy .long) (slot-room c tag place here)
-
   struck-roomy : Roomy v
-  struck-roomy = changed-roomy k (at .inOrder) roomy (only c tag place here) (omega (arith, built-same, roomy .within k (at .inOrder)))
+  struck-roomy = changed-roomy k (at .inOrder) roomy (only c tag place here) (omega (arith, built-same c tag place here, roomy .within k (at .inOrder)))
 
   -- every bucket's live slots are as many as its live size says
   struck-lives : (j : ℕ) → j ≤ orderOf v → length (liveSlots v j) ≡ liveOf v j
@@ -234,11 +231,6 @@ module _ {work : List Row} {t : Table} (c : Changeable work t) (whole : All IsRo
         | no ne ↦ subst (All IsRow) (sym (kept-slots (only c tag place here .others j below ne) (roomy .within j below))) (rows-slots t whole j)
       ]
 
-  used : Used k (builtOf t k) (liveOf t k)
-  used =
-      size-in-use k (builtOf t k) (liveOf t k) (sizes-at (orderOf t) (builtOf t) (liveOf t) (c .passed .sizes) k (at .inOrder))
-      (λ e. absurd (omega (arith, e, slot-built c tag place here)))
-
   others : (j : ℕ) → j ≤ orderOf v → (j ≡ k → ⊥) → sizePasses j (builtOf v j) (liveOf v j) ≡ true
   others j h ne =
       let below : j ≤ orderOf t = omega (arith, h, order) in
@@ -269,7 +261,7 @@ module _ {work : List Row} {t : Table} (c : Changeable work t) (whole : All IsRo
         inOrder = inOrder;
         some = positive;
         sparse = few;
-        before = omega (arith, one-less c tag place here, used .quarter);
+        before = omega (arith, one-less c tag place here, used c tag place here .quarter);
         others = others;
         lives = struck-lives;
       }) step in
