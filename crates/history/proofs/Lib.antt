@@ -1,19 +1,6 @@
--- The theorems of `specs/Demands`, the laws of calls that the claims on conversations rest on (`LongAreas`), and the definitions of the rules run on small herds.
+-- The theorems of `specs/Demands`, the laws of calls that the claims on conversations rest on (`LongAreas`).
 pub mod Theorems
 pub mod LongAreas
-pub mod Computing
-pub mod Running
-pub mod Starred
-pub mod Removals
-pub mod Searches
-pub mod EqualTags
-pub mod Refused
-pub mod Imaged
-pub mod FirstFaults
-pub mod Nationals
-pub mod Alike
-pub mod EndsAlike
-pub mod ShutOut
 mod Invariant
 mod Amortized
 mod AmortizedMoved
@@ -39,7 +26,6 @@ mod LoadTests
 mod LoadItems
 mod Ordering
 mod AnyDistance
-mod Batches
 mod RefinesLists
 mod RefinesSearch
 mod RefinesTable
@@ -74,10 +60,9 @@ mod Independence
 mod IndependenceBatch
 mod Naming
 mod Visiting
-mod Weighing
+pub mod Weighing
 mod ListPrinted
-mod ListBack
-pub mod PlainUses
+pub mod ListBack
 mod FindsFirst
 mod Framing
 mod Entered

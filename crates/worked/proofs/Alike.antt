@@ -12,15 +12,15 @@ use Rattle.table_rules.specs.LookUp.{noProfile}
 use Rattle.state_rules.specs.Parts.{snapshotOf}
 use Rattle.lots_rules.specs.Lots.{Summary}
 use Rattle.call_rules.specs.Calls.{Call, draftAreas}
 use Rattle.history.specs.Places.{numberFrom}
 use Rattle.history.specs.LoadTests.{orderByte, metricByte, formBytes, pairsFrom, recordSize, builtAt, liveAt, slotsUpTo, tagsFrom, slotsInAll, recordFrom, weightTooLarge, sizesSound, allSizesSound, dayMissing, tagSound, measureSound, markIn, slotSound, slotsAt, bucketSound, allFieldsSound, loadRefusalOf, partFrom, lengthIn, imageIn, restoreRefusalOf}
 use Rattle.history.specs.Trace.{Step, Shown, zeroed, shows, ownRows, overlaid, leftBy, beginShown, changeShown, duesIn, listedIn, draftedIn, draftIn, askShown, shown, noSums, plus, imageSums, starting, begunSums, ifAccepted, counted, sumsAfter, stateAfter, shownAt, stateAfterAll, trace}
 use Rattle.history.specs.Trace.Payload.{bare, aSlot, aWeighing, someEntries, aListRead, someDues, someLists, aDraft}
 use Rattle.history.specs.Model.{itemOf, withTag, isIn, with, without, weighedIn, scanned, modelRange, modelNearest, weightOf, weightsIn, modelLots, modelSummaries, modelListing, canRead, canChange, tagRefusal, itemRefusal, addRefusalOf, removeRefusalOf, fits, questionRefusal, askRefusal, found, paid, answerTo, showsUnless, afterUnless, stopsAt, oneMoreAdded, linesAnswered, listAnswered, weightsRead, dayRead, profileRead, itemRead, imageModel, modelBegun, freshRefusalOf, treesShown, loadShown, begunShown, beginAnswer, changeAnswer, answer, answerAt, modelAfterAll, modelTrace, modelRanges, foundEach}
 use Rattle.history.specs.History.{before, blankModel}
-use Rattle.history.proofs.Computing.{performed}
-use Rattle.history.proofs.Running.{fresh, load, restore, write, save, add, remove, readList, lookUp, range, nearest, dues, lots, weighing, by, tag, valued, measured, areasFor, scratch, adding, removing, listOf, itemLine, rangeBatch}
-use Rattle.history.proofs.Imaged.{oneAs, oneImage, deadImage, unweightedImage}
+use Rattle.worked.proofs.Computing.{performed}
+use Rattle.worked.proofs.Running.{fresh, load, restore, write, save, add, remove, readList, lookUp, range, nearest, dues, lots, weighing, by, tag, valued, measured, areasFor, scratch, adding, removing, listOf, itemLine, rangeBatch}
+use Rattle.worked.proofs.Imaged.{oneAs, oneImage, deadImage, unweightedImage}
 
 -- calls in roomy areas, each lent its own; and one in areas of these lengths
 roomy : List Call → List Step

@@ -9,7 +9,7 @@ use Rattle.metric_rules.specs.Validity.{nationals}
 use Rattle.table_rules.specs.Geometry.{firstSlot}
 use Rattle.table_rules.specs.Table.{Table}
 use Rattle.image_rules.specs.Write.{imageOf}
-use Rattle.history.proofs.Running.{fresh, load, add, remove, lookUp, range, nearest, by, tag, valued, scratch, replies, after}
+use Rattle.worked.proofs.Running.{fresh, load, add, remove, lookUp, range, nearest, by, tag, valued, scratch, replies, after}
 
 countries : List ℕ
 countries = 1 ∷ 36 ∷ 999 ∷ []

@@ -23,15 +23,15 @@ use Rattle.metric_rules.proofs.Elements.{each-at}
 use Rattle.search_rules.specs.Range.{Entry}
 use Rattle.table_rules.specs.Table.{Table, inUse, slotsOf, liveSlots}
 use Rattle.call_rules.specs.Calls.{Begin, Ask, Call, askReply, areasAnswered}
 use Rattle.history.specs.Trace.{Step, ownRows, overlaid, leftBy, beginShown, changeShown, askShown, shown, noSums, plus, starting, begunSums, ifAccepted, counted, sumsAfter, stateAfter, shownAt, stateAfterAll}
 use Rattle.history.specs.Model.{itemOf}
 use Rattle.history.specs.History.{before, opening, History, steps, finalState}
 use Rattle.history.specs.Represents.{itemsIn}
 use Rattle.history.specs.Agreement.{SameItems, SameAnswers}
 use Rattle.history.specs.Counter.{bit, Highest, OnlyAdded, CountsAdds}
-use Rattle.history.proofs.Computing.{performed}
-use Rattle.history.proofs.Running.{fresh, load, restore, write, save, add, remove, readList, range, by, tag, valued, areasFor, scratch, listOf, itemLine}
+use Rattle.worked.proofs.Computing.{performed}
+use Rattle.worked.proofs.Running.{fresh, load, restore, write, save, add, remove, readList, range, by, tag, valued, areasFor, scratch, listOf, itemLine}
 use Rattle.history.proofs.Theorems.{independent-of-history, binary-counter}
 
 roomy : List Call → List Step
 unfolding areasFor scratch

@@ -4,7 +4,7 @@ use Prim.Native.Nat.{ℕ}
 use mathlib.Core.Path.{_≡_, refl}
 use mathlib.Core.List.{List, [], _∷_, _++_}
 use Rattle.table_rules.specs.Table.{Table, liveOf, slotsOf, putBucket}
-use Rattle.history.proofs.Running.{fresh, add, remove, by, tag, valued, scratch, replies, after, contents, days, adding, removing, table, dated}
+use Rattle.worked.proofs.Running.{fresh, add, remove, by, tag, valued, scratch, replies, after, contents, days, adding, removing, table, dated}
 
 -- order 2, the four items less 3 and 4, and then 5 and 6 (values 5 and 6) in bucket 1
 paired : Table

@@ -12,10 +12,10 @@ use Rattle.table_rules.specs.Geometry.{firstSlot}
 use Rattle.table_rules.specs.Table.{Table, rowAt, pairRow, putSizes}
 use Rattle.table_rules.specs.LookUp.{notFound, lookUpReply}
 use Rattle.call_rules.specs.Calls.{Call, Areas, draftAreas}
-use Rattle.history.proofs.Computing.{performed}
-use Rattle.history.proofs.Imaged.{deadImage}
-use Rattle.history.proofs.Running.{fresh, load, restore, write, save, add, remove, readList, lookUp, range, nearest, dues, rangeBatch, lots, weighing}
-use Rattle.history.proofs.Running.{by, tag, valued, areasFor, areaRows, replyNumbers, listOf, itemLine, table}
+use Rattle.worked.proofs.Computing.{performed}
+use Rattle.worked.proofs.Imaged.{deadImage}
+use Rattle.worked.proofs.Running.{fresh, load, restore, write, save, add, remove, readList, lookUp, range, nearest, dues, rangeBatch, lots, weighing}
+use Rattle.worked.proofs.Running.{by, tag, valued, areasFor, areaRows, replyNumbers, listOf, itemLine, table}
 
 -- the table of the four items, written out, so that no try works it out again; and that it is theirs
 laid : Table

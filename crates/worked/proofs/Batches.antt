@@ -6,7 +6,7 @@ use mathlib.Core.Path.{_≡_, refl}
 use mathlib.Core.List.{List, [], _∷_, _++_}
 use lib.ListN.{replicate}
 use Rattle.metric_rules.specs.Row.{Row, rowOf}
-use Rattle.history.proofs.Running.{tag, valued, scratch, replies, table, dated, rangeBatch}
+use Rattle.worked.proofs.Running.{tag, valued, scratch, replies, table, dated, rangeBatch}
 
 -- a query's row: the value, the radius and the first day, with other content in the words that are ignored
 asks : ℕ → ℕ → ℕ → Row

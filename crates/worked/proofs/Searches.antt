@@ -15,8 +15,8 @@ use Rattle.metric_rules.specs.Distance.{worstDistance}
 use Rattle.tree_rules.specs.Layout.{layout}
 use Rattle.table_rules.specs.Geometry.{firstSlot}
 use Rattle.table_rules.specs.Table.{Table, rowAt}
-use Rattle.history.proofs.Running.{fresh, add, lookUp, range, nearest, weighing, by, tag, valued, measured, scratch, replies, after, removing, table}
-use Rattle.history.proofs.Running.{dated}
+use Rattle.worked.proofs.Running.{fresh, add, lookUp, range, nearest, weighing, by, tag, valued, measured, scratch, replies, after, removing, table}
+use Rattle.worked.proofs.Running.{dated}
 
 -- four items in one tree of order 2, by their nationals and values
 four : ℕ → ℕ → ℕ → ℕ → ℕ → ℕ → ℕ → ℕ → Table

@@ -11,8 +11,8 @@ use Rattle.image_rules.specs.Load.{loadRefusal, tableAfterLoad}
 use Rattle.image_rules.specs.Translate.{weightBytes, recordWithDay, translated}
 use Rattle.state_rules.specs.Save.{statesAfterSave}
 use Rattle.state_rules.specs.Restore.{tableAfterRestore}
-use Rattle.history.proofs.Computing.{performed}
-use Rattle.history.proofs.Running.{fresh, add, weighing, by, tag, valued, scratch, after, removing, table}
+use Rattle.worked.proofs.Computing.{performed}
+use Rattle.worked.proofs.Running.{fresh, add, weighing, by, tag, valued, scratch, after, removing, table}
 
 -- 36,000,000,000,000 in bytes, lowest first, is 0, 64, 54, 231, 189, 32, 0, 0, and n below 256 goes into the first
 unfoldable pub tagBytes : ℕ → List ℕ

@@ -7,8 +7,8 @@ use lib.ListN.{replicate}
 use Rattle.metric_rules.specs.Row.{rowOf, newRow}
 use Rattle.table_rules.specs.Table.{Table, putBucket}
 use Rattle.call_rules.specs.Calls.{Call, draftAreas}
-use Rattle.history.proofs.Computing.{performed}
-use Rattle.history.proofs.Running.{fresh, add, lots, by, tag, valued, scratch, replies, after, contents, days, areaRows}
+use Rattle.worked.proofs.Computing.{performed}
+use Rattle.worked.proofs.Running.{fresh, add, lots, by, tag, valued, scratch, replies, after, contents, days, areaRows}
 
 -- a table with one item more, alone in bucket 0
 alone : ℕ → ℕ → ℕ → Table → Table

@@ -12,7 +12,7 @@ use Rattle.text_rules.specs.Text.{lineFeed, digits}
 use Rattle.list_rules.specs.Lines.{semicolon, comma, listHeader}
 use Rattle.call_rules.specs.Calls.{Begin, BeginReply, Change, ChangeReply, Ask, AskAreas, AskReply, Write, Call, Areas, Reply}
 use Rattle.call_rules.specs.Calls.Call.{begin, change, ask}
-use Rattle.history.proofs.Computing.{performed}
+use Rattle.worked.proofs.Computing.{performed}
 
 -- what distances depend on, by a metric's number: with these weights, or with weights 1
 abbrev pub weighing : ℕ → List ℕ → Space

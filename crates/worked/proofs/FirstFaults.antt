@@ -6,8 +6,8 @@ use mathlib.Core.Path.{_≡_, refl}
 use mathlib.Core.List.{List, [], _∷_, _++_, map, flatten}
 use lib.ListN.{set}
 use Rattle.image_rules.specs.Load.{loadReply}
-use Rattle.history.proofs.Computing.{performed}
-use Rattle.history.proofs.Imaged.{tagBytes, recordBytes, deadImage}
+use Rattle.worked.proofs.Computing.{performed}
+use Rattle.worked.proofs.Imaged.{tagBytes, recordBytes, deadImage}
 
 -- the replies to loads into an area of 21 rows
 told : List (List ℕ) → List (List ℕ)
