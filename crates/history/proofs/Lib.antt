@@ -61,9 +61,13 @@ mod IndependenceBatch
 mod Naming
 mod Visiting
 pub mod Weighing
+mod DistancesTop
+mod Earlier
 mod ListPrinted
 pub mod ListBack
 mod FindsFirst
 mod Framing
+mod SearchBounds
+mod BuildBounds
 mod Entered
 mod FoundThere

@@ -34,7 +34,11 @@ pub use Rattle.history.proofs.CountingHistory.{binary-counter}
 pub use Rattle.history.proofs.Naming.{replies-bucket}
 pub use Rattle.history.proofs.Visiting.{counts-visits}
 pub use Rattle.history.proofs.Weighing.{weighs-each, one-bit}
+pub use Rattle.history.proofs.DistancesTop.{distances-top}
+pub use Rattle.history.proofs.Earlier.{removes-as-before, dues-add-up, two-weights-changed}
 pub use Rattle.history.proofs.ListBack.{list-form}
+pub use Rattle.history.proofs.SearchBounds.{searches-bounded}
+pub use Rattle.history.proofs.BuildBounds.{builds-bounded}
 pub use Rattle.history.proofs.FindsFirst.{finds-first}
 pub use Rattle.history.proofs.Framing.{frame}
 pub use Rattle.history.proofs.FoundThere.{found-are-there}

@@ -16,12 +16,14 @@ use Rattle.metric_rules.specs.declared.Profile.{Profile}
 use Rattle.metric_rules.specs.Row.{Row, dayOf, IsRow, IsProfile}
 use Rattle.metric_rules.specs.declared.Space.{Space}
 use Rattle.metric_rules.specs.declared.Weights.{Weights}
-use Rattle.metric_rules.specs.Distance.{distance, saturated, gap, largest, codeDistance, weightsOne, Metric}
-use Rattle.search_rules.specs.Range.{Ascending}
+use Rattle.metric_rules.specs.Validity.{validMeasures}
+use Rattle.metric_rules.specs.Distance.{distance, saturated, gap, largest, codeDistance, weightsOne, validWeights, Metric}
+use Rattle.search_rules.specs.Range.{Entry, Ascending}
 use Rattle.table_rules.specs.Geometry.{room, tableRows}
 use Rattle.table_rules.specs.Table.{Table, orderOf, tableSpace, slotsOf, liveSlots}
 use Rattle.table_rules.specs.Checks.{readRefusal}
 use Rattle.table_rules.specs.Rebuild.{rebuilt}
+use Rattle.table_rules.specs.Remove.{removeReply, tableAfterRemove}
 use Rattle.table_rules.specs.Search.{bucketsDown, rangeAnswer, nearestAnswer}
 use Rattle.image_rules.specs.Bytes.{writtenForm, imageLength}
 use Rattle.image_rules.specs.Read.{orderIn, spaceIn, formIn, slotsIn, bucketIn}
@@ -34,6 +36,8 @@ use Rattle.call_rules.specs.Calls.{Call, Areas, beginReply, tableBegun, Write, 
 use Rattle.call_rules.specs.Calls.Begin.{fresh, load}
 use Rattle.call_rules.specs.Calls.Call.{write}
 use Rattle.batch_rules.specs.Batch.{singleAnswer, batchCount}
+use Rattle.dues_rules.specs.Board.{board, duesBy}
+use Rattle.dues_rules.specs.Listed.{duesReply, duesAfter}
 use Rattle.lots_rules.specs.Claims.{Lots, DraftsLots, OneEach, OneLot}
 use Rattle.history.specs.Model.{Model, itemOf, modelRange, modelNearest, betweenItems, modelLots}
 use Rattle.history.specs.Trace.{ownRows, overlaid, stateAfter}
@@ -49,7 +53,9 @@ use Rattle.history.specs.Trees.{TreeFacts}
 use Rattle.history.specs.Agreement.{SameItems, SameAnswers}
 use Rattle.history.specs.Counter.{OnlyAdded, CountsAdds}
 use Rattle.history.specs.Leaves.{refusalOf, ChangesNothing, Excepted, Exceptions, LeavesRest, WritesBy}
+use Rattle.history.specs.Bounds.{Searches, Builds}
 use Rattle.history.specs.Visits.{Lists, Visited}
+use Rattle.history.specs.Earlier.{earlierRemoved, earlierBoard}
 use Rattle.history.specs.ListForm.{headerText, Line, IsLine, itemIn, linesText, ReadsPrinted}
 use Rattle.history.specs.Weighing.{Apart, profile, space, Weighs, WeighsAlone, CountsBits}
 
@@ -81,6 +87,16 @@ KeepsEnough =
     (t : Table) (query : Profile) (k firstDay : ℕ)
     → length (nearestAnswer t query k firstDay .entries) ≡ min k (total (map (λ b. length (select (λ row. leb firstDay (dayOf row)) (liveSlots t b))) (bucketsDown t)))
 
+-- RULES 17.11, worst cases, for every table, foreign ones too, and lent areas of any length: one reply of range, nearest or
+-- a batch counts at most the built slots, so at most 2^(T+1) - 1, and fewer than four times the live head, or 0 where
+-- there are none (`SlotsBound`); one add or removal reports at most T·2^T.
+-- Theorems: `searches-bounded`, `builds-bounded`
+abbrev pub SearchesBounded : Type 0
+SearchesBounded = (t : Table) (area : List Entry) → Searches t area
+
+abbrev pub BuildsBounded : Type 0
+BuildsBounded = (t : Table) (work : List Row) → Builds t work
+
 -- RULES 11.2, 11.5, 11.9, for every table: each entry of an answer is the tag and the distance of a built slot whose
 -- mark is 0 and whose day is not before the first day, and range's are within the radius. Of a table that passes the
 -- tests of RULES 14.5 no slot stands behind two entries; by the largest radius, 4,294,967,295, range finds as many as
@@ -97,6 +113,30 @@ FoundAreThere = (t : Table) (query : Profile) (firstDay : ℕ) → AreThere t qu
 -- Theorem: `finds-first`
 abbrev pub FindsFirst : Type 0
 FindsFirst = (t : Table) (tag : ℕ) → Finds t tag
+
+-- W9, "every result, area and count is the one given today": an accepted removal replies the distances and leaves the
+-- table that the definition of before W9 gives.
+-- Theorem: `removes-as-before`
+abbrev pub RemovesAsBefore : Type 0
+RemovesAsBefore =
+    (t : Table) (work : List Row) (tag : ℕ) → removeReply t work tag .refusal ≡ 0
+    → (removeReply t work tag .distances ≡ earlierRemoved t tag .distances)
+    × (tableAfterRemove t work tag ≡ earlierRemoved t tag .table)
+
+-- W10 (RULES 20.5): the numbers that accepted dues leave in their area for a list add up to the total in the reply.
+-- Theorem: `dues-add-up`
+abbrev pub DuesAddUp : Type 0
+DuesAddUp =
+    (t : Table) (tags area : List ℕ) → duesReply t tags area .refusal ≡ 0
+    → duesReply t tags area .total ≡ total (take (length tags) (duesAfter t tags area))
+
+-- W13 (RULES 20.2): dues changed for just two weights, 400.00 kg from 8.00 to 12.00 and 600.00 kg from 18.00 to 24.00.
+-- Theorem: `two-weights-changed`
+abbrev pub TwoWeightsChanged : Type 0
+TwoWeightsChanged =
+    ((w : ℕ) → (w ≡ 40_000 → ⊥) → (w ≡ 60_000 → ⊥) → duesBy board w ≡ duesBy earlierBoard w)
+    × (duesBy earlierBoard 40_000 ≡ 800) × (duesBy board 40_000 ≡ 1_200)
+    × (duesBy earlierBoard 60_000 ≡ 1_800) × (duesBy board 60_000 ≡ 2_400)
 
 -- RULES 2.8: an item's tag, profile and day stay with it through every build. Whatever rows a rebuild gathers, and from whatever table that passes the tests of
 -- RULES 14.5, the bucket that it builds holds their items and no others.
@@ -180,6 +220,20 @@ abbrev pub OneBit : Type 0
 OneBit =
     (u v w x : ℕ) (a b c d a′ b′ c′ d′ : ℤ)
     → CountsBits (λ m n m′ n′. distance (space 1 u v w x) (profile a b c d m n) (profile a′ b′ c′ d′ m′ n′))
+
+-- RULES 3.2 to 3.4, 3.8: how far apart two head with valid measures can be, in hundredths: with weights 1 at most 8,000,000
+-- by metric 0 and 2,000,000 by metric 2; with any weights that pass a hundred times that; by metric 1 at most 128, whatever
+-- the measures.
+-- Theorem: `distances-top`
+abbrev pub DistancesTop : Type 0
+DistancesTop =
+    (p q : Profile)
+    → (validMeasures p ≡ true → validMeasures q ≡ true
+    → (distance (space 0 1 1 1 1) p q ≤ 8_000_000) × (distance (space 2 1 1 1 1) p q ≤ 2_000_000)
+    × ((weights : Weights) → validWeights weights ≡ true
+    → (distance (record { metric = 0; weights = weights }) p q ≤ 800_000_000)
+    × (distance (record { metric = 2; weights = weights }) p q ≤ 200_000_000)))
+    × ((weights : Weights) → distance (record { metric = 1; weights = weights }) p q ≤ 128)
 
 -- RULES 13.1, 13.2, the form of a herd list, byte by byte (`linesText`). The test of the header passes exactly if the
 -- list is the header's 22 bytes and anything behind them. The header and any printed lines read as exactly the items
