@@ -29,7 +29,7 @@ use Rattle.table_rules.proofs.Visits.{range-visits}
 use Rattle.table_rules.proofs.Down
 use Rattle.batch_rules.specs.Batch.{reachedBySome, batchCount, batchRefusal, singleAnswers, rangesReply, rangeBatchReply}
 use Rattle.image_rules.proofs.Blocks.{length-count}
-use Rattle.history.specs.Slots.{orderIn}
+use Rattle.history.specs.Places.{orderWord}
 use Rattle.history.specs.Bounds.{SlotsBound, Searches}
 use Rattle.history.specs.Demands.{SearchesBounded}
 use Rattle.history.proofs.Amortized.{below, below-none, below-next}
@@ -129,9 +129,9 @@ sums built live (suc n) each = go (sums built live n (λ k h. each k (omega arit
         }
 
 module _ (t : Table) where
-  top-room : 2 ^ (orderIn t + 1) ≡ room (suc (orderOf t))
+  top-room : 2 ^ (orderWord t + 1) ≡ room (suc (orderOf t))
   unfolding orderOf rowAt word headerRow room
-  top-room = let e : orderIn t + 1 ≡ suc (orderIn t) = omega arith in ap (λ (n : ℕ). 2 ^ n) e
+  top-room = let e : orderWord t + 1 ≡ suc (orderWord t) = omega arith in ap (λ (n : ℕ). 2 ^ n) e
 
   bounded : readRefusal t ≡ 0 → (n : ℕ) → n ≤ below (builtOf t) (suc (orderOf t)) → SlotsBound t n
   unfolding below builtOf liveOf orderOf rowAt word sizesRow headerRow

@@ -1,5 +1,5 @@
--- RULES 17.11: how much the count of one reply can be, by the sizes that the table's words say. Of any table, foreign ones
--- too, and in areas of any length: a call that is refused replies 0.
+-- RULES 17.11: how much the count of one reply can be, by the sizes that the table's words say. Of any table, foreign
+-- ones too, and in areas of any length: a call that is refused replies 0.
 use Prim.Native.Nat.{ℕ, suc, _+_, _*_, _^_, _≤_, _<_}
 use mathlib.Core.Path.{_≡_}
 use mathlib.Core.List.{List, map}
@@ -12,20 +12,20 @@ use Rattle.call_rules.specs.Calls.{replyTo}
 use Rattle.call_rules.specs.Calls.Call.{change, ask}
 use Rattle.call_rules.specs.Calls.Change.{add, remove}
 use Rattle.call_rules.specs.Calls.Ask.{range, nearest, rangeBatch}
-use Rattle.history.specs.Slots.{orderIn, builtSize, liveSize}
+use Rattle.history.specs.Places.{orderWord, builtSize, liveSize}
 
 -- the built sizes and the live sizes of buckets 0 to T, added up
 abbrev pub builtInAll : Table → ℕ
-builtInAll t = total (map (builtSize t) (countFrom 0 (suc (orderIn t))))
+builtInAll t = total (map (builtSize t) (countFrom 0 (suc (orderWord t))))
 
 abbrev pub liveInAll : Table → ℕ
-liveInAll t = total (map (liveSize t) (countFrom 0 (suc (orderIn t))))
+liveInAll t = total (map (liveSize t) (countFrom 0 (suc (orderWord t))))
 
--- a count of slots is at most the built ones, so at most 2^(T+1) - 1, and below four times the live head, or 0 where there
--- are none
+-- a count of slots is at most the built ones, so at most 2^(T+1) - 1, and below four times the live head, or 0 where
+-- there are none
 pub record SlotsBound (t : Table) (count : ℕ) : Type 0 where
   pub built : count ≤ builtInAll t
-  pub slots : count + 1 ≤ 2 ^ (orderIn t + 1)
+  pub slots : count + 1 ≤ 2 ^ (orderWord t + 1)
   pub live : 0 < liveInAll t → count < 4 * liveInAll t
   pub none : liveInAll t ≡ 0 → count ≡ 0
 
@@ -40,5 +40,5 @@ pub record Searches (t : Table) (area : List Entry) : Type 0 where
 -- what an add or a removal reports: at most T·2^T
 pub record Builds (t : Table) (work : List Row) : Type 0 where
   pub adds : (tag : ℕ) (p : Profile) (day : ℕ)
-      → replyTo (change (add tag p day)) t work .distances ≤ orderIn t * 2 ^ orderIn t
-  pub removes : (tag : ℕ) → replyTo (change (remove tag)) t work .distances ≤ orderIn t * 2 ^ orderIn t
+      → replyTo (change (add tag p day)) t work .distances ≤ orderWord t * 2 ^ orderWord t
+  pub removes : (tag : ℕ) → replyTo (change (remove tag)) t work .distances ≤ orderWord t * 2 ^ orderWord t
