@@ -62,6 +62,7 @@ mod IndependenceBatch
 mod Naming
 mod Visiting
 pub mod Weighing
+mod Nearing
 mod DistancesTop
 mod Earlier
 mod ListPrinted

@@ -4,16 +4,16 @@
 -- Demand 1. Every call, for every input and every lent area, replies and leaves what the rules say: the refusal that comes first in their order
 -- and only under its condition, and every reply, count and area. It is the contract of each public call, which has no `requires` and is an equation with
 -- the definitions of `call_rules`: `replyTo`, `tableAfter` and `areasAfter` are these, for all calls.
-use Prim.Native.Nat.{ℕ, _+_, _^_, _≤_, _<_, min}
+use Prim.Native.Nat.{ℕ, suc, _+_, _^_, _≤_, _<_, min}
 use mathlib.Core.Path.{_≡_}
-use mathlib.Core.Bool.{true}
+use mathlib.Core.Bool.{true, _&&_}
 use mathlib.Core.List.{List, [], _∷_, _++_, map, List·Permᴰ}
 use lib.ListN.{length, take}
-use lib.Dec.{leb}
+use lib.Dec.{leb, eqb}
 use lib.IntN.{ℤ}
 use Rattle.lists.specs.Lists.{select, total, All}
 use Rattle.metric_rules.specs.declared.Profile.{Profile}
-use Rattle.metric_rules.specs.Row.{Row, dayOf, IsRow, IsProfile}
+use Rattle.metric_rules.specs.Row.{Row, markOf, dayOf, IsRow, IsProfile}
 use Rattle.metric_rules.specs.declared.Space.{Space}
 use Rattle.metric_rules.specs.declared.Weights.{Weights}
 use Rattle.metric_rules.specs.Validity.{validMeasures}
@@ -54,7 +54,7 @@ use Rattle.history.specs.Agreement.{SameItems, SameAnswers}
 use Rattle.history.specs.Counter.{OnlyAdded, CountsAdds}
 use Rattle.history.specs.Leaves.{refusalOf, ChangesNothing, Excepted, Exceptions, LeavesRest, WritesBy}
 use Rattle.history.specs.Bounds.{Searches, Builds}
-use Rattle.history.specs.Visits.{Lists, Visited}
+use Rattle.history.specs.Visits.{Lists, Visited, VisitedByOne, NearsDown}
 use Rattle.history.specs.Earlier.{earlierRemoved, earlierBoard}
 use Rattle.history.specs.ListForm.{headerText, Line, IsLine, itemIn, linesText, ReadsPrinted}
 use Rattle.history.specs.Weighing.{Apart, profile, space, Weighs, WeighsAlone, CountsBits}
@@ -62,22 +62,34 @@ use Rattle.history.specs.Weighing.{Apart, profile, space, Weighs, Weighs
 -- Of those answers, two numbers that the rules also give in words, for every table, foreign ones too. RULES 11.6: the
 -- count of range is the number of slots all of whose ancestors let their side be entered, left if d ≤ m + r and right
 -- if m ≤ d + r, in plain numbers (`Visited`). The slots visited of each bucket are listed by their places, each once,
--- and the count is the lengths of the lists added up. The first day plays no part in it.
+-- and the count is the lengths of the lists added up. The first day plays no part in it. RULES 11.7, 11.8: the count of
+-- nearest for k items, k at least 1, is the number of slots that a search visits which passes a half over exactly if k
+-- of the items found by then are nearer than anything in it can be (`Nears`), from bucket T down to 0.
 -- Theorem: `counts-visits`
 abbrev pub CountsVisits : Type 0
 CountsVisits =
-    (t : Table) (query : Profile) (radius firstDay : ℕ)
+    (t : Table) (query : Profile) (firstDay : ℕ)
+    → ((radius : ℕ)
     → (visited : ℕ → List ℕ)
-    × ((k : ℕ) → Lists (Visited (distance (tableSpace t)) query radius (slotsOf t k)) (visited k))
-    × (rangeAnswer t query radius firstDay .count ≡ total (map (λ k. length (visited k)) (bucketsDown t)))
+    × ((b : ℕ) → Lists (Visited (distance (tableSpace t)) query radius (slotsOf t b)) (visited b))
+    × (rangeAnswer t query radius firstDay .count ≡ total (map (λ b. length (visited b)) (bucketsDown t))))
+    × ((k : ℕ) → 1 ≤ k
+    → NearsDown (distance (tableSpace t)) query (λ row. eqb (markOf row) 0 && leb firstDay (dayOf row)) k
+    (slotsOf t) (suc (orderOf t)) [] (nearestAnswer t query k firstDay .count))
 
--- RULES 11.14: a batch counts a slot once that any of its queries visits. So its count is at most that of the single calls added up, and with one query it is the
+-- RULES 11.14: a batch counts each slot once that one of its queries visits by itself, in plain numbers
+-- (`VisitedByOne`). So its count is at least each query's own and at most these added up, and with one query it is the
 -- single call's.
 -- Theorem: `counts-together`
 abbrev pub CountsTogether : Type 0
 CountsTogether =
     (t : Table)
-    → ((queries : List Row) → batchCount t queries ≤ total (map (λ query. singleAnswer t query .count) queries))
+    → ((queries : List Row)
+    → (visited : ℕ → List ℕ)
+    × ((b : ℕ) → Lists (VisitedByOne (distance (tableSpace t)) queries (slotsOf t b)) (visited b))
+    × (batchCount t queries ≡ total (map (λ b. length (visited b)) (bucketsDown t))))
+    × ((queries : List Row) → All (λ query. singleAnswer t query .count ≤ batchCount t queries) queries)
+    × ((queries : List Row) → batchCount t queries ≤ total (map (λ query. singleAnswer t query .count) queries))
     × ((query : Row) → batchCount t (query ∷ []) ≡ singleAnswer t query .count)
 
 -- RULES 15.3: nearest replies with k items, or with all of the built slots of mark 0 whose day is not before the first where these are fewer.

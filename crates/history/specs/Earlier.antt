@@ -1,5 +1,5 @@
--- What two requests started from, kept to say what they changed: the removal before W9, which changed nothing of it, and
--- the board before W13.
+-- What two requests started from, kept to say what they changed: the removal before W9, which changed nothing of it,
+-- and the board before W13.
 use Prim.Native.Nat.{ℕ, _-_, _*_}
 use mathlib.Core.Bool.{true, false}
 use mathlib.Core.List.{List, [], _∷_}

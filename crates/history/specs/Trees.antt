@@ -43,8 +43,8 @@ module _ (dist : Profile → Profile → ℕ) where
         count = suc (further .count);
       }
 
-  -- RULES 6.1 to 6.4 for rows of which the first has the smallest tag: the rest are measured once and sorted by what was
-  -- measured; the last distance of the left half is the threshold
+  -- RULES 6.1 to 6.4 for rows of which the first has the smallest tag: the rest are measured once and sorted by what
+  -- was measured; the last distance of the left half is the threshold
   unfoldable pub countedNode : (List Ranked → Laid) → List Ranked → Laid
   countedNode below [] = record { rows = []; count = 0 }
   countedNode below (v ∷ rest) =
