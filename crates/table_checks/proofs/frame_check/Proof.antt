@@ -1,4 +1,4 @@
--- `table_checks::frame_refusal` meets its contract: its tests are those of `frameRefusal`, the metric's before the order's.
+-- `table_checks::frame_check` meets its contract: its tests are those of `frameRefusal`, the metric's before the order's.
 use native.Mathlib.Omega.{arith}
 use Prim.Native.Nat.{_<_, _≤_}
 use borrow.Author.Tests.{not-true, not-false, lt-leb, le-leb}
@@ -8,14 +8,18 @@ use lib.ListN.{length}
 use Rattle.metric_rules.specs.Distance.{validMetric}
 use Rattle.table_rules.specs.Geometry.{validOrder, headerRow, tableRows}
 use Rattle.table_rules.specs.Table.{Table, rowAt, orderOf, tableSpace}
+use Rattle.table_rules.specs.Refusals.{shortArea, badTable}
+use Rattle.table_rules.specs.Checks.{frameRefusal}
 use Rattle.table_rules.proofs.Buckets.{order-valid}
 use Rattle.table_rules.proofs.Passing.{no-frame}
 use Rattle.table_order.specs.Answers.{answerOf}
 use Rattle.table_order.proofs.Orders.{is-order, no-order}
+use Rattle.table_checks.specs.declared.Checked.the-variants.{Passes, Refused}
+use Rattle.table_checks.proofs.Told.{answers}
 use Rattle.table_checks.proofs.Framing.{metric-breaks, order-breaks, too-short, frame-stands}
 use borrow.Author.Needs.{needs}
-use Rattle.table_checks.proofs.frame_refusal.Statement.{statement}
-use Rattle.table_checks.proofs.frame_refusal.Tie as tie
+use Rattle.table_checks.proofs.frame_check.Statement.{statement}
+use Rattle.table_checks.proofs.frame_check.Tie as tie
 
 -- the tests as they were made
 metric-tested :
@@ -42,12 +46,15 @@ order-known c =
     (is .0 ∙ n .ensures, omega (arith, is .1, n .ensures))
 
 returns : tie.Need-returns
-returns c = sym (no-frame (c .before .args .table .now) (c .if1 .taken))
+returns c =
+    let t = c .before .args .table .now in
+    answers (frameRefusal t) t (Refused shortArea) (no-frame t (c .if1 .taken), λ z. absurd (omega arith))
 
 returns-2 : tie.Need-returns-2
 returns-2 c =
     let t = c .before .before .before .before .args .table .now in
-    sym (metric-breaks t (omega (arith, c .before .before .before .if1 .left)) (metric-tested (c .before) ∙ not-true (c .before .has-metric .result) (c .if2 .taken)))
+    answers (frameRefusal t) t (Refused badTable)
+    (metric-breaks t (omega (arith, c .before .before .before .if1 .left)) (metric-tested (c .before) ∙ not-true (c .before .has-metric .result) (c .if2 .taken)), λ z. absurd (omega arith))
 
 table-rows-requires : tie.Need-table-rows-requires
 table-rows-requires c κs = omega (arith, order-known (c .before))
@@ -58,7 +65,8 @@ returns-3 c =
     let t = at .before .before .before .before .before .args .table .now in
     let n : validOrder (at .order-of .result) ≡ false =
     no-order (at .order-of .result) (ap answerOf (sym (c .enum-told .given .1)) ∙ c .before .before .new .ensures) in
-    sym (order-breaks t (omega (arith, at .before .before .before .before .if1 .left)) (ap validOrder (sym (at .order-of .ensures)) ∙ n))
+    answers (frameRefusal t) t (Refused badTable)
+    (order-breaks t (omega (arith, at .before .before .before .before .if1 .left)) (ap validOrder (sym (at .order-of .ensures)) ∙ n), λ z. absurd (omega arith))
 
 returns-4 : tie.Need-returns-4
 returns-4 c =
@@ -66,9 +74,9 @@ returns-4 c =
     let t = table-of at in
     let known : (at .order .given .0 .0 .t ≡ orderOf t) × (orderOf t ≤ 12) = order-known at in
     let rows : tableRows (orderOf t) ≡ c .before .table-rows .result = sym (c .before .table-rows .ensures ∙ ap tableRows (known .0)) in
-    sym (too-short t (has-rows at) (order-valid (orderOf t) (known .1))
-    (metric-passed (at .before .before .before .before))
-    (lt-leb (tableRows (orderOf t)) (length t) (omega arith)))
+    let short : frameRefusal t ≡ shortArea =
+    too-short t (has-rows at) (order-valid (orderOf t) (known .1)) (metric-passed (at .before .before .before .before)) (lt-leb (tableRows (orderOf t)) (length t) (omega arith)) in
+    answers (frameRefusal t) t (Refused shortArea) (short, λ z. absurd (omega arith))
 
 returns-5 : tie.Need-returns-5
 returns-5 c =
@@ -76,12 +84,12 @@ returns-5 c =
     let t = table-of at in
     let known : (at .order .given .0 .0 .t ≡ orderOf t) × (orderOf t ≤ 12) = order-known at in
     let rows : tableRows (orderOf t) ≡ c .before .table-rows .result = sym (c .before .table-rows .ensures ∙ ap tableRows (known .0)) in
-    sym (frame-stands t (has-rows at) (order-valid (orderOf t) (known .1))
-    (metric-passed (at .before .before .before .before))
-    (le-leb (tableRows (orderOf t)) (length t) (omega arith)))
+    let stands : frameRefusal t ≡ 0 =
+    frame-stands t (has-rows at) (order-valid (orderOf t) (known .1)) (metric-passed (at .before .before .before .before)) (le-leb (tableRows (orderOf t)) (length t) (omega arith)) in
+    answers (frameRefusal t) t (Passes (at .order .given .0 .0)) (stands, known .0)
 
-pub frame-refusal-spec : {M : Type 1} → statement M
-frame-refusal-spec =
+pub frame-check-spec : {M : Type 1} → statement M
+frame-check-spec =
     tie.close
     (tie.spec
     returns
