@@ -34,10 +34,11 @@ use Rattle.state_rules.specs.Restore.{holdsSnapshot, partRefusal, nameRefusal, 
 use Rattle.state_rules.proofs.Parts.{part-length}
 use Rattle.table_rules.proofs.Chains.{when-zero}
 use Rattle.history.specs.Places.{numberFrom}
+use Rattle.history.specs.Figures.{tagSound}
 use Rattle.history.specs.Trace.{Shown, shows}
 use Rattle.history.specs.Trace.Payload.{aSlot}
 use Rattle.history.specs.Model.{dayRead, orShown, treesShown, loadShown}
-use Rattle.history.specs.LoadTests.{orderByte, metricByte, formBytes, pairsFrom, recordSize, builtAt, liveAt, slotsUpTo, tagsFrom, slotsInAll, recordFrom, weightTooLarge, sizesSound, allSizesSound, dayMissing, tagSound, measureSound, markIn, slotSound, slotsAt, bucketSound, allFieldsSound, loadRefusalOf, partFrom, lengthIn, imageIn, restoreRefusalOf}
+use Rattle.history.specs.LoadTests.{orderByte, metricByte, formBytes, pairsFrom, recordSize, builtAt, liveAt, slotsUpTo, tagsFrom, slotsInAll, recordFrom, weightTooLarge, sizesSound, allSizesSound, dayMissing, measureSound, markIn, slotSound, slotsAt, bucketSound, allFieldsSound, loadRefusalOf, partFrom, lengthIn, imageIn, restoreRefusalOf}
 use Rattle.history.proofs.ImageBytes.{number-wide}
 
 -- a number past the end is 0
@@ -68,7 +69,7 @@ most-above n most = go (ltb most n) refl
     go true e = lt-leb n most (ltb-true most n e)
     go false e = le-leb n most (ltb-false most n e)
 
-not-any : (p q : Bool) → (not p && not q) ≡ not (p || q)
+pub not-any : (p q : Bool) → (not p && not q) ≡ not (p || q)
 not-any true q = refl
 not-any false q = refl
 
@@ -85,10 +86,10 @@ stops-alike true number {rest} e f = ap (λ (b : Bool). unless b number rest) e
 stops-alike false number {rest} e f = ap (λ (b : Bool). unless b number rest) e ∙ f
 
 -- two tests that say the same
-passes-alike : {passes : Bool} (met : Bool) (number : ℕ) {rest after : ℕ} → passes ≡ met → rest ≡ after → unless passes number rest ≡ unless met number after
+pub passes-alike : {passes : Bool} (met : Bool) (number : ℕ) {rest after : ℕ} → passes ≡ met → rest ≡ after → unless passes number rest ≡ unless met number after
 passes-alike met number {rest} e f = ap (λ (b : Bool). unless b number rest) e ∙ ap (λ (r : ℕ). unless met number r) f
 
-when-alike : {stops : Bool} (met : Bool) (number : ℕ) {rest after : ℕ} → stops ≡ met → rest ≡ after → when stops number rest ≡ when met number after
+pub when-alike : {stops : Bool} (met : Bool) (number : ℕ) {rest after : ℕ} → stops ≡ met → rest ≡ after → when stops number rest ≡ when met number after
 when-alike met number {rest} e f = ap (λ (b : Bool). when b number rest) e ∙ ap (λ (r : ℕ). when met number r) f
 
 -- comparisons that mean the same
@@ -113,7 +114,7 @@ measure-sound n = go (ltb n (2 ^ 31)) refl
         leb-alike (suc (2 ^ 32 - suc n)) 1_000_000 4_293_967_296 n (λ h. omega arith) (λ h. omega arith)
         ∙ sym (ap (λ (b : Bool). b || leb 4_293_967_296 n) (lt-leb n 1_000_000 (omega arith)))
 
-tag-sound : (tag : ℕ) → validTag tag ≡ tagSound tag
+pub tag-sound : (tag : ℕ) → validTag tag ≡ tagSound tag
 unfolding validTag countryOf nationalOf nationals lastCountry lastNational tagSound
 tag-sound tag = refl
 
@@ -151,12 +152,12 @@ unfolding every
 every-true [] = refl
 every-true (x ∷ xs) = every-true xs
 
-test-all : {A : Type 0} (f g : A → Bool) → ((x : A) → f x ≡ g x) → (xs : List A) → every f xs ≡ every g xs
+pub test-all : {A : Type 0} (f g : A → Bool) → ((x : A) → f x ≡ g x) → (xs : List A) → every f xs ≡ every g xs
 unfolding every
 test-all f g h [] = refl
 test-all f g h (x ∷ xs) = ap₂ _&&_ (h x) (test-all f g h xs)
 
-some-not-none : (n : ℕ) → leb 1 n ≡ not (eqb n 0)
+pub some-not-none : (n : ℕ) → leb 1 n ≡ not (eqb n 0)
 some-not-none zero = refl
 some-not-none (suc n) = le-leb 1 (suc n) (omega arith) ∙ ap not (sym (ne-eqb (suc n) 0 (λ e. omega arith)))
 
@@ -364,7 +365,7 @@ unfolding behindLength
 behind-is states name named = omega (arith, part-length-is states name named, length-drop 4 (partOf states name))
 
 -- a test that stops, and the rest where it does not
-stops-if : {passes : Bool} (met : Bool) (number : ℕ) {rest after : ℕ} → passes ≡ not met → (met ≡ false → rest ≡ after)
+pub stops-if : {passes : Bool} (met : Bool) (number : ℕ) {rest after : ℕ} → passes ≡ not met → (met ≡ false → rest ≡ after)
     → unless passes number rest ≡ when met number after
 stops-if true number {rest} e f = ap (λ (b : Bool). unless b number rest) e
 stops-if false number {rest} e f = ap (λ (b : Bool). unless b number rest) e ∙ f refl

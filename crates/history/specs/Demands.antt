@@ -269,12 +269,17 @@ ListForm =
     → itemLines (headerText ++ linesText lines ++ rest) ≡ map itemIn lines ++ itemLines (headerText ++ rest))
     × ((list : List ℕ) → hasHeader list ≡ true → ReadsPrinted list)
 
--- RULES 21.9: what "the lots" are, for every table, foreign ones too, for every model and by every radius. Every live item is in exactly one lot, and the sizes add up to the
--- live items; each item is within the radius of its lot's leader, whose tag is the lowest there; no item of a later lot, so no later leader, is within the radius of an
--- earlier leader; the largest is the largest of the sizes; and the listing stands by lot, then tag (`Lots`).
+-- RULES 21.9: what "the lots" are, for every table, foreign ones too, for every model and by every radius (`Lots`).
+-- Every live item is in exactly one lot, and the sizes add up to the live items; each item is within the radius of its
+-- lot's leader, whose tag is the lowest there; no item of a later lot, so no later leader, is within the radius of an
+-- earlier leader. The summary is the number of lots and the largest of their sizes; the listing has every live item
+-- exactly once, with the number of its lot, and stands by lot, then tag.
 -- Theorem: `lots-hold`
 abbrev pub LotsHold : Type 0
-LotsHold = (radius : ℕ) → ((t : Table) → DraftsLots t radius) × ((m : Model) → Lots (betweenItems m) radius (λ i. i .tag) (m .items) (modelLots m radius))
+LotsHold =
+    (radius : ℕ)
+    → ((t : Table) → DraftsLots t radius)
+    × ((m : Model) → Lots (betweenItems m) radius (λ i. i .tag) (m .items) (modelLots m radius))
 
 -- RULES 21.9: by radius 0 items at a positive distance from each other are a lot each; by the largest radius, 4,294,967,295, all are one lot, where there are any.
 -- Theorem: `radii-extreme`

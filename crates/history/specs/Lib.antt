@@ -1,4 +1,5 @@
 pub mod Places
+pub mod Figures
 pub mod ImageForm
 pub mod LoadTests
 pub mod Trace

@@ -1,7 +1,7 @@
 -- RULES 12.4, 12.5, 19.6, what a load and a restore are refused by before any tree, by figures of the model's own:
 -- places and bounds are counted out here, and no definition of the reader, of the image's fields or of their tests is
 -- cited.
-use Prim.Native.Nat.{ℕ, zero, suc, _+_, _-_, _*_, _/_, _%_, _^_}
+use Prim.Native.Nat.{ℕ, zero, suc, _+_, _-_, _*_, _/_, _^_}
 use mathlib.Core.Bool.{Bool, _&&_, _||_}
 use mathlib.Core.List.{List, [], _∷_, map}
 use lib.ListN.{length, take, drop}
@@ -11,6 +11,7 @@ use Rattle.table_rules.specs.Refusals.{badOrder, badMetric, badLength, badImage
 use Rattle.table_rules.specs.Refusals.{unless, when}
 use Rattle.state_rules.specs.Parts.{badName, notSaved}
 use Rattle.history.specs.Places.{numberFrom}
+use Rattle.history.specs.Figures.{tagSound}
 
 -- byte 0 is the order T, byte 1 the metric, bytes 2 and 3 are the form
 unfoldable pub orderByte : List ℕ → ℕ
@@ -77,14 +78,7 @@ dayMissing bytes =
     ltb 1 (formBytes bytes)
     && any (λ i. eqb (numberFrom bytes (recordFrom bytes i + 40) 2) 0) (countFrom 0 (slotsInAll bytes))
 
--- 8, of a tag: country × 10^12 + national, the country 1 to 999, the national at most 274,877,906,943
-unfoldable pub tagSound : ℕ → Bool
-tagSound tag =
-    leb 1 (tag / 1_000_000_000_000)
-    && leb (tag / 1_000_000_000_000) 999
-    && leb (tag % 1_000_000_000_000) 274_877_906_943
-
--- of a measure: 0 to 1,000,000, or in two's complement of 32 bits 2^32 - 1,000,000 or more
+-- 8, of a measure: 0 to 1,000,000, or in two's complement of 32 bits 2^32 - 1,000,000 or more
 unfoldable pub measureSound : ℕ → Bool
 measureSound n = leb n 1_000_000 || leb 4_293_967_296 n
 
