@@ -36,6 +36,7 @@ mod StatesBack
 mod ImageBytes
 mod LoadTests
 mod LoadItems
+mod TreeTests
 mod Figured
 mod Ordering
 mod AnyDistance
