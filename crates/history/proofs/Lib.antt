@@ -24,6 +24,7 @@ mod StatesBack
 mod ImageBytes
 mod LoadTests
 mod LoadItems
+mod TreeTests
 mod Figured
 mod Ordering
 mod AnyDistance

@@ -292,12 +292,15 @@ RadiiExtreme = (t : Table) → OneEach t × OneLot t
 abbrev pub AnyArea : Type 0
 AnyArea = (left area : Table) → take (length (ownRows left)) area ≡ take (length area) (ownRows left) → overlaid left area ≡ area
 
--- Demands 2 and 3, one claim over every list of calls on one table, refused ones and herd lists read too, that an accepted fresh, load or restore began (`History`):
--- at each call table and reference model show the same; after the list the table is a valid one of the published method (which buckets a call builds is
--- settled by the definitions that `tableAfter` joins), it holds the model's items, range and nearest answer as a scan of them, and all rebuilds together
--- keep within 4·T·(T+1)·A + 11·T·R distances. Load and restore the model refuses by figures of its own over the bytes
--- (`loadRefusalOf`, `restoreRefusalOf` of LoadTests); only the number and the slot of an image's trees it has from the
--- definition of the call, of which more is claimed by `AcceptsTrees`.
+-- Demands 2 and 3, one claim over every list of calls on one table, refused ones and herd lists read too, that an
+-- accepted fresh, load or restore began (`History`): at each call table and reference model show the same; after the
+-- list the table is a valid one of the published method, all of it valid head (which buckets a call builds is settled by
+-- the definitions that `tableAfter` joins), it holds the model's items, range and nearest answer as a scan of them, and
+-- all rebuilds together keep within 4·T·(T+1)·A + 11·T·R distances.
+-- The model refuses and answers by figures of its own. It takes from the definitions of the calls these, which a claim
+-- of its own pins: the distance (`WeighsEach`, `OneBit`), what the layout puts at a slot of an image (`AnyDistance`,
+-- `CountsVisits`), the order of entries (`AnswersAscend`, `FoundAreThere`), the lots (`LotsHold`), the lines of a herd
+-- list (`ListForm`), and which words of a row are its tag, profile and day (`ImageBytes`).
 -- Theorem: `every-list`
 abbrev pub EveryList : Type 0
 EveryList = (h : History) → Holds h

@@ -2,6 +2,7 @@ pub mod Places
 pub mod Figures
 pub mod ImageForm
 pub mod LoadTests
+pub mod TreeTests
 pub mod Trace
 pub mod Model
 pub mod History
