@@ -4,7 +4,7 @@
 -- Demand 1. Every call, for every input and every lent area, replies and leaves what the rules say: the refusal that comes first in their order
 -- and only under its condition, and every reply, count and area. It is the contract of each public call, which has no `requires` and is an equation with
 -- the definitions of `call_rules`: `replyTo`, `tableAfter` and `areasAfter` are these, for all calls.
-use Prim.Native.Nat.{ℕ, suc, _+_, _^_, _≤_, _<_, min}
+use Prim.Native.Nat.{ℕ, suc, _+_, _/_, _^_, _≤_, _<_, min}
 use mathlib.Core.Path.{_≡_}
 use mathlib.Core.Bool.{true, _&&_}
 use mathlib.Core.List.{List, [], _∷_, _++_, map, List·Permᴰ}
@@ -31,7 +31,6 @@ use Rattle.image_rules.specs.Trees.{treesPass}
 use Rattle.image_rules.specs.Load.{fieldsRefusal}
 use Rattle.image_rules.specs.Translate.{translated}
 use Rattle.list_rules.specs.Lines.{hasHeader, itemLines}
-use Rattle.state_rules.specs.Parts.{validName, lengthBytes, partBytes}
 use Rattle.call_rules.specs.Calls.{Call, Areas, beginReply, tableBegun, Write, replyTo, areasAfter}
 use Rattle.call_rules.specs.Calls.Begin.{fresh, load}
 use Rattle.call_rules.specs.Calls.Call.{write}
@@ -347,21 +346,26 @@ ImageBytes =
     × ((t : Table) → TableWords t)
     × ((row : Row) → RowWords row)
 
--- W7 (RULES 19.8), named states. After every such list, saving under a name is accepted wherever the table area and the name's part are long enough. Whatever is
--- written to the other parts and the bytes left over after that, restoring from that part is refused by 23 alone, and accepted gives the table that was saved.
+-- W7 (RULES 19.1, 19.2, 19.8), named states. After every such list, saving under a name, 1 to 8, is accepted wherever
+-- the table area and the name's part, an eighth of the states, are long enough. Whatever is written to the other parts
+-- and the bytes left over after that, restoring from that part is refused by 23 alone, and accepted gives the table that
+-- was saved.
 -- Theorem: `saved-restores`
 abbrev pub SavedRestores : Type 0
 SavedRestores =
-    (h : History) (area : Table) (states : List ℕ) (name : ℕ) → validName name ≡ true → tableRows (finalModel h .order) ≤ length area
-    → lengthBytes + imageSize (finalState h .table) ≤ partBytes (length states) → RestoresBack (finalState h .table) area states name
+    (h : History) (area : Table) (states : List ℕ) (name : ℕ) → 1 ≤ name → name ≤ 8
+    → tableRows (finalModel h .order) ≤ length area → 4 + imageSize (finalState h .table) ≤ length states / 8
+    → RestoresBack (finalState h .table) area states name
 
--- W7 (RULES 19.5), and of every save, of foreign tables too: it leaves the other names' parts, the rest of its own and the bytes left over as they were.
+-- W7 (RULES 19.5), and of every save, of foreign tables too: it leaves the other names' parts, the rest of its own and
+-- the bytes left over as they were.
 -- Theorem: `save-keeps`
 abbrev pub SaveKeeps : Type 0
 SaveKeeps = (t : Table) (states : List ℕ) (name : ℕ) → KeepsStates t states name
 
--- W7 (RULES 19.6 to 19.8), and of every restore, whoever wrote the states: it is refused by 34, 35 or 7 as the name and its part say, or else it is a load of exactly the
--- image in the part, of whatever form: the same refusal and slot or none, and the same table.
+-- W7 (RULES 19.6 to 19.8), and of every restore, whoever wrote the states: it is refused by 34, 35 or 7 as the name and
+-- its part say, or else it is a load of exactly the image in the part, of whatever form: the same refusal and slot or
+-- none, and the same table.
 -- Theorem: `restore-loads`
 abbrev pub RestoreLoads : Type 0
 RestoreLoads = (states : List ℕ) (name : ℕ) (other : Table) → LoadsPart states name other
