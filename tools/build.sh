@@ -1,9 +1,15 @@
 #!/bin/sh
 # Proves and builds the archive of the calls or the program yard: sh tools/build.sh vpindex|yard
+# sh tools/build.sh vpindex --target NAME then compiles the same proved code for another processor (tools/cross.sh).
 # Each crate is shown on standard error as it is proved. Where no file of the crates has changed since, nothing is done.
 # VPINDEX_LIB_DIR, a full path, names the folder of another libvpindex.a, and then no archive is built.
 set -eu
 cd "$(dirname "$0")/.."
+if [ "${1:-} ${2:-}" = 'vpindex --target' ]; then
+    sh tools/cross.sh --words "${3:-}" > /dev/null
+    VPINDEX_LIB_DIR='' sh tools/build.sh vpindex
+    exec sh tools/cross.sh "$3"
+fi
 case ${1:-} in
     vpindex)
         [ -z "${VPINDEX_LIB_DIR:-}" ] || exit 0
@@ -15,7 +21,7 @@ case ${1:-} in
         build() { rt check yard; }
         ;;
     *)
-        echo 'usage: sh tools/build.sh vpindex|yard' >&2
+        echo 'usage: sh tools/build.sh vpindex [--target NAME] | yard' >&2
         exit 2
         ;;
 esac

@@ -4,24 +4,26 @@
 -- Demand 1. Every call, for every input and every lent area, replies and leaves what the rules say: the refusal that comes first in their order
 -- and only under its condition, and every reply, count and area. It is the contract of each public call, which has no `requires` and is an equation with
 -- the definitions of `call_rules`: `replyTo`, `tableAfter` and `areasAfter` are these, for all calls.
-use Prim.Native.Nat.{ℕ, _+_, _^_, _≤_, _<_, min}
+use Prim.Native.Nat.{ℕ, suc, _+_, _^_, _≤_, _<_, min}
 use mathlib.Core.Path.{_≡_}
-use mathlib.Core.Bool.{true}
+use mathlib.Core.Bool.{true, _&&_}
 use mathlib.Core.List.{List, [], _∷_, _++_, map, List·Permᴰ}
 use lib.ListN.{length, take}
-use lib.Dec.{leb}
+use lib.Dec.{leb, eqb}
 use lib.IntN.{ℤ}
 use Rattle.lists.specs.Lists.{select, total, All}
 use Rattle.metric_rules.specs.declared.Profile.{Profile}
-use Rattle.metric_rules.specs.Row.{Row, dayOf, IsRow, IsProfile}
+use Rattle.metric_rules.specs.Row.{Row, markOf, dayOf, IsRow, IsProfile}
 use Rattle.metric_rules.specs.declared.Space.{Space}
 use Rattle.metric_rules.specs.declared.Weights.{Weights}
-use Rattle.metric_rules.specs.Distance.{distance, saturated, gap, largest, codeDistance, weightsOne, Metric}
-use Rattle.search_rules.specs.Range.{Ascending}
+use Rattle.metric_rules.specs.Validity.{validMeasures}
+use Rattle.metric_rules.specs.Distance.{distance, saturated, gap, largest, codeDistance, weightsOne, validWeights, Metric}
+use Rattle.search_rules.specs.Range.{Entry, Ascending}
 use Rattle.table_rules.specs.Geometry.{room, tableRows}
 use Rattle.table_rules.specs.Table.{Table, orderOf, tableSpace, slotsOf, liveSlots}
 use Rattle.table_rules.specs.Checks.{readRefusal}
 use Rattle.table_rules.specs.Rebuild.{rebuilt}
+use Rattle.table_rules.specs.Remove.{removeReply, tableAfterRemove}
 use Rattle.table_rules.specs.Search.{bucketsDown, rangeAnswer, nearestAnswer}
 use Rattle.image_rules.specs.Bytes.{writtenForm, imageLength}
 use Rattle.image_rules.specs.Read.{orderIn, spaceIn, formIn, slotsIn, bucketIn}
@@ -34,6 +36,8 @@ use Rattle.call_rules.specs.Calls.{Call, Areas, beginReply, tableBegun, Write, 
 use Rattle.call_rules.specs.Calls.Begin.{fresh, load}
 use Rattle.call_rules.specs.Calls.Call.{write}
 use Rattle.batch_rules.specs.Batch.{singleAnswer, batchCount}
+use Rattle.dues_rules.specs.Board.{board, duesBy}
+use Rattle.dues_rules.specs.Listed.{duesReply, duesAfter}
 use Rattle.lots_rules.specs.Claims.{Lots, DraftsLots, OneEach, OneLot}
 use Rattle.history.specs.Model.{Model, itemOf, modelRange, modelNearest, betweenItems, modelLots}
 use Rattle.history.specs.Trace.{ownRows, overlaid, stateAfter}
@@ -49,29 +53,43 @@ use Rattle.history.specs.Trees.{TreeFacts}
 use Rattle.history.specs.Agreement.{SameItems, SameAnswers}
 use Rattle.history.specs.Counter.{OnlyAdded, CountsAdds}
 use Rattle.history.specs.Leaves.{refusalOf, ChangesNothing, Excepted, Exceptions, LeavesRest, WritesBy}
-use Rattle.history.specs.Visits.{Lists, Visited}
+use Rattle.history.specs.Bounds.{Searches, Builds}
+use Rattle.history.specs.Visits.{Lists, Visited, VisitedByOne, NearsDown}
+use Rattle.history.specs.Earlier.{earlierRemoved, earlierBoard}
 use Rattle.history.specs.ListForm.{headerText, Line, IsLine, itemIn, linesText, ReadsPrinted}
 use Rattle.history.specs.Weighing.{Apart, profile, space, Weighs, WeighsAlone, CountsBits}
 
 -- Of those answers, two numbers that the rules also give in words, for every table, foreign ones too. RULES 11.6: the
 -- count of range is the number of slots all of whose ancestors let their side be entered, left if d ≤ m + r and right
 -- if m ≤ d + r, in plain numbers (`Visited`). The slots visited of each bucket are listed by their places, each once,
--- and the count is the lengths of the lists added up. The first day plays no part in it.
+-- and the count is the lengths of the lists added up. The first day plays no part in it. RULES 11.7, 11.8: the count of
+-- nearest for k items, k at least 1, is the number of slots that a search visits which passes a half over exactly if k
+-- of the items found by then are nearer than anything in it can be (`Nears`), from bucket T down to 0.
 -- Theorem: `counts-visits`
 abbrev pub CountsVisits : Type 0
 CountsVisits =
-    (t : Table) (query : Profile) (radius firstDay : ℕ)
+    (t : Table) (query : Profile) (firstDay : ℕ)
+    → ((radius : ℕ)
     → (visited : ℕ → List ℕ)
-    × ((k : ℕ) → Lists (Visited (distance (tableSpace t)) query radius (slotsOf t k)) (visited k))
-    × (rangeAnswer t query radius firstDay .count ≡ total (map (λ k. length (visited k)) (bucketsDown t)))
+    × ((b : ℕ) → Lists (Visited (distance (tableSpace t)) query radius (slotsOf t b)) (visited b))
+    × (rangeAnswer t query radius firstDay .count ≡ total (map (λ b. length (visited b)) (bucketsDown t))))
+    × ((k : ℕ) → 1 ≤ k
+    → NearsDown (distance (tableSpace t)) query (λ row. eqb (markOf row) 0 && leb firstDay (dayOf row)) k
+    (slotsOf t) (suc (orderOf t)) [] (nearestAnswer t query k firstDay .count))
 
--- RULES 11.14: a batch counts a slot once that any of its queries visits. So its count is at most that of the single calls added up, and with one query it is the
+-- RULES 11.14: a batch counts each slot once that one of its queries visits by itself, in plain numbers
+-- (`VisitedByOne`). So its count is at least each query's own and at most these added up, and with one query it is the
 -- single call's.
 -- Theorem: `counts-together`
 abbrev pub CountsTogether : Type 0
 CountsTogether =
     (t : Table)
-    → ((queries : List Row) → batchCount t queries ≤ total (map (λ query. singleAnswer t query .count) queries))
+    → ((queries : List Row)
+    → (visited : ℕ → List ℕ)
+    × ((b : ℕ) → Lists (VisitedByOne (distance (tableSpace t)) queries (slotsOf t b)) (visited b))
+    × (batchCount t queries ≡ total (map (λ b. length (visited b)) (bucketsDown t))))
+    × ((queries : List Row) → All (λ query. singleAnswer t query .count ≤ batchCount t queries) queries)
+    × ((queries : List Row) → batchCount t queries ≤ total (map (λ query. singleAnswer t query .count) queries))
     × ((query : Row) → batchCount t (query ∷ []) ≡ singleAnswer t query .count)
 
 -- RULES 15.3: nearest replies with k items, or with all of the built slots of mark 0 whose day is not before the first where these are fewer.
@@ -80,6 +98,16 @@ abbrev pub KeepsEnough : Type 0
 KeepsEnough =
     (t : Table) (query : Profile) (k firstDay : ℕ)
     → length (nearestAnswer t query k firstDay .entries) ≡ min k (total (map (λ b. length (select (λ row. leb firstDay (dayOf row)) (liveSlots t b))) (bucketsDown t)))
+
+-- RULES 17.11, worst cases, for every table, foreign ones too, and lent areas of any length: one reply of range, nearest or
+-- a batch counts at most the built slots, so at most 2^(T+1) - 1, and fewer than four times the live head, or 0 where
+-- there are none (`SlotsBound`); one add or removal reports at most T·2^T.
+-- Theorems: `searches-bounded`, `builds-bounded`
+abbrev pub SearchesBounded : Type 0
+SearchesBounded = (t : Table) (area : List Entry) → Searches t area
+
+abbrev pub BuildsBounded : Type 0
+BuildsBounded = (t : Table) (work : List Row) → Builds t work
 
 -- RULES 11.2, 11.5, 11.9, for every table: each entry of an answer is the tag and the distance of a built slot whose
 -- mark is 0 and whose day is not before the first day, and range's are within the radius. Of a table that passes the
@@ -97,6 +125,30 @@ FoundAreThere = (t : Table) (query : Profile) (firstDay : ℕ) → AreThere t qu
 -- Theorem: `finds-first`
 abbrev pub FindsFirst : Type 0
 FindsFirst = (t : Table) (tag : ℕ) → Finds t tag
+
+-- W9, "every result, area and count is the one given today": an accepted removal replies the distances and leaves the
+-- table that the definition of before W9 gives.
+-- Theorem: `removes-as-before`
+abbrev pub RemovesAsBefore : Type 0
+RemovesAsBefore =
+    (t : Table) (work : List Row) (tag : ℕ) → removeReply t work tag .refusal ≡ 0
+    → (removeReply t work tag .distances ≡ earlierRemoved t tag .distances)
+    × (tableAfterRemove t work tag ≡ earlierRemoved t tag .table)
+
+-- W10 (RULES 20.5): the numbers that accepted dues leave in their area for a list add up to the total in the reply.
+-- Theorem: `dues-add-up`
+abbrev pub DuesAddUp : Type 0
+DuesAddUp =
+    (t : Table) (tags area : List ℕ) → duesReply t tags area .refusal ≡ 0
+    → duesReply t tags area .total ≡ total (take (length tags) (duesAfter t tags area))
+
+-- W13 (RULES 20.2): dues changed for just two weights, 400.00 kg from 8.00 to 12.00 and 600.00 kg from 18.00 to 24.00.
+-- Theorem: `two-weights-changed`
+abbrev pub TwoWeightsChanged : Type 0
+TwoWeightsChanged =
+    ((w : ℕ) → (w ≡ 40_000 → ⊥) → (w ≡ 60_000 → ⊥) → duesBy board w ≡ duesBy earlierBoard w)
+    × (duesBy earlierBoard 40_000 ≡ 800) × (duesBy board 40_000 ≡ 1_200)
+    × (duesBy earlierBoard 60_000 ≡ 1_800) × (duesBy board 60_000 ≡ 2_400)
 
 -- RULES 2.8: an item's tag, profile and day stay with it through every build. Whatever rows a rebuild gathers, and from whatever table that passes the tests of
 -- RULES 14.5, the bucket that it builds holds their items and no others.
@@ -180,6 +232,20 @@ abbrev pub OneBit : Type 0
 OneBit =
     (u v w x : ℕ) (a b c d a′ b′ c′ d′ : ℤ)
     → CountsBits (λ m n m′ n′. distance (space 1 u v w x) (profile a b c d m n) (profile a′ b′ c′ d′ m′ n′))
+
+-- RULES 3.2 to 3.4, 3.8: how far apart two head with valid measures can be, in hundredths: with weights 1 at most 8,000,000
+-- by metric 0 and 2,000,000 by metric 2; with any weights that pass a hundred times that; by metric 1 at most 128, whatever
+-- the measures.
+-- Theorem: `distances-top`
+abbrev pub DistancesTop : Type 0
+DistancesTop =
+    (p q : Profile)
+    → (validMeasures p ≡ true → validMeasures q ≡ true
+    → (distance (space 0 1 1 1 1) p q ≤ 8_000_000) × (distance (space 2 1 1 1 1) p q ≤ 2_000_000)
+    × ((weights : Weights) → validWeights weights ≡ true
+    → (distance (record { metric = 0; weights = weights }) p q ≤ 800_000_000)
+    × (distance (record { metric = 2; weights = weights }) p q ≤ 200_000_000)))
+    × ((weights : Weights) → distance (record { metric = 1; weights = weights }) p q ≤ 128)
 
 -- RULES 13.1, 13.2, the form of a herd list, byte by byte (`linesText`). The test of the header passes exactly if the
 -- list is the header's 22 bytes and anything behind them. The header and any printed lines read as exactly the items

@@ -15,8 +15,10 @@ pub mod Counter
 pub mod Leaves
 pub mod Visits
 pub mod Weighing
+pub mod Earlier
 pub mod ListForm
 pub mod Slots
 pub mod Frame
+pub mod Bounds
 pub mod Entries
 pub mod Demands
