@@ -50,6 +50,7 @@ use Rattle.history.specs.Items.{Stay}
 use Rattle.history.specs.Frame.{Frames}
 use Rattle.history.specs.Entries.{AreThere}
 use Rattle.history.specs.Trees.{TreeFacts}
+use Rattle.history.specs.TreeForm.{LaidOut}
 use Rattle.history.specs.Agreement.{SameItems, SameAnswers}
 use Rattle.history.specs.Counter.{OnlyAdded, CountsAdds}
 use Rattle.history.specs.Leaves.{refusalOf, ChangesNothing, Excepted, Exceptions, LeavesRest, WritesBy}
@@ -203,6 +204,14 @@ AcceptedLeaves = (t : Table) → LeavesRest t
 abbrev pub WritesRefuse : Type 0
 WritesRefuse = (t : Table) → WritesBy t
 
+-- RULES 6.1 to 6.6, what a tree is, in plain numbers (`IsTree`): by any distance and of any rows of 13 words, the layout
+-- is a first slot of the smallest tag, a left half of floor(n/2) slots that are nearer to it than those of the right
+-- half, equal distances by tag, and a threshold that is the largest distance of the left half, at every slot; all marks
+-- are 0, and the items are those of the rows.
+-- Theorem: `lays-out`
+abbrev pub LaysOut : Type 0
+LaysOut = (dist : Profile → Profile → ℕ) (rows : List Row) → All (λ row. length row ≡ 13) rows → LaidOut dist rows
+
 -- W1: by any distance with the three laws a tree's range and nearest are a scan and its build costs c(n); and each metric has the three laws.
 -- Theorems: `any-distance`, `each-metric`
 abbrev pub AnyDistance : Type 0
@@ -300,8 +309,7 @@ AnyArea = (left area : Table) → take (length (ownRows left)) area ≡ take (le
 -- the definitions that `tableAfter` joins), it holds the model's items, range and nearest answer as a scan of them, and
 -- all rebuilds together keep within 4·T·(T+1)·A + 11·T·R distances.
 -- The model refuses and answers by figures of its own. It takes from the definitions of the calls these, which a claim
--- of its own pins: the distance (`WeighsEach`, `OneBit`), what the layout puts at a slot of an image (`AnyDistance`,
--- `CountsVisits`), the order of entries (`AnswersAscend`, `FoundAreThere`), the lots (`LotsHold`), the lines of a herd
+-- of its own pins: the distance (`WeighsEach`, `OneBit`), what the layout puts at a slot of an image (`LaysOut`), the order of entries (`AnswersAscend`, `FoundAreThere`), the lots (`LotsHold`), the lines of a herd
 -- list (`ListForm`), and which words of a row are its tag, profile and day (`ImageBytes`).
 -- Theorem: `every-list`
 abbrev pub EveryList : Type 0
