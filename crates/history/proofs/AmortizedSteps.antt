@@ -30,12 +30,12 @@ use Rattle.call_rules.specs.Calls.Begin.{fresh, load, restore}
 use Rattle.call_rules.specs.Calls.Change.{add, remove, readList}
 use Rattle.call_rules.specs.Calls.Call.{begin, change, ask, write}
 use Rattle.history.specs.Trace.{Sums, noSums, imageSums, starting, sumsAfter, beginShown, overlaid, leftBy}
-use Rattle.history.specs.Model.{Model, itemOf, imageModel, modelBegun}
+use Rattle.history.specs.Model.{Model, itemOf, modelBegun}
 use Rattle.history.specs.History.{IsBegin, IsCall}
 use Rattle.history.proofs.Invariant.{Invariant}
 use Rattle.history.proofs.RefinesItems.{Matches, live-total}
 use Rattle.history.proofs.InvariantFresh.{freshable}
-use Rattle.history.proofs.Changing.{matches-fresh, load-matches}
+use Rattle.history.proofs.Changing.{matches-fresh, read-matches}
 use Rattle.history.proofs.Amortized.{below, below-same, below-zero}
 use Rattle.history.proofs.AmortizedCredit.{begin-pays}
 use Rattle.history.proofs.AmortizedRebuild.{potentialOf, add-paid}
@@ -89,11 +89,11 @@ fresh-paid left t order space is e =
 
 loaded-paid : (left t : Table) (image : List ℕ) → All (λ b. b < 2 ^ 8) image → loadRefusal (length t) image ≡ 0
     → Paid (leftBy left (loadedTable image t)) (imageSums image)
-unfolding leftBy imageSums slotsIn slotsBefore below imageModel
+unfolding leftBy imageSums slotsIn slotsBefore below
 loaded-paid left t image bytes e =
     let u : Table = loadedTable image t in
     let here = loaded image t (accepted (length t) image e) in
-    let done = load-matches image t bytes e in
+    let done = read-matches image t bytes e in
     let slots : below (builtOf u) (suc (orderOf u)) ≡ slotsIn image =
     below-same (builtIn image) (builtOf u) (suc (orderOf u))
     (λ k l. held-built (here .buckets k (omega (arith, l, here .order))) ∙ length-bucket-in image k)

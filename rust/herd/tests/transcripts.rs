@@ -40,6 +40,7 @@ fn outcome(folder: &Path, line: &str) -> String {
     let shell = Command::new("sh")
         .args(["-c", &format!("{SPOIL}\n{line}")])
         .env("PATH", path.expect("no colon in the folder's name"))
+        .env_remove("HERD_DAY_ONE")
         .current_dir(folder)
         .output()
         .expect("a shell");

@@ -3,7 +3,7 @@
 //!
 //! It writes what `c/herd.c` writes; `c/herd.expected` has it.
 
-use vpindex::{Day, Hits, ListRefusal, Metric, Order, Profile, Refusal, Table, Tag, Weights};
+use vpindex::{Day, Error, Hits, ListRefusal, Metric, Order, Profile, Table, Tag, Weights};
 
 // national number; weight, hip height, girth and daily gain, in hundredths; the day of the year
 const ITEMS: [(u64, [i32; 4], u16); 6] = [
@@ -20,7 +20,7 @@ const LIST: &str = "tag;kg;hip;girth;gain\n\
                     036000000000107;402,50;128,00;183,00;-0,35\n\
                     036000000000101;412,50;129,00;185,00;0,95\n";
 
-fn main() -> Result<(), Refusal> {
+fn main() -> Result<(), Error> {
     let order = Order::holding(ITEMS.len())?;
     let mut table = Table::new(order, Metric::SumOfDifferences);
     for (national, measures, day) in ITEMS {

@@ -1,7 +1,9 @@
 //! What a batch of queries found.
 
 use std::fmt;
+use std::iter::FusedIterator;
 use std::ops::Index;
+use std::slice;
 
 use crate::ffi::{self, MAX_QUERIES};
 use crate::{Hit, Refusal};
@@ -42,8 +44,8 @@ impl Batch {
     }
 
     /// The hits of each query, in the order of the queries.
-    pub fn iter(&self) -> impl ExactSizeIterator<Item = &[Hit]> {
-        self.lists[..self.queries].iter().map(|&(start, found)| &self.room[start..][..found])
+    pub fn iter(&self) -> BatchHits<'_> {
+        BatchHits { room: &self.room, lists: self.lists[..self.queries].iter() }
     }
 
     /// How many slots the batch met: each once, however many of its queries met it.
@@ -79,6 +81,38 @@ impl Batch {
         self.room.truncate(end);
         self.room.shrink_to_fit();
         self
+    }
+}
+
+/// The hits of each query of a batch, as [`Batch::iter`] gives them.
+#[derive(Clone, Debug)]
+pub struct BatchHits<'a> {
+    room: &'a [Hit],
+    lists: slice::Iter<'a, (usize, usize)>,
+}
+
+impl<'a> Iterator for BatchHits<'a> {
+    type Item = &'a [Hit];
+
+    fn next(&mut self) -> Option<&'a [Hit]> {
+        self.lists.next().map(|&(start, found)| &self.room[start..][..found])
+    }
+
+    fn size_hint(&self) -> (usize, Option<usize>) {
+        self.lists.size_hint()
+    }
+}
+
+impl ExactSizeIterator for BatchHits<'_> {}
+
+impl FusedIterator for BatchHits<'_> {}
+
+impl<'a> IntoIterator for &'a Batch {
+    type Item = &'a [Hit];
+    type IntoIter = BatchHits<'a>;
+
+    fn into_iter(self) -> BatchHits<'a> {
+        self.iter()
     }
 }
 

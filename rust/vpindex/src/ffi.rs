@@ -10,6 +10,9 @@ pub const ANY_DAY: u16 = 0;
 /// The most queries of a batch: the header's `VPINDEX_MAX_QUERIES`.
 pub const MAX_QUERIES: usize = 16;
 
+/// The most radii of a drafting: the header's `VPINDEX_MAX_RADII`.
+pub const MAX_RADII: usize = 32;
+
 pub type Row = [u32; ROW_WORDS];
 pub type Entry = [u64; 2];
 

@@ -1,5 +1,6 @@
 //! What a search found.
 
+use std::cmp::Ordering;
 use std::fmt;
 use std::ops::Deref;
 
@@ -29,6 +30,19 @@ impl Hit {
     // a hit is an entry and nothing else
     pub(crate) fn entries(hits: &mut [Hit]) -> &mut [ffi::Entry] {
         unsafe { &mut *(hits as *mut [Hit] as *mut [ffi::Entry]) }
+    }
+}
+
+/// As hits stand in a result: by distance, then tag.
+impl Ord for Hit {
+    fn cmp(&self, other: &Hit) -> Ordering {
+        (self.distance(), self.tag()).cmp(&(other.distance(), other.tag()))
+    }
+}
+
+impl PartialOrd for Hit {
+    fn partial_cmp(&self, other: &Hit) -> Option<Ordering> {
+        Some(self.cmp(other))
     }
 }
 

@@ -26,17 +26,16 @@ impl fmt::Display for ImageRefusal {
     }
 }
 
-impl Error for ImageRefusal {}
+/// Its source is the refusal, where its own words are those of a fault.
+impl Error for ImageRefusal {
+    fn source(&self) -> Option<&(dyn Error + 'static)> {
+        self.fault.as_ref().map(|_| &self.refusal as _)
+    }
+}
 
 impl From<Refusal> for ImageRefusal {
     fn from(refusal: Refusal) -> ImageRefusal {
         ImageRefusal { refusal, fault: None }
-    }
-}
-
-impl From<ImageRefusal> for Refusal {
-    fn from(refused: ImageRefusal) -> Refusal {
-        refused.refusal
     }
 }
 

@@ -22,7 +22,7 @@
 //! // of those weighed on day 300 or later
 //! let hits = table.nearest(&query, 1, Some(Day::new(300)?))?;
 //! assert_eq!((hits[0].tag(), hits[0].distance()), (Tag::new(36, 2)?, 1_705));
-//! # Ok::<(), vpindex::Refusal>(())
+//! # Ok::<(), vpindex::Error>(())
 //! ```
 
 // The first use that the README shows is run as it is printed.
@@ -33,6 +33,8 @@ struct Readme;
 mod batch;
 mod buckets;
 mod dues;
+mod error;
+mod extend;
 #[doc(hidden)]
 pub mod ffi;
 mod hits;
@@ -49,9 +51,11 @@ mod table;
 mod text;
 mod values;
 
-pub use batch::Batch;
+pub use batch::{Batch, BatchHits};
 pub use buckets::{Bucket, Slot};
 pub use dues::{Cents, Dues};
+pub use error::Error;
+pub use extend::ExtendRefusal;
 pub use hits::{Hit, Hits};
 pub use image::ImageRefusal;
 pub use image_fault::ImageFault;
@@ -62,6 +66,6 @@ pub use list_fault::ListFault;
 pub use lots::{Drafted, Lots};
 pub use refusal::Refusal;
 pub use states::States;
-pub use table::{Added, LookedUp, Table};
+pub use table::{Added, LookedUp, Replaced, Table};
 pub use text::ParseError;
 pub use values::{Day, Metric, Name, Order, Profile, RangeQuery, Tag, Weights};

@@ -46,11 +46,10 @@ impl fmt::Display for ListRefusal {
     }
 }
 
-impl Error for ListRefusal {}
-
-impl From<ListRefusal> for Refusal {
-    fn from(refused: ListRefusal) -> Refusal {
-        refused.refusal
+/// Its source is the refusal, where its own words are those of a fault.
+impl Error for ListRefusal {
+    fn source(&self) -> Option<&(dyn Error + 'static)> {
+        self.fault.as_ref().map(|_| &self.refusal as _)
     }
 }
 

@@ -6,8 +6,8 @@ use crate::buckets::{self, Bucket};
 use crate::image::{self, ImageRefusal};
 use crate::list::{self, ListRead, ListRefusal};
 use crate::{
-    Batch, Cents, Day, Dues, Hits, Item, Items, Lots, Metric, Name, Order, Profile, RangeQuery, Refusal, States, Tag,
-    Weights, ffi,
+    Batch, Cents, Day, Dues, ExtendRefusal, Hits, Item, Items, Lots, Metric, Name, Order, Profile, RangeQuery, Refusal,
+    States, Tag, Weights, ffi,
 };
 
 /// What an add did.
@@ -16,6 +16,17 @@ pub struct Added {
     /// The bucket that was built, with the new item in it.
     pub bucket: u32,
     /// Distances worked out by the build.
+    pub distances: u32,
+}
+
+/// What a replace did.
+#[derive(Clone, Copy, Debug, PartialEq, Eq, Hash)]
+pub struct Replaced {
+    /// The item as it was before.
+    pub before: Item,
+    /// The bucket that was built, with the new item in it.
+    pub bucket: u32,
+    /// Distances worked out by the builds of the removal and of the add.
     pub distances: u32,
 }
 
@@ -80,7 +91,7 @@ impl Table {
     /// table.add(Tag::new(36, 1)?, &Profile::new([41_250, 12_900, 18_500, 95], [0, 0])?, Day::MIN)?;
     /// let query = Profile::new([41_000, 12_900, 18_400, 40], [0, 0])?;
     /// assert_eq!(table.nearest(&query, 1, None)?[0].distance(), 2_600);
-    /// # Ok::<(), vpindex::Refusal>(())
+    /// # Ok::<(), vpindex::Error>(())
     /// ```
     pub fn with_weights(order: Order, metric: Metric, weights: Weights) -> Table {
         let mut table = Table::blank(Header { order, metric, weights });
@@ -115,7 +126,7 @@ impl Table {
     /// );
     /// let fault = refused.fault.expect("the bytes show it");
     /// assert_eq!((fault.field, fault.bytes, fault.bucket), ("tag", 24..32, Some(1)));
-    /// # Ok::<(), vpindex::Refusal>(())
+    /// # Ok::<(), vpindex::Error>(())
     /// ```
     pub fn load(image: &[u8]) -> Result<Table, ImageRefusal> {
         Table::begun(Some(image), |rows| ffi::load(rows, image))
@@ -180,7 +191,7 @@ impl Table {
     ///     again.to_string(),
     ///     "line 2, field 1: `036000000000101` is in the table already (0 added before it)"
     /// );
-    /// # Ok::<(), Box<dyn std::error::Error>>(())
+    /// # Ok::<(), vpindex::Error>(())
     /// ```
     ///
     /// The reading stops at the first line that is refused, and the lines before it stay added.
@@ -197,6 +208,70 @@ impl Table {
         let reply = ffi::remove(&mut self.rows, &mut self.work, tag.into());
         Refusal::check(reply.refusal)?;
         Ok(reply.distances)
+    }
+
+    /// Puts a new profile and day in the place of an item's, as when it is weighed again: a removal and an add, or neither.
+    ///
+    /// ```
+    /// use vpindex::{Day, Metric, Order, Profile, Refusal, Table, Tag};
+    ///
+    /// let mut table = Table::new(Order::new(4)?, Metric::SumOfDifferences);
+    /// let (tag, then) = (Tag::new(36, 1)?, Profile::new([41_250, 12_900, 18_500, 95], [0, 0])?);
+    /// table.add(tag, &then, Day::new(210)?)?;
+    ///
+    /// let now = Profile::new([43_000, 12_950, 18_700, 88], [0, 0])?;
+    /// assert_eq!(table.replace(tag, &now, Day::new(305)?)?.before.profile, then);
+    /// assert_eq!(table.look_up(tag)?.profile, now);
+    /// assert_eq!(table.replace(Tag::new(36, 2)?, &now, Day::MIN), Err(Refusal::NotLive));
+    /// # Ok::<(), vpindex::Error>(())
+    /// ```
+    ///
+    /// # Errors
+    ///
+    /// [`Refusal::NotLive`] if it is not there. A removal makes room for the add, so no other refusal comes from this
+    /// archive; were the add refused, the item would be put back as it was.
+    pub fn replace(&mut self, tag: Tag, profile: &Profile, day: Day) -> Result<Replaced, Refusal> {
+        let LookedUp { profile: old, day: old_day, .. } = self.look_up(tag)?;
+        let removing = self.remove(tag)?;
+        match self.add(tag, profile, day) {
+            Ok(Added { bucket, distances }) => {
+                let before = Item { tag, profile: old, day: old_day };
+                Ok(Replaced { before, bucket, distances: removing + distances })
+            }
+            Err(refusal) => {
+                self.add(tag, &old, old_day).expect("it was in the table just now");
+                Err(refusal)
+            }
+        }
+    }
+
+    /// Adds items one after the other, and gives how many they were.
+    ///
+    /// ```
+    /// use vpindex::{Day, Metric, Order, Table};
+    ///
+    /// let mut herd = Table::new(Order::new(4)?, Metric::SumOfDifferences);
+    /// herd.read_list(b"tag;kg;hip;girth;gain\n036000000000101;412,50;129,00;185,00;0,95\n", Day::MIN)?;
+    ///
+    /// // the same head by another metric
+    /// let mut by_bits = Table::new(herd.order(), Metric::DifferingBits);
+    /// assert_eq!(by_bits.try_extend(&herd)?, 1);
+    /// let again = by_bits.try_extend(&herd).unwrap_err();
+    /// assert_eq!(again.to_string(), "036000000000101: the tag is in the table already (0 added before it)");
+    /// # Ok::<(), vpindex::Error>(())
+    /// ```
+    ///
+    /// # Errors
+    ///
+    /// As [`Table::add`] at the first item that it refuses, where it stops; the items before it stay added.
+    pub fn try_extend(&mut self, items: impl IntoIterator<Item = Item>) -> Result<usize, ExtendRefusal> {
+        let mut added = 0;
+        for item in items {
+            let done = self.add(item.tag, &item.profile, item.day);
+            done.map_err(|refusal| ExtendRefusal { item, refusal, added })?;
+            added += 1;
+        }
+        Ok(added)
     }
 
     /// Gives an item's profile and its day. [`Refusal::NotLive`] if it is not there.
@@ -217,6 +292,35 @@ impl Table {
         self.look_up(tag).is_ok()
     }
 
+    /// Whether the other table has the same items, metric and weights. Range and nearest then find the same in both by
+    /// every query, whatever was added, removed and loaded before; orders and numbers of distances may differ.
+    ///
+    /// ```
+    /// use vpindex::{Day, Metric, Order, Profile, Table, Tag};
+    ///
+    /// let (first, second) = (Tag::new(36, 1)?, Tag::new(36, 2)?);
+    /// let mut one = Table::new(Order::new(4)?, Metric::SumOfDifferences);
+    /// one.add(first, &Profile::default(), Day::MIN)?;
+    /// let mut other = Table::new(Order::new(1)?, Metric::SumOfDifferences);
+    /// other.add(second, &Profile::default(), Day::MIN)?;
+    /// other.add(first, &Profile::default(), Day::MIN)?;
+    /// assert!(!one.same_items(&other));
+    /// other.remove(second)?;
+    /// assert!(one.same_items(&other) && one.image() != other.image());
+    /// # Ok::<(), vpindex::Error>(())
+    /// ```
+    pub fn same_items(&self, other: &Table) -> bool {
+        let by_tag = |table: &Table| {
+            let mut items: Vec<Item> = table.iter().collect();
+            items.sort_unstable_by_key(|item| item.tag);
+            items
+        };
+        self.metric() == other.metric()
+            && self.weights() == other.weights()
+            && self.len() == other.len()
+            && by_tag(self) == by_tag(other)
+    }
+
     /// All items, in no order that can be relied on.
     ///
     /// ```
@@ -227,7 +331,7 @@ impl Table {
     ///     table.add(Tag::new(36, national)?, &Profile::new([kilos, 0, 0, 0], [0, 0])?, Day::MIN)?;
     /// }
     /// assert_eq!(table.iter().filter(|item| item.profile.measures()[0] > 40_000).count(), 2);
-    /// # Ok::<(), vpindex::Refusal>(())
+    /// # Ok::<(), vpindex::Error>(())
     /// ```
     pub fn iter(&self) -> Items<'_> {
         let (front, slots) = self.rows.split_at(self.order().get() as usize + 2);
@@ -263,7 +367,7 @@ impl Table {
     ///     table.range_into(&query, 500, None, &mut hits)?;
     ///     assert_eq!(hits.len(), found);
     /// }
-    /// # Ok::<(), vpindex::Refusal>(())
+    /// # Ok::<(), vpindex::Error>(())
     /// ```
     pub fn range_into(
         &self,
@@ -311,7 +415,7 @@ impl Table {
     /// let dues = table.dues(&tags)?;
     /// assert_eq!(dues.each.iter().map(|cents| cents.to_string()).collect::<Vec<_>>(), ["12.38", "12.00"]);
     /// assert_eq!(dues.total.to_string(), "24.38");
-    /// # Ok::<(), vpindex::Refusal>(())
+    /// # Ok::<(), vpindex::Error>(())
     /// ```
     ///
     /// [`Refusal::NotLive`] if one of them is not there, else [`Refusal::NoDues`] if one weighs below 0 or the list has
@@ -341,7 +445,7 @@ impl Table {
     /// let batch = table.range_batch(&[near, later])?;
     /// assert_eq!((batch[0][0].tag(), batch[1][0].tag()), (Tag::new(36, 1)?, Tag::new(36, 2)?));
     /// assert_eq!((batch[0].len(), batch[1].len(), batch.distances()), (1, 1, 2));
-    /// # Ok::<(), vpindex::Refusal>(())
+    /// # Ok::<(), vpindex::Error>(())
     /// ```
     pub fn range_batch(&self, queries: &[RangeQuery]) -> Result<Batch, Refusal> {
         let mut batch = Batch::with_capacity(self.len() * queries.len().min(ffi::MAX_QUERIES));
@@ -378,17 +482,39 @@ impl Table {
     /// let lots = table.lots(&[500, 1_500, 2_500], 2)?;
     /// assert_eq!(lots.by_radius().iter().map(|drafted| drafted.lots).collect::<Vec<_>>(), [4, 2, 2]);
     /// assert_eq!(lots.iter().collect::<Vec<_>>(), [[tags[0], tags[3]], [tags[1], tags[2]]]);
-    /// # Ok::<(), vpindex::Refusal>(())
+    /// # Ok::<(), vpindex::Error>(())
     /// ```
+    ///
+    /// # Errors
     ///
     /// [`Refusal::BadRadii`] if there are not 1 to 32 radii, or the chosen place is not in their list.
     pub fn lots(&self, radii: &[u32], chosen: u32) -> Result<Lots, Refusal> {
-        let capacity = self.header.order.capacity();
-        let (mut work, mut listing) = (vec![[0; 2]; capacity], vec![[0; 2]; capacity]);
-        let mut summary = vec![[0; 2]; radii.len()];
-        Refusal::check(ffi::lots(&self.rows, &mut work, radii, &mut summary, &mut listing, chosen))?;
-        let listed = listing.iter().take_while(|entry| entry[1] != 0).count();
-        Ok(Lots::new(&summary, &listing[..listed]))
+        let mut lots = Lots::new(self.order());
+        self.lots_into(radii, chosen, &mut lots)?;
+        Ok(lots.trimmed())
+    }
+
+    /// As [`Table::lots`], in place of what was drafted before, and with nothing allocated.
+    ///
+    /// ```
+    /// use vpindex::{Day, Lots, Metric, Order, Profile, Table, Tag};
+    ///
+    /// let mut table = Table::new(Order::new(4)?, Metric::SumOfDifferences);
+    /// let mut lots = Lots::new(table.order());
+    /// for (national, kilos) in [(1, 41_000), (2, 45_000), (3, 43_500)] {
+    ///     table.add(Tag::new(36, national)?, &Profile::new([kilos, 0, 0, 0], [0, 0])?, Day::MIN)?;
+    ///     table.lots_into(&[2_000], 1, &mut lots)?;
+    /// }
+    /// assert_eq!((lots.len(), lots.by_radius()[0].largest), (2, 2));
+    /// # Ok::<(), vpindex::Error>(())
+    /// ```
+    ///
+    /// # Errors
+    ///
+    /// [`Refusal::ShortArea`] if the lots have room for a lower order alone, and else as [`Table::lots`]. Nothing is
+    /// drafted then.
+    pub fn lots_into(&self, radii: &[u32], chosen: u32, lots: &mut Lots) -> Result<(), Refusal> {
+        lots.fill(radii.len(), |work, summary, listing| ffi::lots(&self.rows, work, radii, summary, listing, chosen))
     }
 
     /// The table as bytes, which [`Table::load`] reads.
@@ -418,7 +544,7 @@ impl Table {
     /// table.remove(Tag::new(36, 1)?)?;
     /// assert!(table.is_empty() && states.is_saved(morning));
     /// assert_eq!(Table::restore(&states, morning)?.len(), 1);
-    /// # Ok::<(), vpindex::Refusal>(())
+    /// # Ok::<(), vpindex::Error>(())
     /// ```
     pub fn save(&self, states: &mut States, name: Name) -> Result<(), Refusal> {
         Refusal::check(ffi::save(&self.rows, states.bytes_mut(), name.get()).refusal)
@@ -484,6 +610,27 @@ impl<'a> IntoIterator for &'a Table {
 #[cfg(test)]
 mod tests {
     use super::*;
+
+    // No value of this crate makes an archive refuse the add of a replace, so one that the crate would not make does.
+    #[test]
+    fn a_refused_replace_puts_the_item_back() {
+        let bad = Profile::as_stored(ffi::Profile { measures: [Profile::MAX_MEASURE + 1, 0, 0, 0], code: [0, 0] });
+        let tag = |national| Tag::new(36, national).expect("valid");
+        for (order, items) in [(0, 1), (2, 3), (2, 4), (4, 16)] {
+            let mut table = Table::new(Order::new(order).expect("valid"), Metric::SumOfDifferences);
+            for national in 0..items {
+                let profile = Profile::new([national as i32, 7, 0, 0], [national, 1]).expect("in range");
+                table.add(tag(national), &profile, Day::MAX).expect("room");
+            }
+            let before = table.clone();
+            for national in 0..items {
+                assert_eq!(table.replace(tag(national), &bad, Day::MIN), Err(Refusal::BadMeasure));
+                assert!(table.same_items(&before));
+            }
+            assert_eq!(table.replace(tag(items), &bad, Day::MIN), Err(Refusal::NotLive));
+            Table::load(&table.image()).expect("a table that calls left");
+        }
+    }
 
     // Rows that a newer archive could leave: none of them makes a table here, and nothing panics.
     #[test]

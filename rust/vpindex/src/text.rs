@@ -4,7 +4,7 @@ use std::error::Error;
 use std::fmt;
 use std::str::FromStr;
 
-use crate::{Day, Metric, Name, Order, Profile, Refusal, Tag, Weights};
+use crate::{Day, Item, Metric, Name, Order, Profile, Refusal, Tag, Weights};
 
 /// Why a text is not a value.
 #[derive(Clone, Copy, Debug, PartialEq, Eq, Hash)]
@@ -119,6 +119,27 @@ fn words(code: &str) -> Option<[u64; 2]> {
     let is_code = code.len() == 32 && code.bytes().all(|byte| matches!(byte, b'0'..=b'9' | b'a'..=b'f'));
     let word = |digits| u64::from_str_radix(digits, 16).ok();
     if is_code { Some([word(&code[..16])?, word(&code[16..])?]) } else { None }
+}
+
+/// Its tag, its profile and its day, as `036000000000101 412.50 129.00 185.00 0.95 - 305`: so the program `yard` takes
+/// it after the letter of an add.
+impl fmt::Display for Item {
+    fn fmt(&self, f: &mut fmt::Formatter<'_>) -> fmt::Result {
+        f.pad(&format!("{} {} {}", self.tag, self.profile, self.day))
+    }
+}
+
+/// As it is written.
+impl FromStr for Item {
+    type Err = ParseError;
+
+    fn from_str(text: &str) -> Result<Item, ParseError> {
+        let parts = text.split_once(' ').and_then(|(tag, rest)| Some((tag, rest.rsplit_once(' ')?)));
+        let Some((tag, (profile, day))) = parts else {
+            return Err(ParseError::Form("an item: a tag, a profile and a day, each after one space"));
+        };
+        Ok(Item { tag: tag.parse()?, profile: profile.parse()?, day: day.parse()? })
+    }
 }
 
 /// The four with commas, as `10,1,1,0`.

@@ -32,11 +32,11 @@ const NEAREST: usize = 10;
 pub fn run(args: &Args) -> Outcome {
     let Some(path) = args.typed("-o") else { return misuse("-o FILE has to be there") };
     let typed = args.value("--radii")?.map(|Radii(radii)| radii);
-    typed.as_ref().map_or(Ok(()), |radii| check(radii, 1))?;
+    typed.as_ref().map_or(Ok(()), |radii| check(radii.len(), 1))?;
     let image = Image::open(&args.plain[0])?;
     // before the work, and not behind it
     let is_page = finds_page(path)?;
-    let items = words::items_by_tag(&image.table);
+    let items = crate::head::by_tag(&image.table);
     let radii = typed.unwrap_or_else(|| radii::own(&image.table, &items));
     let herd = Herd { image: &image, items };
     let data = herd.json(&args.plain[0], &radii)?.to_string();

@@ -40,7 +40,7 @@ mod tests {
     use vpindex::{Day, Metric, Order, Profile, Refusal, Tag};
 
     use super::*;
-    use crate::words::items_by_tag;
+    use crate::head::by_tag as items_by_tag;
 
     #[test]
     fn typed() {
