@@ -13,11 +13,11 @@ use Rattle.table_rules.specs.Search.{Answer, zeroEntry}
 use Rattle.batch_rules.specs.Batch.{partWith, partsWith, resultAfterParts}
 
 module _ (size : ℕ) where
-  part-length : (a : Answer) → length (a .entries) ≤ size → length (partWith size a) ≡ size
+  pub part-length : (a : Answer) → length (a .entries) ≤ size → length (partWith size a) ≡ size
   unfolding partWith
   part-length a h = omega (arith, length-append (a .entries) (replicate (size - length (a .entries)) zeroEntry), length-replicate (size - length (a .entries)) zeroEntry)
 
-  parts-length : (answers : List Answer) → All (λ a. length (a .entries) ≤ size) answers → length (partsWith size answers) ≡ length answers * size
+  pub parts-length : (answers : List Answer) → All (λ a. length (a .entries) ≤ size) answers → length (partsWith size answers) ≡ length answers * size
   unfolding partsWith
   parts-length [] fit = omega arith
   parts-length (a ∷ answers) fit =

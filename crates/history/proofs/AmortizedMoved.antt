@@ -96,7 +96,7 @@ module _ (t : Table) (long : tableRows (orderOf t) ≤ length t) (ks : List ℕ)
   cleared-long : tableRows (orderOf (emptied ks t)) ≤ length (emptied ks t)
   cleared-long = rw order (omega (arith, long, cleared .long))
 
-  own-row : rowAt (rebuilt t ks g rows .table) (sizesRow g) ≡ pairRow (length rows) (length rows)
+  pub own-row : rowAt (rebuilt t ks g rows .table) (sizesRow g) ≡ pairRow (length rows) (length rows)
   own-row =
       rw rebuilt-steps
       (put-own (emptied ks t) cleared-long g (rw order reached) tree (length rows) ∙ ap (λ (n : ℕ). pairRow n (length rows)) tree-length)

@@ -11,7 +11,6 @@ use lib.ListN.{length, replicate}
 use lib.Seq.{take-append-seam}
 use borrow.Author.Tests.{le-leb}
 use Rattle.metric_rules.specs.declared.Profile.{Profile}
-use Rattle.metric_rules.specs.Validity.{validMeasures}
 use Rattle.search_rules.specs.Range.{Entry}
 use Rattle.table_rules.specs.Refusals.{badMeasure, noCount, noRoom, shortArea, unless, when}
 use Rattle.table_rules.specs.Geometry.{tableRows}
@@ -19,6 +18,7 @@ use Rattle.table_rules.specs.Table.{Table, orderOf}
 use Rattle.table_rules.specs.Search.{Answer, rangeAnswer, nearestAnswer, rangeRefusal, nearestRefusal, searchReply, zeroEntry, resultAfter, rangeReply, resultAfterRange, nearestReply, resultAfterNearest}
 use Rattle.call_rules.specs.Calls.Ask.{range, nearest}
 use Rattle.history.specs.Trace.{overlaid}
+use Rattle.history.specs.Figures.{measuresWithin}
 use Rattle.history.specs.Model.{Model, scanned, modelRange, modelNearest, fits, questionRefusal, askRefusal}
 use Rattle.history.specs.Agreement.{Agree, AreasHold, SameAnswers}
 use Rattle.history.specs.Demands.{IndependentOfHistory}
@@ -82,14 +82,14 @@ module _ (a b : Answer) (es : List Entry) (first : a .entries ≡ es) (second : 
 
 -- each search's refusal in an area of the table that is long enough, so behind 23
 range-asked : {t : Table} {m : Model} → Matches t m → (q : Profile) (r firstDay : ℕ) (area : List Entry)
-    → rangeRefusal t area q r firstDay ≡ asked (validMeasures q) false (modelRange m q r firstDay) (length area)
+    → rangeRefusal t area q r firstDay ≡ asked (measuresWithin q) false (modelRange m q r firstDay) (length area)
 unfolding askRefusal questionRefusal
 range-asked {t} {m} ok q r firstDay area =
     range-refusal m t (inl ok) q r firstDay area
     ∙ ap (λ (b : Bool). unless b shortArea (questionRefusal m (range q r firstDay) (length area))) (can-read m t ok)
 
 nearest-asked : {t : Table} {m : Model} → Matches t m → (q : Profile) (k firstDay : ℕ) (area : List Entry)
-    → nearestRefusal t area q k firstDay ≡ asked (validMeasures q) (eqb k 0) (modelNearest m q k firstDay) (length area)
+    → nearestRefusal t area q k firstDay ≡ asked (measuresWithin q) (eqb k 0) (modelNearest m q k firstDay) (length area)
 unfolding askRefusal questionRefusal
 nearest-asked {t} {m} ok q k firstDay area =
     nearest-refusal m t (inl ok) q k firstDay area
@@ -111,11 +111,11 @@ module _ {t u : Table} {m n : Model} (ok : Matches t m) (there : Matches u n) (s
       record {
         ranges = λ q r firstDay area other.
             held-agree (rangeAnswer t q r firstDay) (rangeAnswer u q r firstDay) (modelRange n q r firstDay) (range-alike here q r firstDay)
-            (range-alike there q r firstDay) area other (validMeasures q) false (rangeRefusal t area q r firstDay) (rangeRefusal u other q r firstDay)
+            (range-alike there q r firstDay) area other (measuresWithin q) false (rangeRefusal t area q r firstDay) (rangeRefusal u other q r firstDay)
             (range-asked here q r firstDay area) (range-asked there q r firstDay other);
         nearests = λ q k firstDay area other.
             held-agree (nearestAnswer t q k firstDay) (nearestAnswer u q k firstDay) (modelNearest n q k firstDay) (nearest-alike here q k firstDay)
-            (nearest-alike there q k firstDay) area other (validMeasures q) (eqb k 0) (nearestRefusal t area q k firstDay) (nearestRefusal u other q k firstDay)
+            (nearest-alike there q k firstDay) area other (measuresWithin q) (eqb k 0) (nearestRefusal t area q k firstDay) (nearestRefusal u other q k firstDay)
             (nearest-asked here q k firstDay area) (nearest-asked there q k firstDay other);
         batches =
             batches-agree t u (invariant-reads t (ok .invariant)) (invariant-reads u (there .invariant))

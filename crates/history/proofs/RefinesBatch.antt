@@ -48,7 +48,7 @@ unfolding foundBy resultAfterParts
 all-listed size answers fit area = listed-all size answers fit (mostQueries - length answers) (replicate (length area - length answers * size) zeroEntry)
 
 found-each : (answers : List Answer) → foundEach (map (λ a. a .entries) answers) ≡ someLists (foundBy answers) (flatten (map (λ a. a .entries) answers))
-unfolding foundEach foundBy
+unfolding foundEach foundBy mostQueries
 found-each answers =
     ap₂ (λ (numbers : List ℕ) (n : ℕ). someLists (numbers ++ replicate (mostQueries - n) 0) (flatten (map (λ a. a .entries) answers)))
     (map-map length (λ a. a .entries) answers) (length-map answers (λ a. a .entries))

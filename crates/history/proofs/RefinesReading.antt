@@ -14,7 +14,7 @@ use Rattle.lists.proofs.Tests.{and-pass}
 use Rattle.metric_rules.specs.declared.Profile.{Profile}
 use Rattle.metric_rules.specs.Row.{Row, zeroRow}
 use Rattle.table_rules.specs.Refusals.{shortArea, unless}
-use Rattle.table_rules.specs.Geometry.{workRows}
+use Rattle.table_rules.specs.Geometry.{room, workRows}
 use Rattle.table_rules.specs.Table.{Table, orderOf, cleared}
 use Rattle.table_rules.specs.Add.{addRefusal, addReply, added, tableAfterAdd, workAfterAdd}
 use Rattle.list_rules.specs.Lines.{ListLine, hasHeader, itemLines}
@@ -50,7 +50,7 @@ module _ (t : Table) (work : List Row) (tag : ℕ) (p : Profile) (day : ℕ) (e 
   accepted-work = ap (λ (k : ℕ). elim k as (λ _. List Row) [ zero ↦ cleared zeroRow (workRows (orderOf t)) work | suc j ↦ work ]) e
 
 pub can-go-on : {t : Table} {m : Model} → Matches t m → (work : List Row) → workRows (orderOf t) ≤ length work → canChange m (length t) (length work) ≡ true
-unfolding canChange
+unfolding canChange workRows room
 can-go-on {t} {m} ok work roomy =
     and-pass (canRead m (length t)) (leb (workRows (m .order)) (length work)) (can-read m t ok)
     (le-leb (workRows (m .order)) (length work) (subst (λ (o : ℕ). workRows o ≤ length work) (ok .order) roomy))

@@ -3,14 +3,14 @@
 use Prim.Native.Nat.{ℕ, suc, _+_, _/_, _^_, _<_}
 use mathlib.Core.Path.{_≡_, refl, sym, _∙_, ap, ap₂}
 use mathlib.Core.Logic.{_⊎_, inl, inr}
-use mathlib.Core.Bool.{Bool, true, false, not, _&&_, _||_, false≢true}
+use mathlib.Core.Bool.{Bool, true, false, not, _&&_, false≢true}
 use mathlib.Core.List.{List, [], _∷_, map}
 use mathlib.Core.Option.{Option, none, some}
 use lib.IntN.{ℤ}
 use lib.Dec.{leb, ltb, eqb}
 use lib.ListN.{length}
 use native.Mathlib.Omega.{arith}
-use borrow.Author.Tests.{ltb-true, ltb-false, le-leb, lt-leb}
+use borrow.Author.Tests.{le-leb, lt-leb}
 use Rattle.lists.specs.Lists.{every, any}
 use Rattle.lists.proofs.Tests.{and-first, and-second, and-pass, every-map}
 use Rattle.metric_rules.specs.declared.Profile.{Profile}
@@ -34,11 +34,15 @@ use Rattle.call_rules.specs.Calls.Begin.{fresh, load, restore}
 use Rattle.call_rules.specs.Calls.Ask.{lookUp, range, nearest, dues, rangeBatch}
 use Rattle.history.specs.Trace.{beginShown, shows}
 use Rattle.history.specs.Trace.Payload.{bare}
-use Rattle.history.specs.Model.{Item, itemOf, Model, withTag, isIn, canRead, canChange, tagRefusal, itemRefusal, addRefusalOf, removeRefusalOf, fits, questionRefusal, askRefusal, freshRefusalOf, begunShown}
+use Rattle.history.specs.Model.{Item, itemOf, Model, withTag, isIn, canRead, canChange, tagRefusal, itemRefusal, addRefusalOf, removeRefusalOf, fits, weightsIn, modelRanges, batchRefusalOf, questionRefusal, askRefusal, freshRefusalOf, begunShown}
 use Rattle.history.proofs.Invariant.{Invariant}
+use Rattle.history.specs.Figures.{tagSound, measuresWithin}
+use Rattle.history.proofs.LoadTests.{most-above, every-not-any, all-any, stops-alike, passes-alike, when-alike, tag-sound, some-not-none}
+use Rattle.history.proofs.TreeTests.{load-shown, restore-shown}
+use Rattle.history.proofs.Figured.{measures-within, dues-figured, batch-figured}
 use Rattle.history.proofs.RefinesFinding.{rowFound}
 use Rattle.history.proofs.RefinesItems.{Matches, range-alike, nearest-alike, found-items, weights-alike, live-total, ranges-alike}
-use Rattle.batch_rules.specs.Batch.{singleAnswers, partSize, queriesRefusal, partsRefusal, batchRefusal}
+use Rattle.batch_rules.specs.Batch.{singleAnswers, partSize, partsRefusal, batchRefusal}
 
 -- a table too short for the model's order: of its rows only the header counts, if there is one
 pub record Short (t : Table) (m : Model) : Type 0 where
@@ -111,21 +115,23 @@ module _ {t : Table} {m : Model} (matches : Matches t m) where
 
   tag-alike : (tag : ℕ) → liveTagRefusal t tag ≡ tagRefusal m tag
   unfolding tagRefusal
-  tag-alike tag = ap (λ (live : Bool). unless (validTag tag) badTag (unless live notLive 0)) (live-alike tag)
+  tag-alike tag = ap₂ (λ (valid live : Bool). unless valid badTag (unless live notLive 0)) (tag-sound tag) (live-alike tag)
 
-  -- what add asks of an item, by whether its tag is live and whether there is room
-  abbrev asksItem : ℕ → Profile → ℕ → Bool → Bool → ℕ
-  asksItem tag p day live isFull =
-      unless (validTag tag) badTag
+  item-alike : (tag : ℕ) (p : Profile) (day : ℕ)
+      → unless (validTag tag) badTag
       (unless (validMeasures p) badMeasure
       (unless (validDay day) badDay
-      (when live alreadyLive
-      (when isFull full
+      (when (isLiveTag t tag) alreadyLive
+      (when (leb (room (orderOf t)) (liveTotal t)) full
       0))))
-
-  item-alike : (tag : ℕ) (p : Profile) (day : ℕ) → asksItem tag p day (isLiveTag t tag) (leb (room (orderOf t)) (liveTotal t)) ≡ itemRefusal m tag p day
-  unfolding itemRefusal
-  item-alike tag p day = ap₂ (λ (live isFull : Bool). asksItem tag p day live isFull) (live-alike tag) full-alike
+      ≡ itemRefusal m tag p day
+  unfolding itemRefusal room
+  item-alike tag p day =
+      passes-alike (tagSound tag) badTag (tag-sound tag)
+      (passes-alike (measuresWithin p) badMeasure (measures-within p)
+      (stops-alike (eqb day 0) badDay (some-not-none day)
+      (when-alike (isIn m tag) alreadyLive (live-alike tag)
+      (when-alike (leb (2 ^ m .order) (length (m .items))) full full-alike refl))))
 
 -- a table as a call is lent it: it matches the model, or it is too short for its order
 abbrev pub Lendable : Table → Model → Type 0
@@ -142,11 +148,11 @@ long-accepts false rest e = absurd (omega arith)
 
 module _ (m : Model) (t : Table) where
   pub can-read : Matches t m → canRead m (length t) ≡ true
-  unfolding canRead
+  unfolding canRead tableRows firstSlot room
   can-read ok = ap (λ (n : ℕ). leb (tableRows n) (length t)) (sym (ok .order)) ∙ le-leb (tableRows (orderOf t)) (length t) (ok .invariant .long)
 
   cannot-read : Short t m → canRead m (length t) ≡ false
-  unfolding canRead
+  unfolding canRead tableRows firstSlot room
   cannot-read short = lt-leb (tableRows (m .order)) (length t) (short .short)
 
   pub readable : Lendable t m → canRead m (length t) ≡ true → Matches t m
@@ -161,7 +167,7 @@ module _ (m : Model) (t : Table) where
 
   -- of a call that is lent a work area of n rows or entries
   pub change-refusal : (n : ℕ) → Lendable t m → changeRefusal n t ≡ unless (canChange m (length t) n) shortArea 0
-  unfolding changeRefusal canChange
+  unfolding changeRefusal canChange workRows room
   change-refusal n (inl ok) =
       invariant-changes n t (ok .invariant)
       ∙ asked (leb (workRows (orderOf t)) n) (leb (workRows (m .order)) n) (ap (λ (order : ℕ). leb (workRows order) n) (ok .order))
@@ -195,49 +201,33 @@ module _ (m : Model) (t : Table) where
     unfolding rangeRefusal fitRefusal askRefusal questionRefusal fits
     range-refusal q r firstDay result =
         stopped (readRefusal t) _ _ _ (read-refusal lendable)
-        (λ e. ap (λ (es : List Entry). unless (validMeasures q) badMeasure (unless (leb (length es) (length result)) noRoom 0)) (range-alike (readable lendable e) q r firstDay))
+        (λ e. passes-alike (measuresWithin q) badMeasure (measures-within q)
+        (ap (λ (es : List Entry). unless (leb (length es) (length result)) noRoom 0) (range-alike (readable lendable e) q r firstDay)))
 
     pub nearest-refusal : (q : Profile) (k firstDay : ℕ) (result : List Entry) → nearestRefusal t result q k firstDay ≡ askRefusal m (nearest q k firstDay) (length t) (length result)
     unfolding nearestRefusal fitRefusal askRefusal questionRefusal fits
     nearest-refusal q k firstDay result =
         stopped (readRefusal t) _ _ _ (read-refusal lendable)
-        (λ e. ap (λ (es : List Entry). unless (validMeasures q) badMeasure (when (eqb k 0) noCount (unless (leb (length es) (length result)) noRoom 0))) (nearest-alike (readable lendable e) q k firstDay))
+        (λ e. passes-alike (measuresWithin q) badMeasure (measures-within q)
+        (ap (λ (es : List Entry). when (eqb k 0) noCount (unless (leb (length es) (length result)) noRoom 0)) (nearest-alike (readable lendable e) q k firstDay)))
 
     pub dues-refusal : (tags area : List ℕ) → duesRefusal t tags area ≡ askRefusal m (dues tags) (length t) (length area)
     unfolding duesRefusal askRefusal questionRefusal
     dues-refusal tags area =
         stopped (readRefusal t) _ _ _ (read-refusal lendable)
-        (λ e. ap (λ (weights : List (Option ℤ)). weightsRefusal weights (length area)) (weights-alike (readable lendable e) tags))
+        (λ e. ap (λ (weights : List (Option ℤ)). weightsRefusal weights (length area)) (weights-alike (readable lendable e) tags) ∙ dues-figured (weightsIn m tags) (length area))
 
     pub batch-refusal : (queries : List Row) (result : List Entry) → batchRefusal t result queries ≡ askRefusal m (rangeBatch queries) (length t) (length result)
-    unfolding batchRefusal partsRefusal partSize askRefusal questionRefusal
+    unfolding batchRefusal partsRefusal partSize askRefusal questionRefusal batchRefusalOf
     batch-refusal queries result =
+        let size = length result / length queries in
         stopped (readRefusal t) _ _ _ (read-refusal lendable)
-        (λ e. ap (λ (b : Bool). orElse (queriesRefusal queries) (unless b noRoom 0))
-        (sym (every-map (λ a. a .entries) (λ es. leb (length es) (length result / length queries)) (λ a. leb (length (a .entries)) (length result / length queries)) (λ a. refl) (singleAnswers t queries))
-        ∙ ap (every (λ es. leb (length es) (length result / length queries))) (ranges-alike (readable lendable e) queries)))
+        (λ e. batch-figured queries _ (any (λ es. ltb size (length es)) (modelRanges m queries))
+        (sym (every-map (λ a. a .entries) (λ es. leb (length es) size) (λ a. leb (length (a .entries)) size) (λ a. refl) (singleAnswers t queries))
+        ∙ ap (every (λ es. leb (length es) size)) (ranges-alike (readable lendable e) queries)
+        ∙ every-not-any (λ es. leb (length es) size) (λ es. ltb size (length es)) (λ es. most-above (length es) size) (modelRanges m queries)))
 
--- a test that asks for the most and one that is met above it stop a call alike
-most-above : (n most : ℕ) → leb n most ≡ not (ltb most n)
-most-above n most = go (ltb most n) refl
-  where
-    go : (above : Bool) → ltb most n ≡ above → leb n most ≡ not above
-    go true e = lt-leb n most (ltb-true most n e)
-    go false e = le-leb n most (ltb-false most n e)
-
-all-any : (most : ℕ) (ns : List ℕ) → every (λ n. leb n most) ns ≡ not (any (λ n. ltb most n) ns)
-unfolding every any
-all-any most [] = refl
-all-any most (n ∷ ns) = ap₂ _&&_ (most-above n most) (all-any most ns) ∙ go (ltb most n)
-  where
-    go : (above : Bool) → (not above && not (any (λ n. ltb most n) ns)) ≡ not (above || any (λ n. ltb most n) ns)
-    go true = refl
-    go false = refl
-
-stops-alike : {passes : Bool} (met : Bool) (number : ℕ) {rest after : ℕ} → passes ≡ not met → rest ≡ after → unless passes number rest ≡ when met number after
-stops-alike true number {rest} e f = ap (λ (b : Bool). unless b number rest) e
-stops-alike false number {rest} e f = ap (λ (b : Bool). unless b number rest) e ∙ f
-
+-- fresh, test by test
 fresh-refusal : (rows order : ℕ) (space : Space) → freshRefusal rows order space ≡ freshRefusalOf rows order space
 unfolding freshRefusal freshRefusalOf validOrder validMetric validWeights tableRows firstSlot room
 fresh-refusal rows order space =
@@ -253,5 +243,5 @@ fresh-refusal rows order space =
 pub begun-alike : (b : Begin) (rows : ℕ) → beginShown b (beginReply b rows) ≡ begunShown b rows
 unfolding beginShown begunShown
 begun-alike (fresh order space) rows = ap (λ (n : ℕ). shows n bare) (fresh-refusal rows order space)
-begun-alike (load image) rows = refl
-begun-alike (restore states name) rows = refl
+begun-alike (load image) rows = load-shown rows image
+begun-alike (restore states name) rows = restore-shown rows states name

@@ -12,7 +12,6 @@ use lib.Seq.{take-at, take-append-seam}
 use native.Mathlib.Omega.{arith}
 use Rattle.lists.specs.Lists.{total}
 use Rattle.metric_rules.specs.Row.{Row, profileOf, dayOf}
-use Rattle.metric_rules.specs.Validity.{validTag}
 use Rattle.search_rules.specs.Range.{Entry}
 use Rattle.table_rules.specs.declared.Added.{Added}
 use Rattle.table_rules.specs.declared.Removed.{Removed}
@@ -32,6 +31,7 @@ use Rattle.call_rules.specs.Calls.{Change, changeReply, Ask, AskAreas, askReply
 use Rattle.call_rules.specs.Calls.Change.{add, remove, readList}
 use Rattle.call_rules.specs.Calls.Ask.{lookUp, range, nearest, dues, rangeBatch, lots}
 use Rattle.call_rules.specs.Calls.Call.{begin, change, ask, write}
+use Rattle.history.specs.Figures.{tagSound, paysFor}
 use Rattle.history.specs.Trace.{Shown, zeroed, shows, changeShown, duesIn, askShown, shown}
 use Rattle.history.specs.Trace.Payload.{bare, aWeighing, someEntries, aListRead, someDues}
 use Rattle.history.specs.Model.{Item, itemOf, Model, AskLengths, askLengths, lengthsOf, withTag, isIn, weighedIn, modelRange, modelNearest, weightsIn, canRead, tagRefusal, questionRefusal, askRefusal, found, paid, answerTo, showsUnless, beginAnswer, changeAnswer, answer, modelRanges, foundEach, modelSummaries, modelListing}
@@ -41,6 +41,7 @@ use Rattle.history.proofs.RefinesItems.{Matches, range-alike, nearest-a
 use Rattle.history.proofs.RefinesRefusals.{Lendable, readable, long-accepts, add-refusal, remove-refusal, look-up-refusal, range-refusal, nearest-refusal, dues-refusal, batch-refusal, begun-alike}
 use Rattle.history.proofs.RefinesBatch.{batch-shows}
 use Rattle.history.proofs.RefinesLots.{shows-draft, lots-refusal, summaries-alike, listing-alike}
+use Rattle.history.proofs.Figured.{dues-are}
 use Rattle.history.proofs.RefinesReading.{reads, reads-alike}
 
 -- a search shows its entries where it is accepted
@@ -74,7 +75,7 @@ shows-weighing zero (some place) is e reply f =
 -- an accepted tag is there
 tag-there : (m : Model) (tag : ℕ) → tagRefusal m tag ≡ 0 → withTag tag (m .items) ≡ [] → ⊥
 unfolding tagRefusal isIn
-tag-there m tag e = go (validTag tag) (withTag tag (m .items)) e
+tag-there m tag e = go (tagSound tag) (withTag tag (m .items)) e
   where
     go : (valid : Bool) (is : List Item) → unless valid badTag (unless (elim is [ [] ↦ false | i ∷ js ↦ true ]) notLive 0) ≡ 0 → is ≡ [] → ⊥
     go false is e f = omega arith
@@ -161,8 +162,8 @@ module _ (m : Model) (t : Table) (lendable : Lendable t m) where
       found-shown (nearest q k firstDay) (length result) (nearestRefusal t result q k firstDay) result (nearestAnswer t q k firstDay) (modelNearest m q k firstDay) (nearest-refusal m t lendable q k firstDay result)
       (λ ok. nearest-alike ok q k firstDay)
   ask-shown (dues tags) area =
-      shows-dues t tags area (duesOf (weightsIn m tags)) (askRefusal m (dues tags) (length t) (length area)) (dues-refusal m t lendable tags area)
-      (λ e. ap (λ (weights : List (Option ℤ)). duesOf weights) (weights-alike (accepted-ask (dues tags) (length area) e) tags))
+      shows-dues t tags area (map paysFor (weightsIn m tags)) (askRefusal m (dues tags) (length t) (length area)) (dues-refusal m t lendable tags area)
+      (λ e. ap (λ (weights : List (Option ℤ)). duesOf weights) (weights-alike (accepted-ask (dues tags) (length area) e) tags) ∙ dues-are (weightsIn m tags))
   ask-shown (rangeBatch queries) result =
       let same = batch-refusal m t lendable queries result in
       batch-shows t result queries (batchRefusal t result queries) refl (modelRanges m queries) (λ z. ranges-alike (accepted-ask (rangeBatch queries) (length result) (sym same ∙ z)) queries)

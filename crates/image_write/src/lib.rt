@@ -23,14 +23,14 @@ use metric_rules::WEIGHT_0;
 use metric_rules::WEIGHT_1;
 use metric_rules::WEIGHT_2;
 use metric_rules::WEIGHT_3;
-use table_checks::read_refusal;
+use table_checks::Checked;
+use table_checks::read_check;
 use table_order::Order;
 use table_rules::NO_ROOM;
 use table_views::HEADER_ROW;
 use table_views::ORDER_AT;
 use table_views::built_of;
 use table_views::live_of;
-use table_views::order_in;
 use table_views::slots_of;
 
 // A byte for each weight, behind the four of the start.
@@ -145,11 +145,10 @@ pub fn write(table: &[Row], image: &mut [u8]) -> Written
     ensures reply { λ r. ⌜ r ≡ writeReply (now (table .entry)) (now (image .entry)) ⌝ }
     ensures area { λ _. ⌜ now (image .exit) ≡ imageAfterWrite (now (table .entry)) (now (image .entry)) ⌝ }
 {
-    let refusal = read_refusal(table);
-    if refusal != 0 {
-        return Written { refusal, length: 0 };
-    }
-    let order = order_in(table);
+    let order = match read_check(table) {
+        Checked::Refused(refusal) => return Written { refusal, length: 0 },
+        Checked::Passes(order) => order,
+    };
     let length = image_length(table, order);
     if image.len() < length {
         return Written {

@@ -21,13 +21,13 @@ use search_reply::accepted;
 use search_reply::refused;
 use search_reply::too_short;
 use search_rules::Entry;
-use table_checks::read_refusal;
+use table_checks::Checked;
+use table_checks::read_check;
 use table_order::Order;
 use table_rules::BAD_MEASURE;
 use table_rules::NO_COUNT;
 use table_rules::Searched;
 use table_views::HEADER_ROW;
-use table_views::order_in;
 use table_views::slots_of;
 use tree_nearest::Nearby;
 use tree_nearest::UNBOUNDED;
@@ -113,17 +113,16 @@ pub fn nearest(
     ensures reply { λ r. ⌜ r ≡ nearestReply (now (table .entry)) (now (result .entry)) query k «first_day» ⌝ }
     ensures area { λ _. ⌜ now (result .exit) ≡ resultAfterNearest (now (table .entry)) (now (result .entry)) query k «first_day» ⌝ }
 {
-    let refusal = read_refusal(table);
-    if refusal != 0 {
-        return refused(refusal);
-    }
+    let order = match read_check(table) {
+        Checked::Refused(refusal) => return refused(refusal),
+        Checked::Passes(order) => order,
+    };
     if !valid_measures(query) {
         return refused(BAD_MEASURE);
     }
     if k == 0 {
         return refused(NO_COUNT);
     }
-    let order = order_in(table);
     let asked = asked_of(table[HEADER_ROW], query, k, first_day);
     if !reply_fits(table, order, result.len(), &asked) {
         return too_short(result);

@@ -21,12 +21,12 @@ use search_reply::accepted;
 use search_reply::refused;
 use search_reply::too_short;
 use search_rules::Entry;
-use table_checks::read_refusal;
+use table_checks::Checked;
+use table_checks::read_check;
 use table_order::Order;
 use table_rules::BAD_MEASURE;
 use table_rules::Searched;
 use table_views::HEADER_ROW;
-use table_views::order_in;
 use table_views::slots_of;
 use tree_range::Found;
 use tree_range::range_tree;
@@ -73,14 +73,14 @@ pub fn range(
     ensures reply { λ r. ⌜ r ≡ rangeReply (now (table .entry)) (now (result .entry)) query radius «first_day» ⌝ }
     ensures area { λ _. ⌜ now (result .exit) ≡ resultAfterRange (now (table .entry)) (now (result .entry)) query radius «first_day» ⌝ }
 {
-    let refusal = read_refusal(table);
-    if refusal != 0 {
-        return refused(refusal);
-    }
+    let order = match read_check(table) {
+        Checked::Refused(refusal) => return refused(refusal),
+        Checked::Passes(order) => order,
+    };
     if !valid_measures(query) {
         return refused(BAD_MEASURE);
     }
     let asked = asked_of(table[HEADER_ROW], query, radius, first_day);
-    let found = range_buckets(table, order_in(table), result, &asked);
+    let found = range_buckets(table, order, result, &asked);
     reply_with(result, found)
 }

@@ -26,13 +26,13 @@ use rows::profile_of;
 use rows::threshold_of;
 use search_reply::zero_entries;
 use search_rules::Entry;
-use table_checks::read_refusal;
+use table_checks::Checked;
+use table_checks::read_check;
 use table_order::Order;
 use table_range::reply_with;
 use table_rules::BAD_MEASURE;
 use table_rules::NO_ROOM;
 use table_views::HEADER_ROW;
-use table_views::order_in;
 use table_views::slots_of;
 use tree_range::Found;
 use tree_range_batch::Batch;
@@ -219,11 +219,12 @@ pub fn range_batch(table: &[Row], result: &mut [Entry], queries: &[Row]) -> Rang
     ensures reply { λ r. ⌜ r ≡ rangeBatchReply (now (table .entry)) (now (result .entry)) (now (queries .entry)) ⌝ }
     ensures area { λ _. ⌜ now (result .exit) ≡ resultAfterBatch (now (table .entry)) (now (result .entry)) (now (queries .entry)) ⌝ }
 {
-    let table_stops = read_refusal(table);
+    let checked = read_check(table);
     let queries_stop = queries_refusal(queries);
-    if table_stops != 0 {
-        return refused(table_stops);
-    }
+    let order = match checked {
+        Checked::Refused(refusal) => return refused(refusal),
+        Checked::Passes(order) => order,
+    };
     if queries_stop != 0 {
         return refused(queries_stop);
     }
@@ -231,14 +232,6 @@ pub fn range_batch(table: &[Row], result: &mut [Entry], queries: &[Row]) -> Rang
     let part = result.len() / n;
     let batch = batch_of(table[HEADER_ROW], queries);
     let mut found = [0usize; 16];
-    let count = buckets_together(
-        table,
-        order_in(table),
-        all_of(n),
-        part,
-        result,
-        &mut found,
-        &batch,
-    );
+    let count = buckets_together(table, order, all_of(n), part, result, &mut found, &batch);
     reply_in_parts(result, &found, n, part, count)
 }

@@ -82,14 +82,6 @@ pub fn order_of(table: &[Row]) -> u32
     word_at(table[HEADER_ROW], ORDER_AT)
 }
 
-// The order of a table that passed.
-pub fn order_in(table: &[Row]) -> Order
-    requires { ⌜ 0 < length (now table) ⌝ }
-    ensures { λ r. ⌜ r .t ≡ orderOf (now (table .entry)) ⌝ }
-{
-    Order { t: order_of(table) }
-}
-
 // The sizes of bucket k, and whether it is in use.
 pub fn built_of(table: &[Row], k: u32) -> u32
     requires { ⌜ sizesRow k < length (now table) ⌝ }
