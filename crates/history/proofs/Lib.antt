@@ -70,6 +70,7 @@ mod Earlier
 mod ListPrinted
 pub mod ListBack
 mod FindsFirst
+mod ItemsStay
 mod Framing
 mod SearchBounds
 mod BuildBounds

@@ -4,16 +4,16 @@
 -- Demand 1. Every call, for every input and every lent area, replies and leaves what the rules say: the refusal that comes first in their order
 -- and only under its condition, and every reply, count and area. It is the contract of each public call, which has no `requires` and is an equation with
 -- the definitions of `call_rules`: `replyTo`, `tableAfter` and `areasAfter` are these, for all calls.
-use Prim.Native.Nat.{ℕ, suc, _+_, _^_, _≤_, _<_, min}
+use Prim.Native.Nat.{ℕ, suc, _+_, _/_, _^_, _≤_, _<_, min}
 use mathlib.Core.Path.{_≡_}
-use mathlib.Core.Bool.{true, _&&_}
+use mathlib.Core.Bool.{true}
 use mathlib.Core.List.{List, [], _∷_, _++_, map, List·Permᴰ}
 use lib.ListN.{length, take}
-use lib.Dec.{leb, eqb}
+use lib.Dec.{leb}
 use lib.IntN.{ℤ}
 use Rattle.lists.specs.Lists.{select, total, All}
 use Rattle.metric_rules.specs.declared.Profile.{Profile}
-use Rattle.metric_rules.specs.Row.{Row, markOf, dayOf, IsRow, IsProfile}
+use Rattle.metric_rules.specs.Row.{Row, dayOf, IsRow, IsProfile}
 use Rattle.metric_rules.specs.declared.Space.{Space}
 use Rattle.metric_rules.specs.declared.Weights.{Weights}
 use Rattle.metric_rules.specs.Validity.{validMeasures}
@@ -31,7 +31,6 @@ use Rattle.image_rules.specs.Trees.{treesPass}
 use Rattle.image_rules.specs.Load.{fieldsRefusal}
 use Rattle.image_rules.specs.Translate.{translated}
 use Rattle.list_rules.specs.Lines.{hasHeader, itemLines}
-use Rattle.state_rules.specs.Parts.{validName, lengthBytes, partBytes}
 use Rattle.call_rules.specs.Calls.{Call, Areas, beginReply, tableBegun, Write, replyTo, areasAfter}
 use Rattle.call_rules.specs.Calls.Begin.{fresh, load}
 use Rattle.call_rules.specs.Calls.Call.{write}
@@ -47,6 +46,7 @@ use Rattle.history.specs.Images.{imageSize, LoadsBack, GivesBack, Restor
 use Rattle.history.specs.Represents.{Holds, NamesBuckets}
 use Rattle.history.specs.Reports.{ReportsBuilds}
 use Rattle.history.specs.Slots.{Finds}
+use Rattle.history.specs.Items.{Stay}
 use Rattle.history.specs.Frame.{Frames}
 use Rattle.history.specs.Entries.{AreThere}
 use Rattle.history.specs.Trees.{TreeFacts}
@@ -55,17 +55,18 @@ use Rattle.history.specs.Agreement.{SameItems, SameAnswers}
 use Rattle.history.specs.Counter.{OnlyAdded, CountsAdds}
 use Rattle.history.specs.Leaves.{Refused, NotExcepted, ChangesNothing, Exceptions, LeavesRest, WritesBy}
 use Rattle.history.specs.Bounds.{Searches, Builds}
-use Rattle.history.specs.Visits.{Lists, Visited, VisitedByOne, NearsDown}
+use Rattle.history.specs.Visits.{Lists, Visited, VisitedByOne, isWeighed, NearsDown}
 use Rattle.history.specs.Earlier.{earlierRemoved, earlierBoard}
 use Rattle.history.specs.ListForm.{headerText, Line, IsLine, itemIn, linesText, ReadsPrinted}
 use Rattle.history.specs.Weighing.{Apart, profile, space, Weighs, WeighsAlone, CountsBits}
 
--- Of those answers, two numbers that the rules also give in words, for every table, foreign ones too. RULES 11.6: the
+-- Of those answers, numbers that the rules also give in words, for every table, foreign ones too. RULES 11.6: the
 -- count of range is the number of slots all of whose ancestors let their side be entered, left if d ≤ m + r and right
 -- if m ≤ d + r, in plain numbers (`Visited`). The slots visited of each bucket are listed by their places, each once,
 -- and the count is the lengths of the lists added up. The first day plays no part in it. RULES 11.7, 11.8: the count of
 -- nearest for k items, k at least 1, is the number of slots that a search visits which passes a half over exactly if k
--- of the items found by then are nearer than anything in it can be (`Nears`), from bucket T down to 0.
+-- of the items found by then are nearer than anything in it can be (`Nears`), from bucket T down to 0; no such search
+-- visits another number.
 -- Theorem: `counts-visits`
 abbrev pub CountsVisits : Type 0
 CountsVisits =
@@ -75,8 +76,10 @@ CountsVisits =
     × ((b : ℕ) → Lists (Visited (distance (tableSpace t)) query radius (slotsOf t b)) (visited b))
     × (rangeAnswer t query radius firstDay .count ≡ total (map (λ b. length (visited b)) (bucketsDown t))))
     × ((k : ℕ) → 1 ≤ k
-    → NearsDown (distance (tableSpace t)) query (λ row. eqb (markOf row) 0 && leb firstDay (dayOf row)) k
-    (slotsOf t) (suc (orderOf t)) [] (nearestAnswer t query k firstDay .count))
+    → let Visits : ℕ → Type 0 =
+    NearsDown (distance (tableSpace t)) query (isWeighed firstDay) k (slotsOf t) (suc (orderOf t)) [] in
+    let count = nearestAnswer t query k firstDay .count in
+    Visits count × ((n : ℕ) → Visits n → n ≡ count))
 
 -- RULES 11.14: a batch counts each slot once that one of its queries visits by itself, in plain numbers
 -- (`VisitedByOne`). So its count is at least each query's own and at most these added up, and with one query it is the
@@ -126,6 +129,13 @@ FoundAreThere = (t : Table) (query : Profile) (firstDay : ℕ) → AreThere t qu
 -- Theorem: `finds-first`
 abbrev pub FindsFirst : Type 0
 FindsFirst = (t : Table) (tag : ℕ) → Finds t tag
+
+-- RULES 8.3, 9.2 to 9.4, and whatever they build or empty on the way: on a table of 32-bit words, foreign ones too, the
+-- items at the built places of mark 0 are after an accepted add those before it and the new one, and after an accepted
+-- removal those before it without the one of the first slot, each as often as before (`Stay`).
+-- Theorem: `items-stay`
+abbrev pub ItemsStay : Type 0
+ItemsStay = (t : Table) (work : List Row) → All IsRow t → Stay t work
 
 -- W9, "every result, area and count is the one given today": an accepted removal replies the distances and leaves the
 -- table that the definition of before W9 gives.
@@ -348,21 +358,26 @@ ImageBytes =
     × ((t : Table) → TableWords t)
     × ((row : Row) → RowWords row)
 
--- W7 (RULES 19.8), named states. After every such list, saving under a name is accepted wherever the table area and the name's part are long enough. Whatever is
--- written to the other parts and the bytes left over after that, restoring from that part is refused by 23 alone, and accepted gives the table that was saved.
+-- W7 (RULES 19.1, 19.2, 19.8), named states. After every such list, saving under a name, 1 to 8, is accepted wherever
+-- the table area and the name's part, an eighth of the states, are long enough. Whatever is written to the other parts
+-- and the bytes left over after that, restoring from that part is refused by 23 alone, and accepted gives the table that
+-- was saved.
 -- Theorem: `saved-restores`
 abbrev pub SavedRestores : Type 0
 SavedRestores =
-    (h : History) (area : Table) (states : List ℕ) (name : ℕ) → validName name ≡ true → tableRows (finalModel h .order) ≤ length area
-    → lengthBytes + imageSize (finalState h .table) ≤ partBytes (length states) → RestoresBack (finalState h .table) area states name
+    (h : History) (area : Table) (states : List ℕ) (name : ℕ) → 1 ≤ name → name ≤ 8
+    → tableRows (finalModel h .order) ≤ length area → 4 + imageSize (finalState h .table) ≤ length states / 8
+    → RestoresBack (finalState h .table) area states name
 
--- W7 (RULES 19.5), and of every save, of foreign tables too: it leaves the other names' parts, the rest of its own and the bytes left over as they were.
+-- W7 (RULES 19.5), and of every save, of foreign tables too: it leaves the other names' parts, the rest of its own and
+-- the bytes left over as they were.
 -- Theorem: `save-keeps`
 abbrev pub SaveKeeps : Type 0
 SaveKeeps = (t : Table) (states : List ℕ) (name : ℕ) → KeepsStates t states name
 
--- W7 (RULES 19.6 to 19.8), and of every restore, whoever wrote the states: it is refused by 34, 35 or 7 as the name and its part say, or else it is a load of exactly the
--- image in the part, of whatever form: the same refusal and slot or none, and the same table.
+-- W7 (RULES 19.6 to 19.8), and of every restore, whoever wrote the states: it is refused by 34, 35 or 7 as the name and
+-- its part say, or else it is a load of exactly the image in the part, of whatever form: the same refusal and slot or
+-- none, and the same table.
 -- Theorem: `restore-loads`
 abbrev pub RestoreLoads : Type 0
 RestoreLoads = (states : List ℕ) (name : ℕ) (other : Table) → LoadsPart states name other

@@ -19,6 +19,7 @@ pub mod Weighing
 pub mod Earlier
 pub mod ListForm
 pub mod Slots
+pub mod Items
 pub mod Frame
 pub mod Bounds
 pub mod Entries
