@@ -99,6 +99,8 @@ const REPLIES = {
 
 /** @param {number} order @returns {number} rows of a table of this order */
 export const tableRows = order => whole(0, MAX_ORDER, order) + 1 + (2 << order);
+/** @param {number} order @returns {number} the first row of a table that is a slot */
+export const firstSlot = order => whole(0, MAX_ORDER, order) + 2;
 /** @param {number} order @returns {number} rows of the work area of add, remove and readList */
 export const workRows = order => 1 << whole(0, MAX_ORDER, order);
 /** @param {number} order @returns {number} entries that any search of a table that these calls left can find */

@@ -24,9 +24,11 @@ mod StatesBack
 mod ImageBytes
 mod LoadTests
 mod LoadItems
+mod TreeTests
 mod Figured
 mod Ordering
 mod AnyDistance
+mod TreeForm
 mod RefinesLists
 mod RefinesSearch
 mod RefinesTable

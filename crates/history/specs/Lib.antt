@@ -2,6 +2,7 @@ pub mod Places
 pub mod Figures
 pub mod ImageForm
 pub mod LoadTests
+pub mod TreeTests
 pub mod Trace
 pub mod Model
 pub mod History
@@ -9,6 +10,7 @@ pub mod Images
 pub mod Represents
 pub mod Reports
 pub mod Trees
+pub mod TreeForm
 pub mod Agreement
 pub mod Counter
 pub mod Leaves

@@ -19,7 +19,7 @@ const ROOT: &str = concat!(env!("CARGO_MANIFEST_DIR"), "/../..");
 const SPOIL: &str = r#"spoil() { cp "$1" "$2" && printf "$4" | dd of="$2" bs=1 seek="$3" conv=notrunc status=none; }"#;
 
 const FILES: [(&str, &str); 5] = [
-    ("examples/herd.list", "herd.list"),
+    ("examples/sound.list", "herd.list"),
     ("examples/fault.list", "fault.list"),
     ("examples/byte.list", "byte.list"),
     ("rust/outside/tests/form_0/metric_0.image", "form_0.img"),

@@ -1,6 +1,6 @@
 /* Adds a small herd, asks both questions, once more of those weighed of late and once where kilos weigh more, removes
  * one, saves and loads an image, and reads a list of two more. It writes what the Rust example
- * rust/vpindex/examples/herd.rs writes; herd.expected has it. */
+ * rust/vpindex/examples/quickstart.rs writes; quickstart.expected has it. */
 #include <inttypes.h>
 #include <stdio.h>
 

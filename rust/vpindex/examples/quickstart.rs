@@ -1,7 +1,7 @@
 //! Adds a small herd, asks both questions, once more of those weighed of late and once where kilos weigh more, removes
 //! one, saves and loads an image, and reads a list of two more.
 //!
-//! It writes what `c/herd.c` writes; `c/herd.expected` has it.
+//! It writes what `c/quickstart.c` writes; `c/quickstart.expected` has it.
 
 use vpindex::{Day, Error, Hits, ListRefusal, Metric, Order, Profile, Table, Tag, Weights};
 
