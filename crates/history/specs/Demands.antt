@@ -53,7 +53,7 @@ use Rattle.history.specs.Trees.{TreeFacts}
 use Rattle.history.specs.TreeForm.{LaidOut}
 use Rattle.history.specs.Agreement.{SameItems, SameAnswers}
 use Rattle.history.specs.Counter.{OnlyAdded, CountsAdds}
-use Rattle.history.specs.Leaves.{refusalOf, ChangesNothing, Excepted, Exceptions, LeavesRest, WritesBy}
+use Rattle.history.specs.Leaves.{Refused, NotExcepted, ChangesNothing, Exceptions, LeavesRest, WritesBy}
 use Rattle.history.specs.Bounds.{Searches, Builds}
 use Rattle.history.specs.Visits.{Lists, Visited, VisitedByOne, isWeighed, NearsDown}
 use Rattle.history.specs.Earlier.{earlierRemoved, earlierBoard}
@@ -178,15 +178,16 @@ AnswersAscend =
     → ((radius firstDay : ℕ) → Ascending (rangeAnswer t query radius firstDay .entries) × Ascending (modelRange m query radius firstDay))
     × ((k firstDay : ℕ) → Ascending (nearestAnswer t query k firstDay .entries) × Ascending (modelNearest m query k firstDay))
 
--- Demand 1 (RULES 14.2), a refused call, for every table and all areas of any length and content, foreign ones too: it returns its number and zeros, and
--- changes no area. Four exceptions (`Excepted`), and what they return and leave (`Exceptions`): 6 on range, nearest or a batch leaves the result area all
--- zero, 6 on lots the summary and the listing; a herd list keeps what it added and returns its line, the number added and their distances; 36, 37 and 38
--- return a slot.
+-- Demand 1 (RULES 14.2), for every table and all areas of any length and content, foreign ones too: a refusal returns
+-- its number and zeros, and changes no area (`ChangesNothing`), with these exceptions (`Excepted`, and what they return
+-- and leave in `Exceptions`): 6 on range, nearest or a batch leaves the result area all zero, and 6 on lots the summary
+-- and the listing; a herd list keeps what it added and returns its line, the number added and their distances; 36, 37
+-- and 38 return a slot of the image.
 -- Theorem: `refusals-keep`
 abbrev pub RefusalsKeep : Type 0
 RefusalsKeep =
     (t : Table)
-    → ((c : Call) (areas : Areas c) → (refusalOf c t areas ≡ 0 → ⊥) → (Excepted c (refusalOf c t areas) → ⊥) → ChangesNothing c t areas)
+    → ((c : Call) (areas : Areas c) → Refused c t areas → NotExcepted c t areas → ChangesNothing c t areas)
     × Exceptions t
 
 -- Demand 1 (RULES 4.5 to 4.7), and accepted calls, likewise: what they leave beside their answer (`LeavesRest`). Rows past the table are kept; add, remove,
