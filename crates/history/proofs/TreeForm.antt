@@ -1,4 +1,5 @@
--- A layout is a tree in plain numbers, node by node: tags and profiles pass through the layouts of the halves, and the last distance of a sorted half is its largest.
+-- A layout is a tree in plain numbers, node by node: tags and profiles pass through the layouts of the halves, and the last distance of a sorted half is its
+-- largest.
 use Prim.Native.Nat.{ℕ, suc, _+_, _≤_, _<_}
 use native.Mathlib.Omega.{arith}
 use mathlib.Core.Path.{_≡_, sym, _∙_, ap₂, subst}
@@ -6,7 +7,8 @@ use mathlib.Core.Logic.{_⊎_, inl, inr, ⊎-elim}
 use mathlib.Core.List.{List, [], _∷_, _++_, map, Permᴰ·symm}
 use lib.ListN.{length, length-set}
 use Rattle.lists.specs.Lists.{last, All}
-use Rattle.lists.proofs.Lists.{Pairs, all-always, all-weaken, all-append, all-append-left, all-append-right, all-map, all-of-map, all-perm, pairs-left, pairs-split, pairs-weaken, pairs-map}
+use Rattle.lists.proofs.Lists.{Pairs, all-always, all-weaken, all-append, all-append-left, all-append-right, all-map, all-of-map, all-perm, pairs-left}
+use Rattle.lists.proofs.Lists.{pairs-split, pairs-weaken, pairs-map}
 use Rattle.metric_rules.specs.declared.Profile.{Profile}
 use Rattle.metric_rules.specs.Row.{Row, rowWidth, thresholdAt, tagOf, profileOf, thresholdOf, markOf, withThreshold}
 use Rattle.metric_rules.proofs.Codec.{mark-with-mark}
@@ -114,7 +116,8 @@ module _ (dist : Profile → Profile → ℕ) where
     no-lower-bound bound h =
         let here : All (λ x. dist from (profileOf x) ≤ bound) (layoutOf dist left) =
         subst (λ (p : Profile). All (λ x. dist p (profileOf x) ≤ bound) (layoutOf dist left)) first-profile h in
-        let most = last-least bound 0 (map away left) (omega arith) (all-map away (λ n. n ≤ bound) left (back (λ i. dist from (i .profile) ≤ bound) left here)) in
+        let most =
+        last-least bound 0 (map away left) (omega arith) (all-map away (λ n. n ≤ bound) left (back (λ i. dist from (i .profile) ≤ bound) left here)) in
         subst (λ (n : ℕ). n ≤ bound) (sym first-threshold) most
 
   -- a slot that a build leaves has mark 0
@@ -139,8 +142,13 @@ module _ (dist : Profile → Profile → ℕ) where
       let half : length (layoutOf dist left) ≡ leftSize (suc (length (layoutOf dist left) + length (layoutOf dist right))) =
       layout-of-length dist left ∙ n ∙ ap₂ (λ (i j : ℕ). leftSize (suc (i + j))) (sym (layout-of-length dist left)) (sym (layout-of-length dist right)) in (
         node (placed (lastDistance dist v left) (v .row)) (layoutOf dist left) (layoutOf dist right) half
-            (least v left right a s (w .0)) (apart v left right a s (w .0)) (none-above v left right a s (w .0)) (no-lower-bound v left right a s (w .0)) (before .0) (behind .0),
-        (unmarked (lastDistance dist v left) (v .row) (w .0), all-append (λ r. markOf r ≡ 0) (layoutOf dist left) (layoutOf dist right) (before .1) (behind .1)),
+            (least v left right a s (w .0)) (apart v left right a s (w .0)) (none-above v left right a s (w .0)) (no-lower-bound v left right a s (w .0))
+            (before .0) (behind .0),
+        (
+          unmarked (lastDistance dist v left) (v .row) (w .0),
+          all-append (λ r. markOf r ≡ 0) (layoutOf dist left) (layoutOf dist right) (before .1)
+              (behind .1),
+        ),
       ))
 
 pub lays-out : LaysOut

@@ -83,8 +83,8 @@ pub record Represents (t : Table) (m : Model) : Type 0 where
 -- other has it; an accepted add names the one that has it in the table after the call
 pub record NamesBuckets (t : Table) : Type 0 where
   pub lookUps : (tag : ℕ) → lookUpReply t tag .refusal ≡ 0 → bucketsWith t tag ≡ lookUpReply t tag .bucket ∷ []
-  pub adds : (work : List Row) (tag : ℕ) (p : Profile) (day : ℕ)
-      → IsChange (add tag p day) → addReply t work tag p day .refusal ≡ 0
+  pub adds : (work : List Row) (tag : ℕ) (p : Profile) (day : ℕ) → IsChange (add tag p day)
+      → addReply t work tag p day .refusal ≡ 0
       → bucketsWith (tableAfterAdd t work tag p day) tag ≡ addReply t work tag p day .bucket ∷ []
 
 -- RULES 17.7, the bound on all rebuilds together, with A adds, a herd list's accepted lines among them, and R removals
