@@ -18,8 +18,8 @@ use Rattle.metric_rules.specs.Row.{Row, dayOf, IsRow, IsProfile}
 use Rattle.metric_rules.specs.declared.Space.{Space}
 use Rattle.metric_rules.specs.declared.Weights.{Weights}
 use Rattle.metric_rules.specs.Validity.{validMeasures}
-use Rattle.metric_rules.specs.Distance.{distance, saturated, gap, largest, codeDistance, weightsOne, validWeights}
-use Rattle.metric_rules.specs.Distance.{Metric}
+use Rattle.metric_rules.specs.Distance.{distance, saturated, gap, largest, codeDistance}
+use Rattle.metric_rules.specs.Distance.{weightsOne, validWeights, Metric}
 use Rattle.search_rules.specs.Range.{Entry, Ascending}
 use Rattle.table_rules.specs.Geometry.{room, tableRows}
 use Rattle.table_rules.specs.Table.{Table, orderOf, tableSpace, slotsOf, liveSlots}
@@ -107,9 +107,10 @@ KeepsEnough =
     → length (nearestAnswer t query k firstDay .entries)
     ≡ min k (total (map (λ b. length (select (λ row. leb firstDay (dayOf row)) (liveSlots t b))) (bucketsDown t)))
 
--- RULES 17.11, worst cases, for every table, foreign ones too, and lent areas of any length: one reply of range, nearest
--- or a batch counts at most the built slots, so at most 2^(T+1) - 1, and fewer than four times the live head, or 0 where
--- there are none (`SlotsBound`); one add or removal reports at most T·2^T, a herd list at most that for each item added.
+-- RULES 17.11, worst cases, for every table, foreign ones too, and lent areas of any length: one reply of range,
+-- nearest or a batch counts at most the built slots, so at most 2^(T+1) - 1, and fewer than four times the live head,
+-- or 0 where there are none (`SlotsBound`); one add or removal reports at most T·2^T, a herd list at most that for each
+-- item added.
 -- Theorems: `searches-bounded`, `builds-bounded`
 abbrev pub SearchesBounded : Type 0
 SearchesBounded = (t : Table) (area : List Entry) → Searches t area
@@ -170,8 +171,8 @@ TwoWeightsChanged =
 -- Theorem: `builds-keep-items`
 abbrev pub BuildsKeepItems : Type 0
 BuildsKeepItems =
-    (t : Table) → readRefusal t ≡ 0 → (ks : List ℕ) (k : ℕ) (rows : List Row)
-    → All (λ j. j ≤ orderOf t) (k ∷ ks) → length rows ≤ room k
+    (t : Table) → readRefusal t ≡ 0 → (ks : List ℕ) (k : ℕ) (rows : List Row) → All (λ j. j ≤ orderOf t) (k ∷ ks)
+    → length rows ≤ room k
     → List·Permᴰ (map itemOf (slotsOf (rebuilt t ks k rows .table) k)) (map itemOf rows)
 
 -- "By distance, then tag" in plain numbers: whatever the table holds, foreign ones too, and whatever is in the model,
@@ -360,8 +361,8 @@ Frame = (t : Table) (work : List Row) → Frames t work
 -- Theorem: `written-loads`
 abbrev pub WrittenLoads : Type 0
 WrittenLoads =
-    (h : History) (area other : Table) (image : List ℕ)
-    → tableRows (finalModel h .order) ≤ length area → imageSize (finalState h .table) ≤ length image
+    (h : History) (area other : Table) (image : List ℕ) → tableRows (finalModel h .order) ≤ length area
+    → imageSize (finalState h .table) ≤ length image
     → tableRows (finalModel h .order) ≤ length other → LoadsBack (finalState h .table) area other image
 
 -- RULES 12.1, 12.2, the image byte by byte, of every table that a write accepts, foreign ones too, whatever words of 32
