@@ -103,9 +103,9 @@ KeepsEnough =
     (t : Table) (query : Profile) (k firstDay : ℕ)
     → length (nearestAnswer t query k firstDay .entries) ≡ min k (total (map (λ b. length (select (λ row. leb firstDay (dayOf row)) (liveSlots t b))) (bucketsDown t)))
 
--- RULES 17.11, worst cases, for every table, foreign ones too, and lent areas of any length: one reply of range, nearest or
--- a batch counts at most the built slots, so at most 2^(T+1) - 1, and fewer than four times the live head, or 0 where
--- there are none (`SlotsBound`); one add or removal reports at most T·2^T.
+-- RULES 17.11, worst cases, for every table, foreign ones too, and lent areas of any length: one reply of range, nearest
+-- or a batch counts at most the built slots, so at most 2^(T+1) - 1, and fewer than four times the live head, or 0 where
+-- there are none (`SlotsBound`); one add or removal reports at most T·2^T, a herd list at most that for each item added.
 -- Theorems: `searches-bounded`, `builds-bounded`
 abbrev pub SearchesBounded : Type 0
 SearchesBounded = (t : Table) (area : List Entry) → Searches t area
