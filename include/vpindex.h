@@ -6,8 +6,8 @@
  *
  * Link with libvpindex.a. The calls allocate nothing, keep nothing between calls and call nothing but the C library's
  * memory functions: all state is in the areas that the caller lends. Whatever these areas hold, each call ends, and its
- * reply and the content of every area afterwards are settled by the rules. In a table of order T one search counts at
- * most 2^(T+1) - 1 distances, and fewer than four times the items in it; one add or removal counts at most T * 2^T.
+ * reply and the content of every area afterwards are settled by the rules. In a table of order T that holds items one
+ * search counts at most 2^(T+1) - 1 distances, and fewer than four times its items; one add or removal at most T * 2^T.
  *
  * What the caller has to see to, in every call:
  *   - a pointer is not null, also where its length is 0, and points to as many elements as the length says, all of them

@@ -4,8 +4,9 @@ use Prim.Native.Nat.{ℕ, zero, suc, _+_, _-_, _*_, _^_, _≤_, _<_}
 use native.Mathlib.Omega.{arith}
 use mathlib.Core.Path.{_≡_, sym, _∙_, ap, ap₂, subst}
 use mathlib.Core.List.{List}
+use lib.Dec.{eqb}
 use lib.ListN.{length, drop, length-map}
-use Rattle.lists.specs.Lists.{All}
+use Rattle.lists.specs.Lists.{select, countFrom, All}
 use Rattle.metric_rules.specs.declared.Profile.{Profile}
 use Rattle.metric_rules.specs.Row.{Row}
 use Rattle.metric_rules.specs.declared.Space.{Space}
@@ -30,12 +31,15 @@ use Rattle.call_rules.specs.Calls.Begin.{fresh, load, restore}
 use Rattle.call_rules.specs.Calls.Change.{add, remove, readList}
 use Rattle.call_rules.specs.Calls.Call.{begin, change, ask, write}
 use Rattle.history.specs.Trace.{Sums, noSums, imageSums, starting, sumsAfter, beginShown, overlaid, leftBy}
-use Rattle.history.specs.Model.{Model, itemOf, modelBegun}
+use Rattle.history.specs.LoadTests.{slotsInAll, markIn, imageIn}
+use Rattle.history.specs.Model.{Model, itemOf, itemRead, modelBegun}
 use Rattle.history.specs.History.{IsBegin, IsCall}
 use Rattle.history.proofs.Invariant.{Invariant}
 use Rattle.history.proofs.RefinesItems.{Matches, live-total}
 use Rattle.history.proofs.InvariantFresh.{freshable}
-use Rattle.history.proofs.Changing.{matches-fresh, read-matches}
+use Rattle.history.proofs.LoadTests.{slots-read}
+use Rattle.history.proofs.LoadItems.{items-read}
+use Rattle.history.proofs.Changing.{matches-fresh, read-matches, accepted-image}
 use Rattle.history.proofs.Amortized.{below, below-same, below-zero}
 use Rattle.history.proofs.AmortizedCredit.{begin-pays}
 use Rattle.history.proofs.AmortizedRebuild.{potentialOf, add-paid}
@@ -87,6 +91,11 @@ fresh-paid left t order space is e =
     in
     longer Paid paid-keeps (done .invariant .long) (begin-paid (done .invariant) 0 0 (live-total done) none) (drop (length u) left)
 
+-- the image's slots and its slots of mark 0, in the model's figures
+live-counted : (image : List ℕ) → length (liveRows image) ≡ length (select (λ i. eqb (markIn image i) 0) (countFrom 0 (slotsInAll image)))
+live-counted image =
+    sym (length-map (liveRows image) itemOf) ∙ ap length (items-read image) ∙ length-map (select (λ i. eqb (markIn image i) 0) (countFrom 0 (slotsInAll image))) (itemRead image)
+
 loaded-paid : (left t : Table) (image : List ℕ) → All (λ b. b < 2 ^ 8) image → loadRefusal (length t) image ≡ 0
     → Paid (leftBy left (loadedTable image t)) (imageSums image)
 unfolding leftBy imageSums slotsIn slotsBefore below
@@ -100,7 +109,9 @@ loaded-paid left t image bytes e =
     ∙ ap (λ (n : ℕ). below (builtIn image) (suc n)) (here .order)
     in
     longer Paid paid-keeps (done .invariant .long)
-    (begin-paid (done .invariant) (length (liveRows image)) (slotsIn image) (live-total done ∙ length-map (liveRows image) itemOf) slots) (drop (length u) left)
+    (begin-paid (done .invariant) (length (select (λ i. eqb (markIn image i) 0) (countFrom 0 (slotsInAll image)))) (slotsInAll image)
+    (live-total done ∙ length-map (liveRows image) itemOf ∙ live-counted image) (slots ∙ slots-read image))
+    (drop (length u) left)
 
 load-paid : (left t : Table) (image : List ℕ) → All (λ b. b < 2 ^ 8) image → loadRefusal (length t) image ≡ 0
     → Paid (leftBy left (tableAfterLoad image t)) (imageSums image)
@@ -117,8 +128,10 @@ begun-paid left t (load image) is e = load-paid left t image is e
 begun-paid left t (restore states name) is e =
     let image = savedImage (partOf states name) in
     let as-load = restored states name t e in
-    subst (λ (u : Table). Paid (leftBy left u) (imageSums image)) (sym (as-load .1))
-    (load-paid left t image (image-all states name (λ b. b < 2 ^ 8) (is .0)) (as-load .0))
+    let same : image ≡ imageIn states name = accepted-image states name t e in
+    subst (λ (bytes : List ℕ). Paid (leftBy left (tableBegun (restore states name) t)) (imageSums bytes)) same
+    (subst (λ (u : Table). Paid (leftBy left u) (imageSums image)) (sym (as-load .1))
+    (load-paid left t image (image-all states name (λ b. b < 2 ^ 8) (is .0)) (as-load .0)))
 
 -- the table between calls, whose live items are the model's
 module _ {left : Table} {m : Model} (ok : Matches left m) {sums : Sums} (paid : Paid left sums) where

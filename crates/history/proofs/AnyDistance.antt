@@ -23,7 +23,7 @@ use Rattle.search_rules.specs.Range.{ordered}
 use Rattle.search_rules.specs.Nearest.{keep}
 use Rattle.search_rules.proofs.RangeLaws.{range-hits}
 use Rattle.search_rules.proofs.NearestLaws.{nearest-kept}
-use Rattle.history.specs.Trees.{Laid, Away, Measured, awayKey, measured, countedNode, countedWithin, countedLayout, TreeFacts}
+use Rattle.history.specs.Trees.{Laid, Away, awayKey, measured, countedNode, countedWithin, countedLayout, TreeFacts}
 
 module _ (dist : Profile → Profile → ℕ) where
   abbrev away : Ranked → Ranked → Away

@@ -5,7 +5,7 @@ use Prim.Native.Nat.{ℕ, zero, suc, _+_, _-_, _*_, _^_, _≤_, _<_}
 use native.Mathlib.Omega.{arith}
 use native.Mathlib.Nat.{mul-le-mul-left}
 use native.Mathlib.Decide.{ℕ-discrete}
-use mathlib.Core.Path.{_≡_, refl, sym, ap, _∙_}
+use mathlib.Core.Path.{_≡_, refl, ap, _∙_}
 use mathlib.Core.Bool.{Bool, true, false}
 use mathlib.Core.List.{List, [], _∷_, flatten}
 use mathlib.Core.Option.{Option, none, some}
@@ -19,22 +19,21 @@ use Rattle.search_rules.proofs.Selecting.{select-yes}
 use Rattle.table_rules.specs.declared.Added.{Added}
 use Rattle.table_rules.specs.declared.Removed.{Removed}
 use Rattle.table_rules.specs.Geometry.{room, headerRow}
-use Rattle.table_rules.specs.Table.{Table, rowAt, orderOf, builtOf, liveOf, slotsOf, liveSlots}
+use Rattle.table_rules.specs.Table.{Table, rowAt, orderOf, liveOf, slotsOf, liveSlots}
 use Rattle.table_rules.specs.Rebuild.{Rebuilt, liveItems, rebuilt}
 use Rattle.table_rules.specs.Checks.{changeRefusal}
 use Rattle.table_rules.specs.LookUp.{Place, find}
-use Rattle.table_rules.specs.Add.{addRefusal, lowestEmpty, gathered, addTarget, added, addReply}
+use Rattle.table_rules.specs.Add.{addRefusal, gathered, addTarget, added, addReply}
 use Rattle.table_rules.specs.Remove.{removeRefusal, marked, united, moved, afterDeletion, removed, removeReply}
 use Rattle.table_rules.proofs.Chains.{or-zero}
-use Rattle.table_rules.proofs.Views.{Only, kept-live-slots}
+use Rattle.table_rules.proofs.Views.{kept-live-slots}
 use Rattle.table_rules.proofs.Changes.{marked-slots}
 use Rattle.table_rules.proofs.Finding.{Found, found}
-use Rattle.table_rules.proofs.Fill.{rooms-grow, Changeable, changeable, add-accepted, add-fits}
+use Rattle.table_rules.proofs.Fill.{rooms-grow, Changeable, changeable, add-fits}
 use Rattle.table_rules.proofs.Sizes.{room-zero, room-next}
 use Rattle.table_rules.proofs.Deletion.{Rebuilds, Deletion, deletion}
 use Rattle.table_rules.proofs.Deletion.Rebuilds.{unites-in-k, unites-lower, unites-between, moves}
 use Rattle.table_rules.proofs.Deletion.Deletion.{empties, ends, rebuilds}
-use Rattle.history.specs.Bounds.{Builds}
 use Rattle.history.specs.Demands.{BuildsBounded}
 use Rattle.history.proofs.Reporting.{within, slot-built, slot-room, only, one-less}
 

@@ -186,6 +186,11 @@ named-first : (n : ℕ) (reply : Loaded) → orLoaded n reply .refusal ≡ 0 →
 named-first zero reply e = refl
 named-first (suc n) reply e = e
 
+-- the image that an accepted restore loads, in the model's places
+pub accepted-image : (states : List ℕ) (name : ℕ) (t : Table) → restoreRefusal (length t) states name ≡ 0 → savedImage (partOf states name) ≡ imageIn states name
+unfolding restoreRefusal restoreReply
+accepted-image states name t e = restored-image states name (sym (restore-refusal states name) ∙ named-first (nameRefusal states name) _ e)
+
 pub begin-matches : (b : Begin) → IsBegin b → (t : Table) → beginShown b (beginReply b (length t)) .refusal ≡ 0 → Matches (tableBegun b t) (modelBegun b)
 unfolding beginShown modelBegun loadRefusal restoreRefusal restoreReply
 begin-matches (fresh order space) is t e = fresh-matches order space (is .1 .weights .four) t e
@@ -193,7 +198,7 @@ begin-matches (load image) is t e = after-load-matches image t is e
 begin-matches (restore states name) is t e =
     let image = savedImage (partOf states name) in
     let as-load = restored states name t e in
-    let same : image ≡ imageIn states name = restored-image states name (sym (restore-refusal states name) ∙ named-first (nameRefusal states name) _ e) in
+    let same : image ≡ imageIn states name = accepted-image states name t e in
     subst (λ (bytes : List ℕ). Matches (tableAfterRestore states name t) (imageModel bytes)) same
     (subst (λ (u : Table). Matches u (imageModel image)) (sym (as-load .1)) (after-load-matches image t (image-all states name (λ b. b < 2 ^ 8) (is .0)) (as-load .0)))
 

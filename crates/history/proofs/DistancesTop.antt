@@ -1,6 +1,6 @@
 -- How far apart two head with valid measures can be: no measure differs by more than 20,000.00, and no weight that passes
 -- is above 100.
-use Prim.Native.Nat.{ℕ, _*_, _≤_}
+use Prim.Native.Nat.{ℕ, _≤_}
 use native.Mathlib.Omega.{arith}
 use native.Mathlib.Nat.{mul-le-mul}
 use mathlib.Core.Path.{_≡_, refl}
@@ -11,7 +11,7 @@ use Rattle.metric_rules.specs.declared.Profile.{Profile}
 use Rattle.metric_rules.specs.declared.Weights.{Weights}
 use Rattle.metric_rules.specs.Row.{measure}
 use Rattle.metric_rules.specs.Validity.{validMeasure, validMeasures, measureLimit}
-use Rattle.metric_rules.specs.Distance.{saturated, gap, weight, weighted, measureDistance, largest, worstDistance, distance}
+use Rattle.metric_rules.specs.Distance.{saturated, gap, weighted, measureDistance, largest, worstDistance, distance}
 use Rattle.metric_rules.specs.Distance.{weightsOne, mostWeight, validWeights}
 use Rattle.metric_rules.proofs.Elements.{every-at}
 use Rattle.metric_rules.proofs.Apart.{abs-sum}

@@ -7,13 +7,9 @@ use native.Mathlib.Decide.{decLe}
 use borrow.Author.Tests.{lt-leb}
 use mathlib.Core.Path.{_≡_, refl, sym, ap, _∙_}
 use mathlib.Core.Bool.{Bool, true, false, _&&_}
-use mathlib.Core.List.{List, [], _∷_, _++_}
+use mathlib.Core.List.{[], _∷_}
 use mathlib.Core.Option.{Option, none, some}
 use lib.Dec.{leb, ltb, eqb}
-use lib.ListN.{length, take, drop, length-map}
-use lib.Seq.{take-append-seam}
-use Rattle.lists.specs.Lists.{total}
-use Rattle.metric_rules.specs.Row.{Row}
 use Rattle.table_rules.specs.declared.Removed.{Removed}
 use Rattle.table_rules.specs.Geometry.{room}
 use Rattle.table_rules.specs.Table.{Table, liveOf, inUse, emptied}
@@ -21,13 +17,10 @@ use Rattle.table_rules.specs.Rebuild.{Rebuilt}
 use Rattle.table_rules.specs.LookUp.{Place, find}
 use Rattle.table_rules.specs.Remove.{marked, united, moved, afterDeletion, removed}
 use Rattle.table_rules.specs.Remove.{removeRefusal, removeReply, tableAfterRemove}
-use Rattle.dues_rules.specs.declared.Dues.{Dues}
 use Rattle.dues_rules.specs.Board.{band, board, within, rateBy, duesAt, duesBy}
-use Rattle.dues_rules.specs.Listed.{weightAt, weightsAt, pays, duesOf, totalOf, weightsReply, areaAfter}
-use Rattle.dues_rules.specs.Listed.{duesRefusal, duesReply, duesAfter}
 use Rattle.dues_rules.proofs.Rates.{first-applies, later-applies, between, from-on, light, middle, heavy}
 use Rattle.history.specs.Earlier.{earlierRebuilt, earlierAfterMark, earlierRemoved, earlierBoard}
-use Rattle.history.specs.Demands.{RemovesAsBefore, TwoWeightsChanged, DuesAddUp}
+use Rattle.history.specs.Demands.{RemovesAsBefore, TwoWeightsChanged}
 
 -- what follows the marking, now and before, by the outcomes of the five tests
 module _ (t : Table) (k : ℕ) where
@@ -135,19 +128,3 @@ module _ (w : ℕ) where
 pub two-weights-changed : TwoWeightsChanged
 unfolding earlierBoard board within rateBy duesAt duesBy
 two-weights-changed = ((λ w a b. ap (λ (rate : ℕ). duesAt rate w) (same-rate w a b)), refl, refl, refl, refl)
-
-pub dues-add-up : DuesAddUp
-unfolding duesReply duesAfter weightsReply areaAfter totalOf
-dues-add-up t tags area accepted = go (duesRefusal t tags area) accepted
-  where
-    size : length (duesOf (weightsAt t tags)) ≡ length tags
-    size = length-map (weightsAt t tags) pays ∙ length-map tags (weightAt t)
-
-    go :
-        (n : ℕ) → weightsReply n (weightsAt t tags) .refusal ≡ 0
-        → weightsReply n (weightsAt t tags) .total ≡ total (take (length tags) (areaAfter n (weightsAt t tags) area))
-    go zero e =
-        ap total
-        (sym (take-append-seam (duesOf (weightsAt t tags)) (drop (length (weightsAt t tags)) area))
-        ∙ ap (λ (n : ℕ). take n (duesOf (weightsAt t tags) ++ drop (length (weightsAt t tags)) area)) size)
-    go (suc n) e = absurd (omega (arith, e))

@@ -20,7 +20,8 @@ use lib.Seq.{getD-take, getD-drop, getD-set-same, getD-set-other}
 use borrow.Author.Tests.{eq-eqb, eqb-true}
 use Rattle.lists.specs.Lists.{countFrom, every, All}
 use Rattle.lists.proofs.Tests.{and-pass, and-second, every-all}
-use Rattle.metric_rules.specs.Row.{Row, word, wide, rowWidth, zeroRow, tagAt, measuresAt, codeAt, markAt, dayAt, tagOf, profileOf, markOf, dayOf, isLive, withMark, measure}
+use Rattle.metric_rules.specs.Row.{Row, word, wide, rowWidth, zeroRow, tagAt, measuresAt, codeAt, markAt, dayAt}
+use Rattle.metric_rules.specs.Row.{tagOf, profileOf, markOf, dayOf, isLive, withMark, measure}
 use Rattle.metric_rules.specs.Validity.{validTag, validMeasures, validDay}
 use Rattle.metric_rules.specs.Distance.{validMetric}
 use Rattle.metric_rules.specs.declared.Profile.{Profile}
@@ -36,7 +37,8 @@ use Rattle.table_rules.specs.declared.Removed.{Removed}
 use Rattle.table_rules.specs.Rebuild.{Rebuilt}
 use Rattle.table_rules.specs.Remove.{removeRefusal, marked, afterDeletion, removed, removeReply, tableAfterRemove}
 use Rattle.dues_rules.specs.Board.{board, duesBy}
-use Rattle.dues_rules.specs.Listed.{mostListed, noDues, weightAt, isFound, isWeight, pays, weightsRefusal, weightsReply, areaAfter, duesRefusal, duesReply, duesAfter}
+use Rattle.dues_rules.specs.Listed.{mostListed, noDues, weightAt, isFound, isWeight, pays}
+use Rattle.dues_rules.specs.Listed.{weightsRefusal, weightsReply, areaAfter, duesRefusal, duesReply, duesAfter}
 use Rattle.table_rules.specs.LookUp.{Place, placeFrom, placeIn, find, isLiveTag, liveTagRefusal, lookUpRefusal, notFound, lookUpReply}
 use Rattle.table_rules.proofs.Live.{slots-length, is-live}
 use Rattle.table_rules.proofs.Finding.{Found, found}
@@ -261,7 +263,7 @@ deletion-ends {t} passed tag place e more d =
     go live (rebuilds positive few step) = absurd (omega (arith, few, live, more))
 
 -- a tag that has to be live is found, where its tests pass
-missing : (t : Table) (tag : ℕ) → liveTagRefusal t tag ≡ 0 → find t tag ≡ none → ⊥
+pub missing : (t : Table) (tag : ℕ) → liveTagRefusal t tag ≡ 0 → find t tag ≡ none → ⊥
 unfolding isLiveTag
 missing t tag tests f =
     let valid = unless-zero (validTag tag) badTag _ (omega arith) tests in
@@ -392,7 +394,8 @@ pays-at t [] rest j low = absurd (omega (arith, low))
 pays-at t (tag ∷ tags) rest zero low = refl
 pays-at t (tag ∷ tags) rest (suc j) low = pays-at t tags rest j (omega (arith, low))
 
-weighs-at : (t : Table) (tags : List ℕ) (j : ℕ) → j < length tags → All (λ o. isWeight o ≡ true) (map (weightAt t) tags) → isWeight (weightAt t (getD tags j 0)) ≡ true
+weighs-at : (t : Table) (tags : List ℕ) (j : ℕ) → j < length tags → All (λ o. isWeight o ≡ true) (map (weightAt t) tags)
+    → isWeight (weightAt t (getD tags j 0)) ≡ true
 weighs-at t [] j low h = absurd (omega (arith, low))
 weighs-at t (tag ∷ tags) zero low h = h .0
 weighs-at t (tag ∷ tags) (suc j) low h = weighs-at t tags j (omega (arith, low)) (h .1)
@@ -485,7 +488,9 @@ look-up-none t tag h =
 remove-none : (t : Table) (work : List Row) (tag : ℕ) → removeReply t work tag .refusal ≡ notLive → NoneAt t tag
 unfolding removeReply removeRefusal
 remove-none t work tag h =
-    let m = tag-missing (changeRefusal (length work) t) (validTag tag) (isLiveTag t tag) (change-not (length work) t) (refusal (removeRefusal t work tag) refl h) in
+    let m =
+    tag-missing (changeRefusal (length work) t) (validTag tag) (isLiveTag t tag) (change-not (length work) t)
+    (refusal (removeRefusal t work tag) refl h) in
     none-at (change-passed (length work) t (m .0) .0) tag (m .1)
   where
     reply : ℕ → Removed

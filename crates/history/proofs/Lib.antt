@@ -24,6 +24,7 @@ mod StatesBack
 mod ImageBytes
 mod LoadTests
 mod LoadItems
+mod TreeTests
 mod Figured
 mod Ordering
 mod AnyDistance
@@ -68,6 +69,7 @@ mod Earlier
 mod ListPrinted
 pub mod ListBack
 mod FindsFirst
+mod ItemsStay
 mod Framing
 mod SearchBounds
 mod BuildBounds

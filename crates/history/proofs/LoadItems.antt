@@ -2,7 +2,7 @@
 use Prim.Native.Nat.{ℕ, zero, suc, _+_, _*_}
 use mathlib.Core.Path.{_≡_, refl, sym, ap, ap₂, _∙_}
 use mathlib.Core.Bool.{Bool, true, false}
-use mathlib.Core.List.{List, [], _∷_, _++_, map}
+use mathlib.Core.List.{List, [], _∷_, map}
 use native.Mathlib.Omega.{arith}
 use lib.IntN.{ℤ}
 use lib.Dec.{eqb}
@@ -21,8 +21,8 @@ use Rattle.image_rules.specs.Read.{fieldsAt, orderIn, weightsAs, spaceIn, slots
 use Rattle.image_rules.specs.Load.{liveRows}
 use Rattle.image_rules.proofs.EachBucket.{rows-in-buckets}
 use Rattle.history.specs.Places.{numberFrom}
-use Rattle.history.specs.LoadTests.{metricByte, formBytes, slotsInAll, recordFrom, markIn}
-use Rattle.history.specs.Model.{itemOf, Model, weightsRead, profileRead, itemRead, imageModel}
+use Rattle.history.specs.LoadTests.{formBytes, slotsInAll, recordFrom, markIn, weightsRead, spaceRead}
+use Rattle.history.specs.Model.{itemOf, Model, profileRead, itemRead, imageModel}
 use Rattle.history.proofs.ImageBytes.{number-wide}
 use Rattle.history.proofs.LoadTests.{number-read, order-read, metric-read, form-read, slots-read, record-place, record-from, number-from, tag-read, live-mark, day-read}
 use Rattle.history.proofs.RefinesLists.{select-flatten}
@@ -53,8 +53,8 @@ module _ (image : List ℕ) where
   weights-by (suc form) =
       λ i. record { each = number-read image 1 4 i ∷ number-read image 1 5 i ∷ number-read image 1 6 i ∷ number-read image 1 7 i ∷ [] }
 
-  space-read : spaceIn image ≡ record { metric = metricByte image; weights = record { each = weightsRead (formBytes image) image } }
-  unfolding spaceIn
+  pub space-read : spaceIn image ≡ spaceRead image
+  unfolding spaceIn spaceRead
   space-read =
       ap₂ {C = Space} (λ (m : ℕ) (w : Weights). record { metric = m; weights = w }) (metric-read image)
       (ap (λ (form : ℕ). weightsAs form image) (form-read image) ∙ weights-by (formBytes image))
@@ -87,7 +87,7 @@ module _ (image : List ℕ) where
   unfolding itemOf itemRead
   item-is i = λ j. record { tag = tag-read image i j; profile = profile-is i j; day = day-read image i j }
 
-  items-read : map itemOf (liveRows image) ≡ map (itemRead image) (select (λ i. eqb (markIn image i) 0) (countFrom 0 (slotsInAll image)))
+  pub items-read : map itemOf (liveRows image) ≡ map (itemRead image) (select (λ i. eqb (markIn image i) 0) (countFrom 0 (slotsInAll image)))
   unfolding liveRows
   items-read =
       ap (map itemOf) (select-flatten isLive (bucketIn image) (bucketsOf (orderIn image)) ∙ ap (select isLive) (rows-in-buckets image))

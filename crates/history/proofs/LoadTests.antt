@@ -25,20 +25,16 @@ use Rattle.table_rules.specs.Checks.{sizePasses, sizesPass}
 use Rattle.image_rules.specs.Bytes.{lastForm, validForm, startBytes, imageLength, numberOf, startFields, weightFields, headerFields, tagFields, dayFields, recordFields, headerBytes, tagBytes, recordBytes, sizeBytes, pairBytes, sizesEnd}
 use Rattle.image_rules.specs.Read as reader
 use Rattle.image_rules.specs.Read.{fieldsAt, startNumbers, weightsAs, dayAs, orderIn, formIn, spaceIn, builtIn, liveIn, slotsBefore, slotsIn, rowIn, bucketIn}
-use Rattle.image_rules.specs.declared.Loaded.{Loaded}
-use Rattle.image_rules.specs.Load.{fieldsPass, bucketFieldsPass, allFieldsPass, daysPass, fieldsRefusal, orLoaded, treesIn, loadReply}
+use Rattle.image_rules.specs.Load.{fieldsPass, bucketFieldsPass, allFieldsPass, daysPass, fieldsRefusal}
 use Rattle.image_rules.proofs.Blocks.{map-count}
 use Rattle.image_rules.proofs.EachBucket.{test-buckets}
 use Rattle.state_rules.specs.Parts.{badName, notSaved, validName, partBytes, partStart, partOf, behindLength, savedLength, savedImage}
-use Rattle.state_rules.specs.Restore.{holdsSnapshot, partRefusal, nameRefusal, restoreReply}
+use Rattle.state_rules.specs.Restore.{holdsSnapshot, partRefusal, nameRefusal}
 use Rattle.state_rules.proofs.Parts.{part-length}
 use Rattle.table_rules.proofs.Chains.{when-zero}
 use Rattle.history.specs.Places.{numberFrom}
 use Rattle.history.specs.Figures.{tagSound}
-use Rattle.history.specs.Trace.{Shown, shows}
-use Rattle.history.specs.Trace.Payload.{aSlot}
-use Rattle.history.specs.Model.{dayRead, orShown, treesShown, loadShown}
-use Rattle.history.specs.LoadTests.{orderByte, metricByte, formBytes, pairsFrom, recordSize, builtAt, liveAt, slotsUpTo, tagsFrom, slotsInAll, recordFrom, weightTooLarge, sizesSound, allSizesSound, dayMissing, measureSound, markIn, slotSound, slotsAt, bucketSound, allFieldsSound, loadRefusalOf, partFrom, lengthIn, imageIn, restoreRefusalOf}
+use Rattle.history.specs.LoadTests.{orderByte, metricByte, formBytes, pairsFrom, recordSize, builtAt, liveAt, slotsUpTo, tagsFrom, slotsInAll, recordFrom, weightTooLarge, sizesSound, allSizesSound, dayRead, dayMissing, measureSound, tagIn, markIn, slotSound, slotsAt, bucketSound, allFieldsSound, loadRefusalOf, partFrom, lengthIn, imageIn, restoreRefusalOf}
 use Rattle.history.proofs.ImageBytes.{number-wide}
 
 -- a number past the end is 0
@@ -177,10 +173,10 @@ module _ (image : List ℕ) where
   head-read : headerBytes (formIn image) ≡ pairsFrom (formBytes image)
   head-read = pairs-from (formIn image) ∙ ap pairsFrom form-read
 
-  next-read : suc (orderIn image) ≡ orderByte image + 1
+  pub next-read : suc (orderIn image) ≡ orderByte image + 1
   next-read = omega (arith, order-read)
 
-  built-read : (k : ℕ) → builtIn image k ≡ builtAt image k
+  pub built-read : (k : ℕ) → builtIn image k ≡ builtAt image k
   unfolding builtIn sizeBytes pairBytes builtAt
   built-read k = number-read image 2 _ ∙ ap (λ (p : ℕ). numberFrom image (p + 4 * k) 2) head-read
 
@@ -188,7 +184,7 @@ module _ (image : List ℕ) where
   unfolding liveIn sizeBytes pairBytes liveAt
   live-read k = number-read image 2 _ ∙ ap (λ (p : ℕ). numberFrom image (p + 4 * k + 2) 2) head-read
 
-  before-read : (k : ℕ) → slotsBefore image k ≡ slotsUpTo image k
+  pub before-read : (k : ℕ) → slotsBefore image k ≡ slotsUpTo image k
   unfolding slotsBefore slotsUpTo
   before-read k = ap total (map-count (builtIn image) (builtAt image) 0 k (λ j l m. built-read j))
 
@@ -219,8 +215,8 @@ module _ (image : List ℕ) where
   number-from w place there e = number-read image w place ∙ ap (λ (p : ℕ). numberFrom image p w) e
 
   -- the words of a row that is read
-  pub tag-read : (i : ℕ) → tagOf (rowIn image i) ≡ numberFrom image (tagsFrom image + 8 * i) 8
-  unfolding rowIn tagOf word wide tagAt fieldsAt tagFields
+  pub tag-read : (i : ℕ) → tagOf (rowIn image i) ≡ tagIn image i
+  unfolding rowIn tagOf word wide tagAt fieldsAt tagFields tagIn
   tag-read i =
       sym
       (number-wide image (tagsFrom image + 8 * i) _ _ (sym (number-from 4 (tag-place i) (tagsFrom image + 8 * i) (tag-from i)))
@@ -437,30 +433,3 @@ module _ (states : List ℕ) (name : ℕ) where
       let c = when-zero (eqb (lengthIn states name) 0) notSaved _ (omega arith) (b .1) in
       let d = when-zero (ltb (size - 4) (lengthIn states name)) badLength 0 (omega arith) (c .1) in
       image-alike (omega (arith, ltb-false size 4 (b .0), ltb-false (size - 4) (lengthIn states name) (d .0)))
-
--- what is shown of a reply
-by-slot : (n : ℕ) (reply : Loaded)
-    → shows (orLoaded n reply .refusal) (aSlot (orLoaded n reply .slot)) ≡ orShown n (shows (reply .refusal) (aSlot (reply .slot)))
-by-slot zero reply = refl
-by-slot (suc n) reply = refl
-
-abbrev shownBy : Loaded → Shown
-shownBy reply = shows (reply .refusal) (aSlot (reply .slot))
-
-pub load-shown : (rows : ℕ) (image : List ℕ) → shownBy (loadReply rows image) ≡ loadShown rows image
-unfolding loadReply loadShown treesShown
-load-shown rows image =
-    by-slot (fieldsRefusal rows image) (treesIn image) ∙ ap (λ (n : ℕ). orShown n (shownBy (treesIn image))) (load-refusal image rows)
-
-pub restore-shown : (rows : ℕ) (states : List ℕ) (name : ℕ)
-    → shownBy (restoreReply rows states name) ≡ orShown (restoreRefusalOf states name) (loadShown rows (imageIn states name))
-unfolding restoreReply
-restore-shown rows states name =
-    by-slot (nameRefusal states name) (loadReply rows (savedImage (partOf states name)))
-    ∙ ap₂ orShown (restore-refusal states name) (load-shown rows (savedImage (partOf states name)))
-    ∙ go (restoreRefusalOf states name) (restored-image states name)
-  where
-    go : (n : ℕ) → (n ≡ 0 → savedImage (partOf states name) ≡ imageIn states name)
-        → orShown n (loadShown rows (savedImage (partOf states name))) ≡ orShown n (loadShown rows (imageIn states name))
-    go zero h = ap (loadShown rows) (h refl)
-    go (suc n) h = refl

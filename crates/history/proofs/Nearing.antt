@@ -3,16 +3,16 @@
 -- and with fewer both tests pass. The rest goes by the depth, half by half in the search's order.
 use Prim.Native.Nat.{ℕ, zero, suc, _+_, _≤_, _<_}
 use native.Mathlib.Omega.{arith}
-use mathlib.Core.Path.{_≡_, refl, sym, ap, ap₂, _∙_, subst}
-use mathlib.Core.Bool.{Bool, true, false, _&&_, _||_}
+use mathlib.Core.Path.{_≡_, refl, sym, ap, _∙_, subst}
+use mathlib.Core.Bool.{Bool, true, false, _||_}
 use mathlib.Core.List.{List, [], _∷_, _++_, map, foldl}
-use lib.Dec.{leb, ltb, eqb}
+use lib.Dec.{leb, ltb}
 use lib.ListN.{length, take, drop, length-take, length-drop, length-append, length-map, take-append-drop}
-use borrow.Author.Tests.{leb-true, leb-false, ltb-true, ltb-false, lt-ltb, le-ltb, lt-leb, le-leb}
+use borrow.Author.Tests.{leb-true, leb-false, ltb-true, ltb-false, lt-ltb, le-ltb}
 use Rattle.lists.specs.Lists.{last, select, All}
 use Rattle.lists.proofs.Lists.{all-weaken, all-always, all-map, pairs-weaken, pairs-across, last-all, perm-length}
 use Rattle.metric_rules.specs.declared.Profile.{Profile}
-use Rattle.metric_rules.specs.Row.{Row, markOf, dayOf, isLive, profileOf, thresholdOf, queryRow, mayReport}
+use Rattle.metric_rules.specs.Row.{Row, isLive, profileOf, thresholdOf, queryRow, mayReport}
 use Rattle.metric_rules.specs.Distance.{distance}
 use Rattle.tree_rules.specs.Layout.{leftSize}
 use Rattle.tree_rules.specs.Sorting.{insertBy}

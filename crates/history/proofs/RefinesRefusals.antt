@@ -37,7 +37,8 @@ use Rattle.history.specs.Trace.Payload.{bare}
 use Rattle.history.specs.Model.{Item, itemOf, Model, withTag, isIn, canRead, canChange, tagRefusal, itemRefusal, addRefusalOf, removeRefusalOf, fits, weightsIn, modelRanges, batchRefusalOf, questionRefusal, askRefusal, freshRefusalOf, begunShown}
 use Rattle.history.proofs.Invariant.{Invariant}
 use Rattle.history.specs.Figures.{tagSound, measuresWithin}
-use Rattle.history.proofs.LoadTests.{most-above, every-not-any, all-any, stops-alike, passes-alike, when-alike, tag-sound, some-not-none, load-shown, restore-shown}
+use Rattle.history.proofs.LoadTests.{most-above, every-not-any, all-any, stops-alike, passes-alike, when-alike, tag-sound, some-not-none}
+use Rattle.history.proofs.TreeTests.{load-shown, restore-shown}
 use Rattle.history.proofs.Figured.{measures-within, dues-figured, batch-figured}
 use Rattle.history.proofs.RefinesFinding.{rowFound}
 use Rattle.history.proofs.RefinesItems.{Matches, range-alike, nearest-alike, found-items, weights-alike, live-total, ranges-alike}

@@ -1,7 +1,7 @@
 -- What a refused call returns and leaves. Every reply and area is given by the refusal, so each is by its cases: 0 is
 -- no refusal, and any other number has zeros behind it. A load's slot is not 0 only by a tree's test, whose numbers are
 -- 36, 37 and 38; a herd list is by its lines.
-use Prim.Native.Nat.{ℕ, zero, suc, _+_}
+use Prim.Native.Nat.{ℕ, zero, suc, _+_, _≤_}
 use mathlib.Core.Path.{_≡_, refl, sym, ap, _∙_, subst}
 use mathlib.Core.Bool.{Bool, true, false}
 use mathlib.Core.Logic.{_⊎_, inl, inr}
@@ -60,6 +60,7 @@ use Rattle.call_rules.specs.Calls.Call.{begin, change, ask, write}
 use Rattle.history.specs.Reports.{tableAfterAdds}
 use Rattle.history.specs.Leaves.{refusalOf, numberAndZeros, zeros, ChangesNothing, Excepted, AllAdded, workAfterAdds, KeepsLines, EndsAt, Exceptions}
 use Rattle.history.specs.Demands.{RefusalsKeep}
+use Rattle.history.proofs.TreeTests.{load-within, restore-within}
 
 -- what is given by a refusal that is not 0
 kept : {A : Type 0} (n : ℕ) (a b : A) → (n ≡ 0 → ⊥) → elim n as (λ _. A) [ zero ↦ a | suc m ↦ b ] ≡ b
@@ -373,11 +374,18 @@ module _ (t : Table) where
       (sym (answer-short zeroSummary (areas .summary) (tableSummaries t radii) n six) i)
       (sym (answer-short zeroEntry (areas .listing) (tableListing t radii chosen) n six) i)
 
+  at-least : {n : ℕ} → Tells n → 36 ≤ n
+  at-least (inl e) = omega (arith, e)
+  at-least (inr (inl e)) = omega (arith, e)
+  at-least (inr (inr e)) = omega (arith, e)
+
   exceptions : Exceptions t
   unfolding rangeReply resultAfterRange nearestReply resultAfterNearest rangeBatchReply resultAfterBatch readListReply tableAfterReadList workAfterReadList
   exceptions =
       record {
         begins = begins t;
+        loads = λ bytes told. load-within (length t) bytes (at-least told);
+        restores = λ states name told. restore-within (length t) states name (at-least told);
         lists = lists-keep t;
         ends = lists-end t;
         ranges = λ query radius firstDay result. search-short result (rangeAnswer t query radius firstDay) (rangeRefusal t result query radius firstDay);

@@ -103,7 +103,7 @@ module _ {work : List Row} {t : Table} (c : Changeable work t) (tag : ℕ) (plac
   pub slot-room : place .slot < room k
   slot-room = omega (arith, slot-built, within k (at .inOrder) .1)
 
-  used : Used k (builtOf t k) (liveOf t k)
+  pub used : Used k (builtOf t k) (liveOf t k)
   used =
       size-in-use k (builtOf t k) (liveOf t k) (sizes-at (orderOf t) (builtOf t) (liveOf t) (c .passed .sizes) k (at .inOrder))
       (λ e. absurd (omega (arith, e, slot-built)))
@@ -111,7 +111,7 @@ module _ {work : List Row} {t : Table} (c : Changeable work t) (tag : ℕ) (plac
   pub only : Only (λ j. j ≡ k → ⊥) t v
   only = marked-only t place (at .inOrder) long slot-room
 
-  built-same : builtOf v k ≡ builtOf t k
+  pub built-same : builtOf v k ≡ builtOf t k
   built-same = marked-built t place (at .inOrder) long slot-room
 
   pub one-less : liveOf t k ≡ suc (liveOf v k)

@@ -2,14 +2,14 @@
 -- at most the rooms, 2^(T+1) - 1 in all, and in a bucket in use below four times its live size.
 use Prim.Native.Nat.{ℕ, zero, suc, _+_, _*_, _^_, _≤_, _<_}
 use native.Mathlib.Omega.{arith}
-use mathlib.Core.Path.{_≡_, refl, sym, ap, _∙_}
+use mathlib.Core.Path.{_≡_, refl, ap}
 use mathlib.Core.Bool.{Bool}
 use mathlib.Core.Logic.{_⊎_, inl, inr}
 use mathlib.Core.List.{List, [], _∷_, map, foldl}
 use lib.ListN.{length, drop, length-take}
 use Rattle.lists.specs.Lists.{total, select, countFrom}
 use Rattle.metric_rules.specs.declared.Profile.{Profile}
-use Rattle.metric_rules.specs.Row.{Row, word, profileOf, thresholdOf, queryRow, mayReport}
+use Rattle.metric_rules.specs.Row.{Row, word, queryRow, mayReport}
 use Rattle.metric_rules.specs.Distance.{distance}
 use Rattle.search_rules.specs.Range.{Entry}
 use Rattle.search_rules.specs.Reached.{reachedWithin, reached}

@@ -4,7 +4,7 @@
 -- Demand 1. Every call, for every input and every lent area, replies and leaves what the rules say: the refusal that comes first in their order
 -- and only under its condition, and every reply, count and area. It is the contract of each public call, which has no `requires` and is an equation with
 -- the definitions of `call_rules`: `replyTo`, `tableAfter` and `areasAfter` are these, for all calls.
-use Prim.Native.Nat.{ℕ, suc, _+_, _^_, _≤_, _<_, min}
+use Prim.Native.Nat.{ℕ, suc, _+_, _/_, _^_, _≤_, _<_, min}
 use mathlib.Core.Path.{_≡_}
 use mathlib.Core.Bool.{true, _&&_}
 use mathlib.Core.List.{List, [], _∷_, _++_, map, List·Permᴰ}
@@ -31,7 +31,6 @@ use Rattle.image_rules.specs.Trees.{treesPass}
 use Rattle.image_rules.specs.Load.{fieldsRefusal}
 use Rattle.image_rules.specs.Translate.{translated}
 use Rattle.list_rules.specs.Lines.{hasHeader, itemLines}
-use Rattle.state_rules.specs.Parts.{validName, lengthBytes, partBytes}
 use Rattle.call_rules.specs.Calls.{Call, Areas, beginReply, tableBegun, Write, replyTo, areasAfter}
 use Rattle.call_rules.specs.Calls.Begin.{fresh, load}
 use Rattle.call_rules.specs.Calls.Call.{write}
@@ -47,6 +46,7 @@ use Rattle.history.specs.Images.{imageSize, LoadsBack, GivesBack, Restor
 use Rattle.history.specs.Represents.{Holds, NamesBuckets}
 use Rattle.history.specs.Reports.{ReportsBuilds}
 use Rattle.history.specs.Slots.{Finds}
+use Rattle.history.specs.Items.{Stay}
 use Rattle.history.specs.Frame.{Frames}
 use Rattle.history.specs.Entries.{AreThere}
 use Rattle.history.specs.Trees.{TreeFacts}
@@ -125,6 +125,13 @@ FoundAreThere = (t : Table) (query : Profile) (firstDay : ℕ) → AreThere t qu
 -- Theorem: `finds-first`
 abbrev pub FindsFirst : Type 0
 FindsFirst = (t : Table) (tag : ℕ) → Finds t tag
+
+-- RULES 8.3, 9.2 to 9.4, and whatever they build or empty on the way: on a table of 32-bit words, foreign ones too, the
+-- items at the built places of mark 0 are after an accepted add those before it and the new one, and after an accepted
+-- removal those before it without the one of the first slot, each as often as before (`Stay`).
+-- Theorem: `items-stay`
+abbrev pub ItemsStay : Type 0
+ItemsStay = (t : Table) (work : List Row) → All IsRow t → Stay t work
 
 -- W9, "every result, area and count is the one given today": an accepted removal replies the distances and leaves the
 -- table that the definition of before W9 gives.
@@ -284,12 +291,15 @@ RadiiExtreme = (t : Table) → OneEach t × OneLot t
 abbrev pub AnyArea : Type 0
 AnyArea = (left area : Table) → take (length (ownRows left)) area ≡ take (length area) (ownRows left) → overlaid left area ≡ area
 
--- Demands 2 and 3, one claim over every list of calls on one table, refused ones and herd lists read too, that an accepted fresh, load or restore began (`History`):
--- at each call table and reference model show the same; after the list the table is a valid one of the published method (which buckets a call builds is
--- settled by the definitions that `tableAfter` joins), it holds the model's items, range and nearest answer as a scan of them, and all rebuilds together
--- keep within 4·T·(T+1)·A + 11·T·R distances. Load and restore the model refuses by figures of its own over the bytes
--- (`loadRefusalOf`, `restoreRefusalOf` of LoadTests); only the number and the slot of an image's trees it has from the
--- definition of the call, of which more is claimed by `AcceptsTrees`.
+-- Demands 2 and 3, one claim over every list of calls on one table, refused ones and herd lists read too, that an
+-- accepted fresh, load or restore began (`History`): at each call table and reference model show the same; after the
+-- list the table is a valid one of the published method, all of it valid head (which buckets a call builds is settled by
+-- the definitions that `tableAfter` joins), it holds the model's items, range and nearest answer as a scan of them, and
+-- all rebuilds together keep within 4·T·(T+1)·A + 11·T·R distances.
+-- The model refuses and answers by figures of its own. It takes from the definitions of the calls these, which a claim
+-- of its own pins: the distance (`WeighsEach`, `OneBit`), what the layout puts at a slot of an image (`AnyDistance`,
+-- `CountsVisits`), the order of entries (`AnswersAscend`, `FoundAreThere`), the lots (`LotsHold`), the lines of a herd
+-- list (`ListForm`), and which words of a row are its tag, profile and day (`ImageBytes`).
 -- Theorem: `every-list`
 abbrev pub EveryList : Type 0
 EveryList = (h : History) → Holds h
@@ -336,21 +346,26 @@ ImageBytes =
     × ((t : Table) → TableWords t)
     × ((row : Row) → RowWords row)
 
--- W7 (RULES 19.8), named states. After every such list, saving under a name is accepted wherever the table area and the name's part are long enough. Whatever is
--- written to the other parts and the bytes left over after that, restoring from that part is refused by 23 alone, and accepted gives the table that was saved.
+-- W7 (RULES 19.1, 19.2, 19.8), named states. After every such list, saving under a name, 1 to 8, is accepted wherever
+-- the table area and the name's part, an eighth of the states, are long enough. Whatever is written to the other parts
+-- and the bytes left over after that, restoring from that part is refused by 23 alone, and accepted gives the table that
+-- was saved.
 -- Theorem: `saved-restores`
 abbrev pub SavedRestores : Type 0
 SavedRestores =
-    (h : History) (area : Table) (states : List ℕ) (name : ℕ) → validName name ≡ true → tableRows (finalModel h .order) ≤ length area
-    → lengthBytes + imageSize (finalState h .table) ≤ partBytes (length states) → RestoresBack (finalState h .table) area states name
+    (h : History) (area : Table) (states : List ℕ) (name : ℕ) → 1 ≤ name → name ≤ 8
+    → tableRows (finalModel h .order) ≤ length area → 4 + imageSize (finalState h .table) ≤ length states / 8
+    → RestoresBack (finalState h .table) area states name
 
--- W7 (RULES 19.5), and of every save, of foreign tables too: it leaves the other names' parts, the rest of its own and the bytes left over as they were.
+-- W7 (RULES 19.5), and of every save, of foreign tables too: it leaves the other names' parts, the rest of its own and
+-- the bytes left over as they were.
 -- Theorem: `save-keeps`
 abbrev pub SaveKeeps : Type 0
 SaveKeeps = (t : Table) (states : List ℕ) (name : ℕ) → KeepsStates t states name
 
--- W7 (RULES 19.6 to 19.8), and of every restore, whoever wrote the states: it is refused by 34, 35 or 7 as the name and its part say, or else it is a load of exactly the
--- image in the part, of whatever form: the same refusal and slot or none, and the same table.
+-- W7 (RULES 19.6 to 19.8), and of every restore, whoever wrote the states: it is refused by 34, 35 or 7 as the name and
+-- its part say, or else it is a load of exactly the image in the part, of whatever form: the same refusal and slot or
+-- none, and the same table.
 -- Theorem: `restore-loads`
 abbrev pub RestoreLoads : Type 0
 RestoreLoads = (states : List ℕ) (name : ℕ) (other : Table) → LoadsPart states name other

@@ -33,6 +33,7 @@ use Rattle.call_rules.specs.Calls.Change.{add, remove, readList}
 use Rattle.call_rules.specs.Calls.Ask.{lookUp, range, nearest, dues, rangeBatch, lots}
 use Rattle.call_rules.specs.Calls.Write.{image, save}
 use Rattle.call_rules.specs.Calls.Call.{begin, change, ask, write}
+use Rattle.history.specs.LoadTests.{slotsInAll, imageIn}
 use Rattle.history.specs.Reports.{tableAfterAdds}
 
 -- RULES 14.1: the refusal in a reply, 0 where the call is accepted; of fresh and lots it is the whole reply
@@ -143,8 +144,15 @@ EndsAt day u left at (anItem tag p ∷ lines) r =
 
 -- RULES 14.2, what the exceptions return and leave
 pub record Exceptions (t : Table) : Type 0 where
-  -- 36, 37 and 38 return a slot; like every refusal of a load or a restore they leave the table as it was
+  -- every refusal of a load or a restore leaves the table as it was; 36, 37 and 38 return a slot, one of those that the
+  -- image has
   pub begins : (b : Begin) → (refusalOf (begin b) t tt ≡ 0 → ⊥) → tableAfter (begin b) t tt ≡ t
+  pub loads : (bytes : List ℕ)
+      → let c = begin (load bytes) in
+      Excepted c (refusalOf c t tt) → replyTo c t tt .slot < slotsInAll bytes
+  pub restores : (states : List ℕ) (name : ℕ)
+      → let c = begin (restore states name) in
+      Excepted c (refusalOf c t tt) → replyTo c t tt .slot < slotsInAll (imageIn states name)
   -- a herd list keeps what the lines before the refused one added, and returns its line, their number and their
   -- distances
   pub lists : (work : List Row) (list : List ℕ) (day : ℕ)

@@ -2,6 +2,7 @@ pub mod Places
 pub mod Figures
 pub mod ImageForm
 pub mod LoadTests
+pub mod TreeTests
 pub mod Trace
 pub mod Model
 pub mod History
@@ -17,6 +18,7 @@ pub mod Weighing
 pub mod Earlier
 pub mod ListForm
 pub mod Slots
+pub mod Items
 pub mod Frame
 pub mod Bounds
 pub mod Entries

@@ -7,6 +7,7 @@ use mathlib.Core.List.{List, [], _∷_, map}
 use lib.ListN.{length, take, drop}
 use lib.Dec.{leb, ltb, eqb}
 use Rattle.lists.specs.Lists.{total, every, any, select, countFrom}
+use Rattle.metric_rules.specs.declared.Space.{Space}
 use Rattle.table_rules.specs.Refusals.{badOrder, badMetric, badLength, badImage, shortArea, badTable, badWeight, badDay}
 use Rattle.table_rules.specs.Refusals.{unless, when}
 use Rattle.state_rules.specs.Parts.{badName, notSaved}
@@ -58,6 +59,14 @@ recordFrom bytes i = tagsFrom bytes + 8 * slotsInAll bytes + recordSize (formByt
 unfoldable pub weightTooLarge : List ℕ → Bool
 weightTooLarge bytes = ltb 0 (formBytes bytes) && any (λ i. ltb 100 (numberFrom bytes (4 + i) 1)) (0 ∷ 1 ∷ 2 ∷ 3 ∷ [])
 
+-- RULES 12.3: the metric, byte 1, and the weights, which are 1 in form 0
+unfoldable pub weightsRead : ℕ → List ℕ → List ℕ
+weightsRead zero bytes = 1 ∷ 1 ∷ 1 ∷ 1 ∷ []
+weightsRead (suc form) bytes = map (λ i. numberFrom bytes (4 + i) 1) (0 ∷ 1 ∷ 2 ∷ 3 ∷ [])
+
+unfoldable pub spaceRead : List ℕ → Space
+spaceRead bytes = record { metric = metricByte bytes; weights = record { each = weightsRead (formBytes bytes) bytes } }
+
 -- 24: of a bucket both sizes are 0, or live ≤ built ≤ 2^k, 2^k < 2·built and 2^k < 4·live; at most 2^T are live in all
 unfoldable pub sizesSound : List ℕ → ℕ → Bool
 sizesSound bytes k =
@@ -72,6 +81,12 @@ allSizesSound bytes =
     every (sizesSound bytes) (countFrom 0 (orderByte bytes + 1))
     && leb (total (map (liveAt bytes) (countFrom 0 (orderByte bytes + 1)))) (2 ^ orderByte bytes)
 
+-- RULES 12.3: the day of a record from a place on, which is 1 in forms 0 and 1
+unfoldable pub dayRead : ℕ → List ℕ → ℕ → ℕ
+dayRead zero bytes place = 1
+dayRead (suc zero) bytes place = 1
+dayRead (suc (suc form)) bytes place = numberFrom bytes (place + 40) 2
+
 -- 33: in form 2 a day, bytes 40 and 41 of a record, that is 0
 unfoldable pub dayMissing : List ℕ → Bool
 dayMissing bytes =
@@ -82,13 +97,16 @@ dayMissing bytes =
 unfoldable pub measureSound : ℕ → Bool
 measureSound n = leb n 1_000_000 || leb 4_293_967_296 n
 
--- a slot's mark, bytes 36 to 39 of its record, which is 0 or 1; and all of its fields
+-- a slot's tag; its mark, bytes 36 to 39 of its record, which is 0 or 1; and all of its fields
+unfoldable pub tagIn : List ℕ → ℕ → ℕ
+tagIn bytes i = numberFrom bytes (tagsFrom bytes + 8 * i) 8
+
 unfoldable pub markIn : List ℕ → ℕ → ℕ
 markIn bytes i = numberFrom bytes (recordFrom bytes i + 36) 4
 
 unfoldable pub slotSound : List ℕ → ℕ → Bool
 slotSound bytes i =
-    tagSound (numberFrom bytes (tagsFrom bytes + 8 * i) 8)
+    tagSound (tagIn bytes i)
     && every (λ j. measureSound (numberFrom bytes (recordFrom bytes i + 4 * j) 4)) (0 ∷ 1 ∷ 2 ∷ 3 ∷ [])
     && leb (markIn bytes i) 1
 

@@ -18,7 +18,6 @@ use Rattle.search_rules.specs.Range.{Entry, entry, entryDistance, ordered}
 use Rattle.table_rules.specs.Refusals.{badTag, badMeasure, badOrder, badMetric, noCount, noRoom, alreadyLive, notLive}
 use Rattle.table_rules.specs.Refusals.{full, shortArea, badWeight, badDay, unless, when}
 use Rattle.table_rules.specs.LookUp.{noProfile}
-use Rattle.image_rules.specs.Load.{treesIn}
 use Rattle.list_rules.specs.Lines.{ListLine, hasHeader, itemLines}
 use Rattle.list_rules.specs.Lines.ListLine.{anItem, malformed}
 use Rattle.list_rules.specs.ReadList.{badListHeader, badListLine}
@@ -33,8 +32,9 @@ use Rattle.call_rules.specs.Calls.Ask.{lookUp, range, nearest, dues, rangeBatch
 use Rattle.call_rules.specs.Calls.Call.{begin, change, ask, write}
 use Rattle.history.specs.Places.{numberFrom}
 use Rattle.history.specs.Figures.{tagSound, measuresWithin, isMissing, isBelowZero, paysFor, greatest}
-use Rattle.history.specs.LoadTests.{orderByte, metricByte, formBytes, tagsFrom, slotsInAll, recordFrom, markIn}
-use Rattle.history.specs.LoadTests.{loadRefusalOf, imageIn, restoreRefusalOf}
+use Rattle.history.specs.LoadTests.{orderByte, formBytes, slotsInAll, recordFrom, tagIn, markIn, dayRead}
+use Rattle.history.specs.LoadTests.{spaceRead, loadRefusalOf, imageIn, restoreRefusalOf}
+use Rattle.history.specs.TreeTests.{slotRefusalsOf}
 use Rattle.history.specs.Trace.{Step, Payload, Shown, zeroed, shows}
 use Rattle.history.specs.Trace.Payload.{bare, aSlot, aWeighing, someEntries, aListRead, someDues, someLists, aDraft}
 
@@ -284,19 +284,8 @@ unfoldable pub listAnswered : Model → ℕ → ℕ → List ℕ → ℕ → Lis
 listAnswered m rows work list day =
     elim (hasHeader list) [ false ↦ stopsAt m badListHeader 1 | true ↦ linesAnswered day m rows work 2 (itemLines list) ]
 
--- RULES 12.1, 12.3, an image as the model reads it, at places of its own (LoadTests). The weights are bytes 4 to 7, and 1
--- in form 0; the day is 1 in forms 0 and 1
-unfoldable pub weightsRead : ℕ → List ℕ → List ℕ
-weightsRead zero bytes = 1 ∷ 1 ∷ 1 ∷ 1 ∷ []
-weightsRead (suc form) bytes = map (λ i. numberFrom bytes (4 + i) 1) (0 ∷ 1 ∷ 2 ∷ 3 ∷ [])
-
-unfoldable pub dayRead : ℕ → List ℕ → ℕ → ℕ
-dayRead zero bytes place = 1
-dayRead (suc zero) bytes place = 1
-dayRead (suc (suc form)) bytes place = numberFrom bytes (place + 40) 2
-
--- slot i: its tag among the tags; in its record four measures in two's complement, two code words, and the day at the
--- end
+-- RULES 12.1, 12.3, slot i of an image as the model reads it, at places of its own (LoadTests): its tag among the tags;
+-- in its record four measures in two's complement, two code words, and the day at the end
 unfoldable pub profileRead : List ℕ → ℕ → Profile
 profileRead bytes place =
     record {
@@ -307,7 +296,7 @@ profileRead bytes place =
 unfoldable pub itemRead : List ℕ → ℕ → Item
 itemRead bytes i =
     record {
-      tag = numberFrom bytes (tagsFrom bytes + 8 * i) 8;
+      tag = tagIn bytes i;
       profile = profileRead bytes (recordFrom bytes i);
       day = dayRead (formBytes bytes) bytes (recordFrom bytes i);
     }
@@ -318,7 +307,7 @@ unfoldable pub imageModel : List ℕ → Model
 imageModel bytes =
     record {
       order = orderByte bytes;
-      space = record { metric = metricByte bytes; weights = record { each = weightsRead (formBytes bytes) bytes } };
+      space = spaceRead bytes;
       items = map (itemRead bytes) (select (λ i. eqb (markIn bytes i) 0) (countFrom 0 (slotsInAll bytes)));
     }
 
@@ -340,16 +329,20 @@ freshRefusalOf rows order space =
 abbrev pub orShown : ℕ → Shown → Shown
 orShown n shown = elim n [ zero ↦ shown | suc m ↦ shows (suc m) (aSlot 0) ]
 
--- RULES 12.8, the trees of an image, by the definitions of the call: what more is claimed of them stands in Demands,
--- `AcceptsTrees`
+-- RULES 12.8, the trees of an image: of the slots' refusals from slot `at` on the first that is one, and its slot
+unfoldable pub firstShown : ℕ → List ℕ → Shown
+firstShown at [] = shows 0 (aSlot 0)
+firstShown at (zero ∷ ns) = firstShown (suc at) ns
+firstShown at (suc n ∷ ns) = shows (suc n) (aSlot at)
+
 unfoldable pub treesShown : List ℕ → Shown
-treesShown image = shows (treesIn image .refusal) (aSlot (treesIn image .slot))
+treesShown image = firstShown 0 (slotRefusalsOf image)
 
 unfoldable pub loadShown : ℕ → List ℕ → Shown
 loadShown rows image = orShown (loadRefusalOf rows image) (treesShown image)
 
--- RULES 16.3, what a call that begins a table shows. Fresh, load and restore read nothing of the table but its length.
--- The model refuses them by figures of its own, of an image up to its trees; a restore is a load of the image in the part
+-- RULES 16.3, what a call that begins a table shows. Fresh, load and restore read nothing of the table but its length;
+-- a restore is a load of the image in the part
 unfoldable pub begunShown : Begin → ℕ → Shown
 begunShown (fresh order space) rows = shows (freshRefusalOf rows order space) bare
 begunShown (load image) rows = loadShown rows image

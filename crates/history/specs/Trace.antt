@@ -1,15 +1,14 @@
 -- RULES 17.2, 17.6, 17.7, a list of calls on one table: what each shows, and the table with its sums between calls.
 use Prim.Native.Nat.{ℕ, zero, suc, _+_, _-_}
 use mathlib.Core.List.{List, [], _∷_, _++_}
+use lib.Dec.{eqb}
 use lib.ListN.{length, take, drop, replicate}
+use Rattle.lists.specs.Lists.{select, countFrom}
 use Rattle.metric_rules.specs.declared.Profile.{Profile}
 use Rattle.search_rules.specs.Range.{Entry, entryDistance}
 use Rattle.table_rules.specs.Geometry.{tableRows}
 use Rattle.table_rules.specs.Table.{Table, orderOf}
 use Rattle.table_rules.specs.LookUp.{noProfile}
-use Rattle.image_rules.specs.Read.{slotsIn}
-use Rattle.image_rules.specs.Load.{liveRows}
-use Rattle.state_rules.specs.Parts.{partOf, savedImage}
 use Rattle.batch_rules.specs.Batch.{mostQueries, partSize}
 use Rattle.lots_rules.specs.Lots.{Summary}
 use Rattle.call_rules.specs.Calls.{Begin, BeginReply, Change, ChangeReply, DraftAreas, Ask, AskAreas, AskReply, Call, Areas, Reply, replyTo, tableAfter, areasAfter}
@@ -17,6 +16,7 @@ use Rattle.call_rules.specs.Calls.Begin.{fresh, load, restore}
 use Rattle.call_rules.specs.Calls.Change.{add, remove, readList}
 use Rattle.call_rules.specs.Calls.Ask.{lookUp, range, nearest, dues, rangeBatch, lots}
 use Rattle.call_rules.specs.Calls.Call.{begin, change, ask, write}
+use Rattle.history.specs.LoadTests.{slotsInAll, markIn, imageIn}
 
 -- RULES 17.2, one call of a list: each may be lent other areas of any length and content
 pub record Step : Type 0 where
@@ -133,12 +133,14 @@ plus sums more =
 
 -- RULES 17.7: fresh, load and restore start the sums afresh, the latter two with the image's live items as adds and its dead ones as removals
 unfoldable pub imageSums : List ℕ → Sums
-imageSums image = let live = length (liveRows image) in record { adds = live; removals = slotsIn image - live; distances = 0 }
+imageSums image =
+    let live = length (select (λ i. eqb (markIn image i) 0) (countFrom 0 (slotsInAll image))) in
+    record { adds = live; removals = slotsInAll image - live; distances = 0 }
 
 unfoldable pub starting : Begin → Sums
 starting (fresh order space) = noSums
 starting (load image) = imageSums image
-starting (restore states name) = imageSums (savedImage (partOf states name))
+starting (restore states name) = imageSums (imageIn states name)
 
 unfoldable pub begunSums : ℕ → Begin → Sums → Sums
 begunSums zero b sums = starting b

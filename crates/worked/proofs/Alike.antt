@@ -14,10 +14,11 @@ use Rattle.lots_rules.specs.Lots.{Summary}
 use Rattle.call_rules.specs.Calls.{Call, draftAreas}
 use Rattle.history.specs.Places.{numberFrom}
 use Rattle.history.specs.Figures.{tagSound, measureWithin, measuresWithin, centsAKilo, inCents, isMissing, isBelowZero, paysFor, greatest}
-use Rattle.history.specs.LoadTests.{orderByte, metricByte, formBytes, pairsFrom, recordSize, builtAt, liveAt, slotsUpTo, tagsFrom, slotsInAll, recordFrom, weightTooLarge, sizesSound, allSizesSound, dayMissing, measureSound, markIn, slotSound, slotsAt, bucketSound, allFieldsSound, loadRefusalOf, partFrom, lengthIn, imageIn, restoreRefusalOf}
+use Rattle.history.specs.LoadTests.{orderByte, metricByte, formBytes, pairsFrom, recordSize, builtAt, liveAt, slotsUpTo, tagsFrom, slotsInAll, recordFrom, weightTooLarge, sizesSound, allSizesSound, dayRead, weightsRead, spaceRead, dayMissing, measureSound, tagIn, markIn, slotSound, slotsAt, bucketSound, allFieldsSound, loadRefusalOf, partFrom, lengthIn, imageIn, restoreRefusalOf}
 use Rattle.history.specs.Trace.{Step, Shown, zeroed, shows, ownRows, overlaid, leftBy, beginShown, changeShown, duesIn, listedIn, draftedIn, draftIn, askShown, shown, noSums, plus, imageSums, starting, begunSums, ifAccepted, counted, sumsAfter, stateAfter, shownAt, stateAfterAll, trace}
 use Rattle.history.specs.Trace.Payload.{bare, aSlot, aWeighing, someEntries, aListRead, someDues, someLists, aDraft}
-use Rattle.history.specs.Model.{itemOf, withTag, isIn, with, without, weighedIn, scanned, modelRange, modelNearest, weightOf, weightsIn, modelLots, modelSummaries, modelListing, canRead, canChange, tagRefusal, itemRefusal, addRefusalOf, removeRefusalOf, fits, duesRefusalOf, batchRefusalOf, lotsRefusalOf, questionRefusal, askRefusal, found, paid, answerTo, showsUnless, afterUnless, stopsAt, oneMoreAdded, linesAnswered, listAnswered, weightsRead, dayRead, profileRead, itemRead, imageModel, modelBegun, freshRefusalOf, treesShown, loadShown, begunShown, beginAnswer, changeAnswer, answer, answerAt, modelAfterAll, modelTrace, modelRanges, foundEach}
+use Rattle.history.specs.TreeTests.{slotWords, laidOut, tagTaken, slotRefusalOf, slotRefusalsOf}
+use Rattle.history.specs.Model.{itemOf, withTag, isIn, with, without, weighedIn, scanned, modelRange, modelNearest, weightOf, weightsIn, modelLots, modelSummaries, modelListing, canRead, canChange, tagRefusal, itemRefusal, addRefusalOf, removeRefusalOf, fits, duesRefusalOf, batchRefusalOf, lotsRefusalOf, questionRefusal, askRefusal, found, paid, answerTo, showsUnless, afterUnless, stopsAt, oneMoreAdded, linesAnswered, listAnswered, profileRead, itemRead, imageModel, modelBegun, freshRefusalOf, firstShown, treesShown, loadShown, begunShown, beginAnswer, changeAnswer, answer, answerAt, modelAfterAll, modelTrace, modelRanges, foundEach}
 use Rattle.history.specs.History.{before, blankModel}
 use Rattle.worked.proofs.Computing.{performed}
 use Rattle.worked.proofs.Running.{fresh, load, restore, write, save, add, remove, readList, lookUp, range, nearest, dues, lots, weighing, by, tag, valued, measured, areasFor, scratch, adding, removing, listOf, itemLine, rangeBatch}
@@ -138,14 +139,14 @@ modelShows : modelTrace blankModel steps ≡ expected
 unfolding
     performed steps expected zeroed beginShown itemOf withTag isIn with without weighedIn scanned modelRange modelNearest weightOf weightsIn modelLots modelSummaries modelListing canRead canChange tagRefusal
     itemRefusal addRefusalOf removeRefusalOf fits questionRefusal askRefusal found paid answerTo showsUnless afterUnless stopsAt oneMoreAdded
-    linesAnswered listAnswered weightsRead dayRead profileRead itemRead imageModel modelBegun freshRefusalOf numberFrom orderByte metricByte formBytes pairsFrom recordSize builtAt liveAt slotsUpTo tagsFrom slotsInAll recordFrom weightTooLarge sizesSound allSizesSound dayMissing tagSound measureSound measureWithin measuresWithin centsAKilo inCents isMissing isBelowZero paysFor greatest duesRefusalOf batchRefusalOf lotsRefusalOf markIn slotSound slotsAt bucketSound allFieldsSound loadRefusalOf partFrom lengthIn imageIn restoreRefusalOf treesShown loadShown begunShown beginAnswer changeAnswer answer answerAt modelTrace blankModel
+    linesAnswered listAnswered weightsRead dayRead profileRead itemRead imageModel modelBegun freshRefusalOf numberFrom orderByte metricByte formBytes pairsFrom recordSize builtAt liveAt slotsUpTo tagsFrom slotsInAll recordFrom weightTooLarge sizesSound allSizesSound dayMissing tagSound measureSound measureWithin measuresWithin centsAKilo inCents isMissing isBelowZero paysFor greatest duesRefusalOf batchRefusalOf lotsRefusalOf markIn slotSound slotsAt bucketSound tagIn spaceRead slotWords laidOut tagTaken slotRefusalOf slotRefusalsOf firstShown allFieldsSound loadRefusalOf partFrom lengthIn imageIn restoreRefusalOf treesShown loadShown begunShown beginAnswer changeAnswer answer answerAt modelTrace blankModel
 modelShows = refl
 
 -- since the load of three live items and a dead one: item 8 added (no distance, into bucket 0), item 3 removed (enough are left), item 1 removed (2 and 8
 -- move to bucket 1, 1 distance), and of the herd list item 5 added (no distance, into bucket 0) and item 6 (four items into bucket 2, 4 distances); then item
 -- 8 removed (enough are left) and item 7 added (no distance, into bucket 0)
 sums : stateAfterAll (before scratch) steps .sums ≡ record { adds = 7; removals = 4; distances = 5 }
-unfolding tableShows stateAfterAll
+unfolding tableShows modelShows stateAfterAll
 sums = refl
 
 items :
@@ -238,7 +239,7 @@ savedModel = refl
 
 -- the restore starts the sums with the image's items
 savedSums : stateAfterAll (before scratch) savedSteps .sums ≡ record { adds = 3; removals = 1; distances = 0 }
-unfolding tableShows savedSteps stateAfterAll
+unfolding tableShows modelShows savedSteps stateAfterAll
 savedSums = refl
 
 -- items of 0.25, 500.50, -0.01 and 10,000.00 kg, and lists of their tags: none; some in another order, one of them twice; one that weighs below 0, with and without a
