@@ -31,7 +31,9 @@ example() {
 refused() { ! "$@"; }
 
 tests() { (cd rust && cargo test --offline); }
-lints() { (cd rust && cargo clippy --offline --workspace --all-targets -- --deny warnings); }
+# The crate without an operating system and an allocator.
+bare_tests() { (cd rust && cargo test --offline --package vpindex --no-default-features --lib --test lent); }
+lints() { (cd rust && cargo clippy --offline "$@" -- --deny warnings); }
 documents() { (cd rust && RUSTDOCFLAGS='--deny warnings' cargo doc --offline --no-deps --package vpindex); }
 # An archive that is not a full path away, or not there, is refused in one sentence.
 no_archive() {
@@ -85,8 +87,10 @@ if [ -z "${VPINDEX_LIB_DIR:-}" ]; then
 fi
 step archive-needs needs
 step tests tests
+step tests-without-alloc bare_tests
 if cargo clippy --version > /dev/null 2>&1; then
-    step clippy lints
+    step clippy lints --workspace --all-targets
+    step clippy-without-alloc lints --package vpindex --no-default-features --lib --test lent
 fi
 step documents documents
 step relative-folder no_archive staticlib 'VPINDEX_LIB_DIR is `staticlib`, and it has to be a full path$'
