@@ -30,14 +30,17 @@ use Rattle.table_rules.specs.Fresh.{freshRefusal, tableAfterFresh}
 use Rattle.table_rules.specs.Add.{addRefusal, addReply, tableAfterAdd, workAfterAdd}
 use Rattle.table_rules.specs.Remove.{removeRefusal, removeReply, tableAfterRemove, workAfterRemove}
 use Rattle.table_rules.specs.LookUp.{Place, find, lookUpRefusal, noProfile, notFound, lookUpReply}
-use Rattle.table_rules.specs.Search.{Answer, rangeAnswer, nearestAnswer, rangeRefusal, nearestRefusal, searchReply, zeroEntry, resultAfter, rangeReply, resultAfterRange, nearestReply, resultAfterNearest}
+use Rattle.table_rules.specs.Search.{Answer, rangeAnswer, nearestAnswer, rangeRefusal, nearestRefusal, searchReply, zeroEntry, resultAfter, rangeReply}
+use Rattle.table_rules.specs.Search.{resultAfterRange, nearestReply, resultAfterNearest}
 use Rattle.table_rules.proofs.Replies.{refused-reply, refused-area, short-area}
 use Rattle.batch_rules.specs.declared.Ranges.{Ranges}
-use Rattle.batch_rules.specs.Batch.{mostQueries, singleAnswers, batchCount, partSize, batchRefusal, rangesReply, resultAfterParts, rangeBatchReply, resultAfterBatch}
+use Rattle.batch_rules.specs.Batch.{mostQueries, singleAnswers, batchCount, partSize, batchRefusal, rangesReply, resultAfterParts, rangeBatchReply}
+use Rattle.batch_rules.specs.Batch.{resultAfterBatch}
 use Rattle.image_rules.specs.declared.Loaded.{Loaded}
 use Rattle.image_rules.specs.declared.Written.{Written}
 use Rattle.image_rules.specs.Read.{orderIn, spaceIn, bucketIn}
-use Rattle.image_rules.specs.Trees.{duplicateTag, misplacedItem, badThreshold, tagIsNew, sameItem, slotRefusal, placeRefusal, refusalsFrom, bucketRefusals, slotRefusals, firstRefused, treesReply}
+use Rattle.image_rules.specs.Trees.{duplicateTag, misplacedItem, badThreshold, tagIsNew, sameItem, slotRefusal, placeRefusal, refusalsFrom, bucketRefusals}
+use Rattle.image_rules.specs.Trees.{slotRefusals, firstRefused, treesReply}
 use Rattle.image_rules.specs.Load.{fieldsRefusal, orLoaded, treesIn, loadReply, loadRefusal, tableAfterLoad}
 use Rattle.image_rules.specs.Write.{writeRefusal, writeReply, imageAfterWrite}
 use Rattle.image_rules.proofs.Blocks.{all-flatten}
@@ -46,7 +49,8 @@ use Rattle.state_rules.specs.Save.{saveRefusal, saveReply, statesAfterSave}
 use Rattle.state_rules.specs.Restore.{nameRefusal, restoreReply, restoreRefusal, tableAfterRestore}
 use Rattle.list_rules.specs.Lines.{ListLine, hasHeader, itemLines}
 use Rattle.list_rules.specs.Lines.ListLine.{anItem, malformed}
-use Rattle.list_rules.specs.ReadList.{Reading, badListHeader, badListLine, stopped, oneMore, reading, listReading, readListReply, tableAfterReadList, workAfterReadList}
+use Rattle.list_rules.specs.ReadList.{Reading, badListHeader, badListLine, stopped, oneMore, reading, listReading, readListReply, tableAfterReadList}
+use Rattle.list_rules.specs.ReadList.{workAfterReadList}
 use Rattle.dues_rules.specs.declared.Dues.{Dues}
 use Rattle.dues_rules.specs.Listed.{weightsAt, weightsReply, areaAfter, duesRefusal, duesReply, duesAfter}
 use Rattle.lots_rules.specs.Drafting.{answerIn, zeroSummary, lotsRefusal, tableSummaries, tableListing, workAfterLots, summaryAfterLots, listingAfterLots}
@@ -322,7 +326,8 @@ module _ (t : Table) where
       → ChangesNothing (change c) t work
   unfolding addReply tableAfterAdd workAfterAdd removeReply tableAfterRemove workAfterRemove
   nothing-changed (add tag p day) work refused other =
-      let r = replied {A = Added} (λ a. a .refusal) (λ n. record { refusal = n; bucket = 0; distances = 0 }) (λ n. refl) (addRefusal t work tag p day) _ refl refused in
+      let r =
+      replied {A = Added} (λ a. a .refusal) (λ n. record { refusal = n; bucket = 0; distances = 0 }) (λ n. refl) (addRefusal t work tag p day) _ refl refused in
       record { replied = r .0; table = kept (addRefusal t work tag p day) _ t (r .1); lent = kept (addRefusal t work tag p day) _ work (r .1) }
   nothing-changed (remove tag) work refused other =
       let r = replied {A = Removed} (λ a. a .refusal) (λ n. record { refusal = n; distances = 0 }) (λ n. refl) (removeRefusal t work tag) _ refl refused in
@@ -340,7 +345,8 @@ module _ (t : Table) where
 
   nothing-asked : (q : Ask) (areas : AskAreas q) → (refusalOf (ask q) t areas ≡ 0 → ⊥) → (Excepted (ask q) (refusalOf (ask q) t areas) → ⊥)
       → ChangesNothing (ask q) t areas
-  unfolding lookUpReply foundBy rangeReply resultAfterRange nearestReply resultAfterNearest duesReply duesAfter rangeBatchReply resultAfterBatch summaryAfterLots listingAfterLots workAfterLots
+  unfolding lookUpReply foundBy rangeReply resultAfterRange nearestReply resultAfterNearest duesReply duesAfter rangeBatchReply resultAfterBatch
+      summaryAfterLots listingAfterLots workAfterLots
   nothing-asked (lookUp tag) lent refused other = record { replied = not-found (lookUpRefusal t tag) (find t tag) refused; table = refl; lent = refl }
   nothing-asked (range query radius firstDay) result refused other =
       let s = search-keeps result (rangeAnswer t query radius firstDay) (rangeRefusal t result query radius firstDay) refused other in

@@ -133,7 +133,10 @@ unfolding removed removeRefusal
 removed-past t work tag accepted = go (find t tag) refl
   where
     go : (o : Option Place) → find t tag ≡ o
-        → Past t ((elim o as (λ _. Rebuilt) [ some place ↦ afterDeletion (marked t place) (place .bucket) | none ↦ record { table = t; distances = 0 } ]) .table)
+        → Past t ((elim o as (λ _. Rebuilt) [
+          | some place ↦ afterDeletion (marked t place) (place .bucket)
+          | none ↦ record { table = t; distances = 0 }
+        ]) .table)
     go none e = only-own
     go (some place) e =
         let c = changeable work t (or-zero (changeRefusal (length work) t) _ accepted .0) in
@@ -174,7 +177,10 @@ lines-past day (anItem tag p ∷ lines) t work i = go (addRefusal t work tag p d
     v = workAfterAdd t work tag p day
 
     go : (n : ℕ) → Past u (reading day u v (suc i) lines .table)
-        → Past t ((elim n as (λ _. Reading) [ suc r ↦ stopped (suc r) i t work | zero ↦ oneMore (addReply t work tag p day .distances) (reading day u v (suc i) lines) ]) .table)
+        → Past t ((elim n as (λ _. Reading) [
+          | suc r ↦ stopped (suc r) i t work
+          | zero ↦ oneMore (addReply t work tag p day .distances) (reading day u v (suc i) lines)
+        ]) .table)
     go zero e = only-twice (add-past t work tag p day) e
     go (suc n) e = only-own
 

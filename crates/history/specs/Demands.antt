@@ -6,14 +6,14 @@
 -- the definitions of `call_rules`: `replyTo`, `tableAfter` and `areasAfter` are these, for all calls.
 use Prim.Native.Nat.{ℕ, suc, _+_, _/_, _^_, _≤_, _<_, min}
 use mathlib.Core.Path.{_≡_}
-use mathlib.Core.Bool.{true, _&&_}
+use mathlib.Core.Bool.{true}
 use mathlib.Core.List.{List, [], _∷_, _++_, map, List·Permᴰ}
 use lib.ListN.{length, take}
-use lib.Dec.{leb, eqb}
+use lib.Dec.{leb}
 use lib.IntN.{ℤ}
 use Rattle.lists.specs.Lists.{select, total, All}
 use Rattle.metric_rules.specs.declared.Profile.{Profile}
-use Rattle.metric_rules.specs.Row.{Row, markOf, dayOf, IsRow, IsProfile}
+use Rattle.metric_rules.specs.Row.{Row, dayOf, IsRow, IsProfile}
 use Rattle.metric_rules.specs.declared.Space.{Space}
 use Rattle.metric_rules.specs.declared.Weights.{Weights}
 use Rattle.metric_rules.specs.Validity.{validMeasures}
@@ -50,21 +50,23 @@ use Rattle.history.specs.Items.{Stay}
 use Rattle.history.specs.Frame.{Frames}
 use Rattle.history.specs.Entries.{AreThere}
 use Rattle.history.specs.Trees.{TreeFacts}
+use Rattle.history.specs.TreeForm.{LaidOut}
 use Rattle.history.specs.Agreement.{SameItems, SameAnswers}
 use Rattle.history.specs.Counter.{OnlyAdded, CountsAdds}
-use Rattle.history.specs.Leaves.{refusalOf, ChangesNothing, Excepted, Exceptions, LeavesRest, WritesBy}
+use Rattle.history.specs.Leaves.{Refused, NotExcepted, ChangesNothing, Exceptions, LeavesRest, WritesBy}
 use Rattle.history.specs.Bounds.{Searches, Builds}
-use Rattle.history.specs.Visits.{Lists, Visited, VisitedByOne, NearsDown}
+use Rattle.history.specs.Visits.{Lists, Visited, VisitedByOne, isWeighed, NearsDown}
 use Rattle.history.specs.Earlier.{earlierRemoved, earlierBoard}
 use Rattle.history.specs.ListForm.{headerText, Line, IsLine, itemIn, linesText, ReadsPrinted}
 use Rattle.history.specs.Weighing.{Apart, profile, space, Weighs, WeighsAlone, CountsBits}
 
--- Of those answers, two numbers that the rules also give in words, for every table, foreign ones too. RULES 11.6: the
+-- Of those answers, numbers that the rules also give in words, for every table, foreign ones too. RULES 11.6: the
 -- count of range is the number of slots all of whose ancestors let their side be entered, left if d ≤ m + r and right
 -- if m ≤ d + r, in plain numbers (`Visited`). The slots visited of each bucket are listed by their places, each once,
 -- and the count is the lengths of the lists added up. The first day plays no part in it. RULES 11.7, 11.8: the count of
 -- nearest for k items, k at least 1, is the number of slots that a search visits which passes a half over exactly if k
--- of the items found by then are nearer than anything in it can be (`Nears`), from bucket T down to 0.
+-- of the items found by then are nearer than anything in it can be (`Nears`), from bucket T down to 0; no such search
+-- visits another number.
 -- Theorem: `counts-visits`
 abbrev pub CountsVisits : Type 0
 CountsVisits =
@@ -74,8 +76,10 @@ CountsVisits =
     × ((b : ℕ) → Lists (Visited (distance (tableSpace t)) query radius (slotsOf t b)) (visited b))
     × (rangeAnswer t query radius firstDay .count ≡ total (map (λ b. length (visited b)) (bucketsDown t))))
     × ((k : ℕ) → 1 ≤ k
-    → NearsDown (distance (tableSpace t)) query (λ row. eqb (markOf row) 0 && leb firstDay (dayOf row)) k
-    (slotsOf t) (suc (orderOf t)) [] (nearestAnswer t query k firstDay .count))
+    → let Visits : ℕ → Type 0 =
+    NearsDown (distance (tableSpace t)) query (isWeighed firstDay) k (slotsOf t) (suc (orderOf t)) [] in
+    let count = nearestAnswer t query k firstDay .count in
+    Visits count × ((n : ℕ) → Visits n → n ≡ count))
 
 -- RULES 11.14: a batch counts each slot once that one of its queries visits by itself, in plain numbers
 -- (`VisitedByOne`). So its count is at least each query's own and at most these added up, and with one query it is the
@@ -99,9 +103,9 @@ KeepsEnough =
     (t : Table) (query : Profile) (k firstDay : ℕ)
     → length (nearestAnswer t query k firstDay .entries) ≡ min k (total (map (λ b. length (select (λ row. leb firstDay (dayOf row)) (liveSlots t b))) (bucketsDown t)))
 
--- RULES 17.11, worst cases, for every table, foreign ones too, and lent areas of any length: one reply of range, nearest or
--- a batch counts at most the built slots, so at most 2^(T+1) - 1, and fewer than four times the live head, or 0 where
--- there are none (`SlotsBound`); one add or removal reports at most T·2^T.
+-- RULES 17.11, worst cases, for every table, foreign ones too, and lent areas of any length: one reply of range, nearest
+-- or a batch counts at most the built slots, so at most 2^(T+1) - 1, and fewer than four times the live head, or 0 where
+-- there are none (`SlotsBound`); one add or removal reports at most T·2^T, a herd list at most that for each item added.
 -- Theorems: `searches-bounded`, `builds-bounded`
 abbrev pub SearchesBounded : Type 0
 SearchesBounded = (t : Table) (area : List Entry) → Searches t area
@@ -174,15 +178,16 @@ AnswersAscend =
     → ((radius firstDay : ℕ) → Ascending (rangeAnswer t query radius firstDay .entries) × Ascending (modelRange m query radius firstDay))
     × ((k firstDay : ℕ) → Ascending (nearestAnswer t query k firstDay .entries) × Ascending (modelNearest m query k firstDay))
 
--- Demand 1 (RULES 14.2), a refused call, for every table and all areas of any length and content, foreign ones too: it returns its number and zeros, and
--- changes no area. Four exceptions (`Excepted`), and what they return and leave (`Exceptions`): 6 on range, nearest or a batch leaves the result area all
--- zero, 6 on lots the summary and the listing; a herd list keeps what it added and returns its line, the number added and their distances; 36, 37 and 38
--- return a slot.
+-- Demand 1 (RULES 14.2), for every table and all areas of any length and content, foreign ones too: a refusal returns
+-- its number and zeros, and changes no area (`ChangesNothing`), with these exceptions (`Excepted`, and what they return
+-- and leave in `Exceptions`): 6 on range, nearest or a batch leaves the result area all zero, and 6 on lots the summary
+-- and the listing; a herd list keeps what it added and returns its line, the number added and their distances; 36, 37
+-- and 38 return a slot of the image.
 -- Theorem: `refusals-keep`
 abbrev pub RefusalsKeep : Type 0
 RefusalsKeep =
     (t : Table)
-    → ((c : Call) (areas : Areas c) → (refusalOf c t areas ≡ 0 → ⊥) → (Excepted c (refusalOf c t areas) → ⊥) → ChangesNothing c t areas)
+    → ((c : Call) (areas : Areas c) → Refused c t areas → NotExcepted c t areas → ChangesNothing c t areas)
     × Exceptions t
 
 -- Demand 1 (RULES 4.5 to 4.7), and accepted calls, likewise: what they leave beside their answer (`LeavesRest`). Rows past the table are kept; add, remove,
@@ -199,6 +204,14 @@ AcceptedLeaves = (t : Table) → LeavesRest t
 -- Theorem: `writes-refuse`
 abbrev pub WritesRefuse : Type 0
 WritesRefuse = (t : Table) → WritesBy t
+
+-- RULES 6.1 to 6.6, what a tree is, in plain numbers (`IsTree`): by any distance and of any rows of 13 words, the layout
+-- is a first slot of the smallest tag, a left half of floor(n/2) slots that are nearer to it than those of the right
+-- half, equal distances by tag, and a threshold that is the largest distance of the left half, at every slot; all marks
+-- are 0, and the items are those of the rows.
+-- Theorem: `lays-out`
+abbrev pub LaysOut : Type 0
+LaysOut = (dist : Profile → Profile → ℕ) (rows : List Row) → All (λ row. length row ≡ 13) rows → LaidOut dist rows
 
 -- W1: by any distance with the three laws a tree's range and nearest are a scan and its build costs c(n); and each metric has the three laws.
 -- Theorems: `any-distance`, `each-metric`
@@ -297,8 +310,7 @@ AnyArea = (left area : Table) → take (length (ownRows left)) area ≡ take (le
 -- the definitions that `tableAfter` joins), it holds the model's items, range and nearest answer as a scan of them, and
 -- all rebuilds together keep within 4·T·(T+1)·A + 11·T·R distances.
 -- The model refuses and answers by figures of its own. It takes from the definitions of the calls these, which a claim
--- of its own pins: the distance (`WeighsEach`, `OneBit`), what the layout puts at a slot of an image (`AnyDistance`,
--- `CountsVisits`), the order of entries (`AnswersAscend`, `FoundAreThere`), the lots (`LotsHold`), the lines of a herd
+-- of its own pins: the distance (`WeighsEach`, `OneBit`), what the layout puts at a slot of an image (`LaysOut`), the order of entries (`AnswersAscend`, `FoundAreThere`), the lots (`LotsHold`), the lines of a herd
 -- list (`ListForm`), and which words of a row are its tag, profile and day (`ImageBytes`).
 -- Theorem: `every-list`
 abbrev pub EveryList : Type 0

@@ -52,9 +52,12 @@ refusalIn (ask (rangeBatch queries)) r = r .refusal
 refusalIn (ask (lots radii chosen)) r = r
 refusalIn (write w) r = r .refusal
 
--- what a call is refused by
+-- what a call is refused by, and that it is refused
 abbrev pub refusalOf : (c : Call) → Table → Areas c → ℕ
 refusalOf c t areas = refusalIn c (replyTo c t areas)
+
+abbrev pub Refused : (c : Call) → Table → Areas c → Type 0
+Refused c t areas = refusalOf c t areas ≡ 0 → ⊥
 
 -- RULES 14.2: the reply that is a number and zeros
 abbrev pub numberAndZeros : (c : Call) → ℕ → Reply c
@@ -101,6 +104,9 @@ Excepted (ask (rangeBatch queries)) n = n ≡ noRoom
 Excepted (ask (lots radii chosen)) n = n ≡ noRoom
 Excepted (write w) n = ⊥
 
+abbrev pub NotExcepted : (c : Call) → Table → Areas c → Type 0
+NotExcepted c t areas = Excepted c (refusalOf c t areas) → ⊥
+
 -- as many entries of two words as an area has, all zero
 abbrev pub zeros : List (List ℕ) → List (List ℕ)
 zeros area = replicate (length area) (0 ∷ 0 ∷ [])
@@ -146,7 +152,7 @@ EndsAt day u left at (anItem tag p ∷ lines) r =
 pub record Exceptions (t : Table) : Type 0 where
   -- every refusal of a load or a restore leaves the table as it was; 36, 37 and 38 return a slot, one of those that the
   -- image has
-  pub begins : (b : Begin) → (refusalOf (begin b) t tt ≡ 0 → ⊥) → tableAfter (begin b) t tt ≡ t
+  pub begins : (b : Begin) → Refused (begin b) t tt → tableAfter (begin b) t tt ≡ t
   pub loads : (bytes : List ℕ)
       → let c = begin (load bytes) in
       Excepted c (refusalOf c t tt) → replyTo c t tt .slot < slotsInAll bytes
