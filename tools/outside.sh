@@ -111,6 +111,10 @@ if command -v c++ > /dev/null; then
     step c++-rows cxx17 c/rows.c
     step c++-readme cxx17 "$out/first.c"
 fi
+if [ "$VPINDEX_LIB_DIR" = "$PWD/target/staticlib" ]; then
+    step targets sh tools/targets.sh
+    sed -n '/^not tested/p' "$out/targets.log"
+fi
 herd=$(sh tools/program.sh herd 2> "$out/herd.log")
 step herd-on-a-terminal python3 rust/herd/tests/terminal.py "$herd"
 if python3 rust/herd/tests/browser.py; then
