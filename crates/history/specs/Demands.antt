@@ -135,9 +135,9 @@ FoundAreThere = (t : Table) (query : Profile) (firstDay : ℕ) → AreThere t qu
 abbrev pub FindsFirst : Type 0
 FindsFirst = (t : Table) (tag : ℕ) → Finds t tag
 
--- RULES 8.3, 9.2 to 9.4, and whatever they build or empty on the way: on a table with rows of 13 words, foreign ones too, the
--- items at the built places of mark 0 are after an accepted add those before it and the new one, and after an accepted
--- removal those before it without the one of the first slot, each as often as before (`Stay`).
+-- RULES 8.3, 9.2 to 9.4, and whatever they build or empty on the way: on a table with rows of 13 words, foreign ones
+-- too, the items at the built places of mark 0 are after an accepted add those before it and the new one, and after an
+-- accepted removal those before it without the one of the first slot, each as often as before (`Stay`).
 -- Theorem: `items-stay`
 abbrev pub ItemsStay : Type 0
 ItemsStay = (t : Table) (work : List Row) → All IsRow t → Stay t work
