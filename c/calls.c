@@ -10,7 +10,7 @@
 #endif
 
 #ifdef __ARM_EABI__
-/* No float is passed, so that it links with programs that pass theirs in either way. (cross.sh says so of the module.) */
+/* No float is passed, so that it links with programs that pass theirs in either way; cross.sh says it of the module. */
 __asm__(".eabi_attribute Tag_ABI_VFP_args, 3");
 #endif
 

@@ -1,8 +1,8 @@
 /*
  * The same calls on every processor: random calls of all kinds, from a seed, with a digest of every reply and of every
- * area that a call was lent. Two processors on which the digests are equal gave the same bytes all along. Tables of orders
- * 0 to 6 made by the calls and spoiled, images of every form, whole, cut and altered, lists, states, short areas; and of
- * order 12 a full table and the longest image. It needs no C library: digest_main.c prints what it gives.
+ * area that a call may change. Two processors on which the digests are equal gave the same bytes all along. Tables of
+ * orders 0 to 6 made by the calls and spoiled, images of every form, whole, cut and altered, lists, states, short areas;
+ * and of order 12 a full table and the longest image. It needs no C library: digest_main.c prints what it gives.
  */
 #include "digest.h"
 #include "vpindex.h"
@@ -369,7 +369,7 @@ static void call_dues(void) {
 
 static void call_lots(void) {
     uint32_t count = one_in(3) ? below(RADII + 1) : 1 + below(3), chosen = below(count + 2);
-    size_t rows = table_rows(), room = lent(VPINDEX_LOTS_ENTRIES(order())), listed = lent(VPINDEX_LOTS_ENTRIES(order()));
+    size_t all = VPINDEX_LOTS_ENTRIES(order()), rows = table_rows(), room = lent(all), listed = lent(all);
     size_t summed = lent(RADII);
     for (uint32_t i = 0; i < count; i++) {
         uint32_t radius = below(80000), wild = any();
@@ -418,7 +418,8 @@ static void add_large(uint32_t national) {
     }
     uint16_t day = (uint16_t)(1 + below(60000));
     uint64_t tag = VPINDEX_TAG(36, national);
-    vpindex_added reply = vpindex_add(table, VPINDEX_TABLE_ROWS(LARGE), work, VPINDEX_WORK_ROWS(LARGE), tag, profile, day);
+    size_t rows = VPINDEX_TABLE_ROWS(LARGE), room = VPINDEX_WORK_ROWS(LARGE);
+    vpindex_added reply = vpindex_add(table, rows, work, room, tag, profile, day);
     mix_refusal(reply.refusal);
     mix(reply.bucket);
     mix(reply.distances);

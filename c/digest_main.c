@@ -1,5 +1,5 @@
-/* Writes the digests of so many CALLS from a SEED. All that it writes has to be the same on every processor. BARE_RISCV is
- * for one without C library, under an emulator that takes Linux's calls. */
+/* Writes the digests of so many CALLS from a SEED. All that it writes has to be the same on every processor. BARE_RISCV
+ * is for one without C library, under an emulator that takes Linux's calls. */
 #include "digest.h"
 #include "vpindex.h"
 

@@ -2,7 +2,8 @@
 // SEED. The digest is a module of its own, whose calls are those below: the areas that it lends go over into areas of
 // vpindex.js, and back after the call.
 import { readFileSync } from "node:fs";
-import { Refusal, start, imageBytes, MAX_ORDER, MAX_QUERIES, ROW_WORDS, ENTRY_WORDS, SUMMARY_WORDS } from "./vpindex.js";
+import { Refusal, start, imageBytes, MAX_ORDER, MAX_QUERIES, ROW_WORDS, ENTRY_WORDS, SUMMARY_WORDS }
+  from "./vpindex.js";
 
 const [wasm, digest, calls, seed] = process.argv.slice(2);
 const vpindex = await start(readFileSync(wasm));
@@ -23,11 +24,11 @@ function lent(kind, at, length) {
 }
 
 // Makes a call on areas, each a kind, an address and a length; then writes the numbers of its reply.
-function call(areas, made, at = 0, numbers = () => []) {
+function call(areas, through, at = 0, numbers = () => []) {
   const lending = areas.map(area => lent(...area));
   let refusal = 0, reply = {};
   try {
-    reply = made(...lending.map(({ area }) => area)) ?? {};
+    reply = through(...lending.map(({ area }) => area)) ?? {};
   } catch (thrown) {
     if (!(thrown instanceof Refusal)) throw thrown;
     refusal = thrown.number;
@@ -51,9 +52,10 @@ const env = {
     area => vpindex.fresh(area, u32(order), u32(metric), [...new Uint32Array(memory.buffer, weights, 4)])),
   vpindex_load: (reply, table, rows, image, bytes) => call([["rows", table, rows], ["bytes", image, bytes]],
     (...areas) => vpindex.load(...areas), reply, ({ slot = 0 }) => [slot]),
-  vpindex_add: (reply, table, rows, work, room, tag, profile, day) => call([["rows", table, rows], ["rows", work, room]],
-    (...areas) => vpindex.add(...areas, u64(tag), profileAt(profile), day), reply,
-    ({ bucket, distances }) => [bucket, distances]),
+  vpindex_add: (reply, table, rows, work, room, tag, profile, day) =>
+    call([["rows", table, rows], ["rows", work, room]],
+      (...areas) => vpindex.add(...areas, u64(tag), profileAt(profile), day), reply,
+      ({ bucket, distances }) => [bucket, distances]),
   vpindex_remove: (reply, table, rows, work, room, tag) => call([["rows", table, rows], ["rows", work, room]],
     (...areas) => vpindex.remove(...areas, u64(tag)), reply, ({ distances }) => [distances]),
   vpindex_look_up: (reply, table, rows, tag) => call([["rows", table, rows]],

@@ -1,7 +1,7 @@
 #!/bin/sh
 # The calls for another processor: sh tools/cross.sh NAME writes target/NAME/libvpindex.a from the module that the kit
 # lowered the proved code to; `sh tools/build.sh vpindex --target NAME` proves first, then runs this. Where there is no
-# system, target/NAME/libbare.a has what a program without C library links besides. wasm32 is target/wasm32/vpindex.wasm.
+# system, target/NAME/libbare.a has what a program without C library links besides. Of wasm32 the file is vpindex.wasm.
 #   sh tools/cross.sh --names       the names
 #   sh tools/cross.sh --words NAME  what the kit's compiler is told of that processor
 set -eu
@@ -55,8 +55,9 @@ lower() {
     mkdir -p "$scratch/tools/bin"
     ln -s "$(readlink -f "$own/toolchain/lib")" "$scratch/tools/lib"
     ln -s "$tools/llvm-ar" "$tools/ld.lld" "$scratch/tools/bin/"
-    printf '#!/bin/sh\ncp module.bc "%s/module.bc"\nexec "%s/clang" "$@"\n' "$scratch" "$tools" > "$scratch/tools/bin/clang"
-    chmod +x "$scratch/tools/bin/clang"
+    keeper=$scratch/tools/bin/clang
+    printf '#!/bin/sh\ncp module.bc "%s/module.bc"\nexec "%s/clang" "$@"\n' "$scratch" "$tools" > "$keeper"
+    chmod +x "$keeper"
     set -- --extern "std=$own/rlib/std.rlib"
     for crate in $(sed -n 's/^vpindex: *//p' crates.txt); do
         set -- "$@" --extern "$crate=target/rlib/$crate.rlib"
@@ -67,7 +68,7 @@ lower() {
         cat "$scratch/log"
         stop 'the kit did not build the calls again'
     }
-    [ -f "$scratch/module.bc" ] || stop 'the kit handed its compiler no file module.bc: it has another shape than expected'
+    [ -f "$scratch/module.bc" ] || stop 'the kit handed its compiler no file module.bc'
     cmp -s "$scratch/libvpindex.a" "$proved" || stop "what was built beside the module is not $proved"
     "$tools/clang" --target=x86_64-unknown-linux-gnu -S -emit-llvm -O0 -x ir "$scratch/module.bc" -o "$lowered"
 }
@@ -102,7 +103,8 @@ carry() {
     "$tools/clang" --target=x86_64-unknown-linux-gnu $c_words -S -emit-llvm c/calls.c -o "$scratch/calls.ll"
     shapes "$scratch/calls.ll" > "$scratch/declared"
     shapes "$module" > "$scratch/defined"
-    diff "$scratch/declared" "$scratch/defined" >&2 || stop 'c/calls.c declares (<) other functions than the module has (>)'
+    diff "$scratch/declared" "$scratch/defined" >&2 ||
+        stop 'c/calls.c declares (<) other functions than the module has (>)'
     [ "$(sed 's/(.*//; s/.*vpindex_proved_/vpindex_/' "$scratch/declared" | LC_ALL=C sort)" = "$calls" ] ||
         stop 'c/calls.c does not spell the calls that include/vpindex.h declares'
 }
@@ -118,8 +120,8 @@ if [ ! -f "$lowered" ] || [ "$(cat "$lowered.sum" 2> /dev/null)" != "$sum" ]; th
 fi
 carry
 
-# The module's text is compiled twice: to what is linked, with what each function has on the stack, and to the module as it
-# is after all that is done to it before the processor's own instructions, which says what calls what (tools/stack.py).
+# The module is compiled twice: to what is linked, with what each function has on the stack, and to the module as it is
+# when only the processor's instructions are left to be chosen, which tells what calls what (tools/stack.py).
 compile() { "$tools/clang" $words -O3 -ffunction-sections -Wno-override-module -x ir "$module" "$@"; }
 compile -c -fstack-usage -o "$out/module.o"
 compile -S -emit-llvm -o "$out/module.ll"
@@ -134,8 +136,8 @@ case $name in
 esac
 case $name in
     wasm32)
-        # The kit's compiler is the linker too, where it is called by that name. vpindex_load and vpindex_restore want more
-        # stack than the linker gives by itself; below the data, one that is too short traps.
+        # The kit's compiler is the linker too, where it is called by that name. vpindex_load and vpindex_restore want
+        # more stack than the linker gives by itself; below the data, one that is too short traps.
         ln -s "$tools/clang" "$scratch/wasm-ld"
         "$scratch/wasm-ld" --no-entry --stack-first -z stack-size=131072 --strip-all --gc-sections \
             $(printf -- '--export=%s ' $calls) "$out/module.o" "$out/calls.o" "$out/library.o" -o "$out/vpindex.wasm"

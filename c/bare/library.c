@@ -1,6 +1,7 @@
 /*
- * What the calls need of a C library or of a compiler's own, for programs that are linked with neither: memory functions,
- * and on processors of 32 bits a division of 64. Compiled so that no loop here is taken for a call of what it spells.
+ * What the calls need of a C library or of a compiler's own, for programs that are linked with neither: memory
+ * functions, and on processors of 32 bits a division of 64. Compiled so that no loop here is taken for a call of what
+ * it spells.
  */
 #include <stddef.h>
 #include <stdint.h>

@@ -1,5 +1,5 @@
-/* A unit at a crate: a table of order 10 in its RAM takes a herd in, tells the nearest, strikes one off, and goes out as
- * an image and comes back. */
+/* A unit at a crate: a table of order 10 in its RAM takes a herd in, tells the nearest, strikes one off, and goes out
+ * as an image and comes back. */
 #include <stdio.h>
 
 #include "vpindex.h"
@@ -34,7 +34,8 @@ int main(void) {
     }
     printf("%d added, refusals %lu\n", HEAD, (unsigned long)refusals);
     print_nearest(500);
-    printf("removed: refusal %lu\n", (unsigned long)vpindex_remove(table, rows, work, room, VPINDEX_TAG(36, 500)).refusal);
+    vpindex_removed removed = vpindex_remove(table, rows, work, room, VPINDEX_TAG(36, 500));
+    printf("removed: refusal %lu\n", (unsigned long)removed.refusal);
     vpindex_written written = vpindex_write(table, rows, image, sizeof image);
     vpindex_fresh(table, rows, ORDER, VPINDEX_SUM_OF_DIFFERENCES, VPINDEX_WEIGHTS_ONE);
     vpindex_loaded loaded = vpindex_load(table, rows, image, written.length);

@@ -26,5 +26,5 @@ void start(void) {
 __attribute__((section(".vectors"), used)) const struct {
     unsigned *stack;
     void (*exceptions[15])(void);
-} vectors = {&stack_top, {start, stopped, stopped, stopped, stopped, stopped, stopped, stopped, stopped, stopped, stopped,
-                          stopped, stopped, stopped, stopped}};
+} vectors = {&stack_top, {start, stopped, stopped, stopped, stopped, stopped, stopped, stopped, stopped, stopped,
+                          stopped, stopped, stopped, stopped, stopped}};
