@@ -50,13 +50,13 @@ use Rattle.lots_rules.specs.Lots.{summaryOf}
 use Rattle.lots_rules.specs.Drafting.{badRadii, radiiPass, chosenRadius, draftedItems, betweenRows, tableLots, tableSummaries, tableListing, draftFits}
 use Rattle.lots_rules.specs.Drafting.{lotsRefusal, answerIn, zeroSummary, workAfterLots, summaryAfterLots, listingAfterLots}
 use Rattle.lots_rules.proofs.Answers.{answer-all}
-use Rattle.lots_rules.proofs.Items.{Draftable, draftable}
+use Rattle.lots_rules.proofs.Items.{draftable}
 use Rattle.lots_rules.proofs.Claims.{listing-length}
 use Rattle.image_rules.specs.declared.Written.{Written}
 use Rattle.image_rules.specs.Write.{imageOf, writeRefusal, writeReply, imageAfterWrite}
-use Rattle.image_rules.specs.Load.{loadRefusal, loadedTable, tableAfterLoad}
+use Rattle.image_rules.specs.Load.{loadRefusal, tableAfterLoad}
 use Rattle.image_rules.proofs.Accepting.{accepted}
-use Rattle.image_rules.proofs.LoadedTable.{IsLoaded, loaded, table-after-load}
+use Rattle.image_rules.proofs.LoadedTable.{loaded, table-after-load}
 use Rattle.state_rules.specs.Parts.{lengthBytes, partBytes, partStart, partOf, snapshotOf, savedImage}
 use Rattle.state_rules.specs.Save.{saveRefusal, saveReply, statesAfterSave}
 use Rattle.state_rules.proofs.Parts.{part-within, parts-inside}

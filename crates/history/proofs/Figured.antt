@@ -54,10 +54,14 @@ rounded n = go (leb 50 (n % 100)) refl
     go true e = let h : 50 ≤ n % 100 = leb-true 50 (n % 100) e in omega arith
     go false e = let h : n % 100 < 50 = leb-false 50 (n % 100) e in omega arith
 
+pub board-figured : (w : ℕ) → duesBy board w ≡ inCents (w * centsAKilo w)
+unfolding duesBy duesAt
+board-figured w = ap (λ (rate : ℕ). (w * rate + 50) / 100) (rate-is w) ∙ rounded (w * centsAKilo w)
+
 pays-is : (weight : Option ℤ) → pays weight ≡ paysFor weight
-unfolding pays paysFor duesBy duesAt
+unfolding pays paysFor
 pays-is none = refl
-pays-is (some (pos w)) = ap (λ (rate : ℕ). (w * rate + 50) / 100) (rate-is w) ∙ rounded (w * centsAKilo w)
+pays-is (some (pos w)) = board-figured w
 pays-is (some (negsuc w)) = refl
 
 pub dues-are : (weights : List (Option ℤ)) → duesOf weights ≡ map paysFor weights

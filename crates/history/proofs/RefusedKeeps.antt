@@ -10,19 +10,16 @@ use lib.IntN.{ℤ}
 use mathlib.Core.List.{List, [], _∷_, _++_, flatten, map}
 use native.Mathlib.Omega.{arith}
 use lib.Dec.{eqb}
-use lib.ListN.{length, take, drop, replicate}
+use lib.ListN.{length, drop, replicate}
 use borrow.Author.Tests.{ne-eqb}
 use Rattle.lists.specs.Lists.{All, countFrom}
-use Rattle.metric_rules.specs.declared.Profile.{Profile}
 use Rattle.metric_rules.specs.Row.{Row, profileOf, thresholdOf, dayOf}
-use Rattle.metric_rules.specs.declared.Space.{Space}
 use Rattle.metric_rules.specs.Distance.{distance}
 use Rattle.search_rules.specs.Range.{Entry, entry}
 use Rattle.tree_rules.specs.Layout.{layout}
 use Rattle.table_rules.specs.declared.Added.{Added}
 use Rattle.table_rules.specs.declared.Removed.{Removed}
 use Rattle.table_rules.specs.declared.LookedUp.{LookedUp}
-use Rattle.table_rules.specs.declared.Searched.{Searched}
 use Rattle.table_rules.specs.Refusals.{noRoom, notLive, unless}
 use Rattle.table_rules.specs.Geometry.{bucketsOf, workRows}
 use Rattle.table_rules.specs.Table.{Table, orderOf, cleared}
@@ -33,7 +30,6 @@ use Rattle.table_rules.specs.LookUp.{Place, find, lookUpRefusal, noProfile, not
 use Rattle.table_rules.specs.Search.{Answer, rangeAnswer, nearestAnswer, rangeRefusal, nearestRefusal, searchReply, zeroEntry, resultAfter, rangeReply}
 use Rattle.table_rules.specs.Search.{resultAfterRange, nearestReply, resultAfterNearest}
 use Rattle.table_rules.proofs.Replies.{refused-reply, refused-area, short-area}
-use Rattle.batch_rules.specs.declared.Ranges.{Ranges}
 use Rattle.batch_rules.specs.Batch.{mostQueries, singleAnswers, batchCount, partSize, batchRefusal, rangesReply, resultAfterParts, rangeBatchReply}
 use Rattle.batch_rules.specs.Batch.{resultAfterBatch}
 use Rattle.image_rules.specs.declared.Loaded.{Loaded}
@@ -51,9 +47,8 @@ use Rattle.list_rules.specs.Lines.{ListLine, hasHeader, itemLines}
 use Rattle.list_rules.specs.Lines.ListLine.{anItem, malformed}
 use Rattle.list_rules.specs.ReadList.{Reading, badListHeader, badListLine, stopped, oneMore, reading, listReading, readListReply, tableAfterReadList}
 use Rattle.list_rules.specs.ReadList.{workAfterReadList}
-use Rattle.dues_rules.specs.declared.Dues.{Dues}
 use Rattle.dues_rules.specs.Listed.{weightsAt, weightsReply, areaAfter, duesRefusal, duesReply, duesAfter}
-use Rattle.lots_rules.specs.Drafting.{answerIn, zeroSummary, lotsRefusal, tableSummaries, tableListing, workAfterLots, summaryAfterLots, listingAfterLots}
+use Rattle.lots_rules.specs.Drafting.{zeroSummary, lotsRefusal, tableSummaries, tableListing, workAfterLots, summaryAfterLots, listingAfterLots}
 use Rattle.lots_rules.proofs.Answers.{answer-kept, answer-short}
 use Rattle.call_rules.specs.Calls.{Begin, Change, Ask, Write, Call, DraftAreas, draftAreas, Areas, AskAreas, areasAnswered, tableBegun}
 use Rattle.call_rules.specs.Calls.Begin.{fresh, load, restore}
@@ -62,7 +57,7 @@ use Rattle.call_rules.specs.Calls.Ask.{lookUp, range, nearest, dues, rangeBatch
 use Rattle.call_rules.specs.Calls.Write.{image, save}
 use Rattle.call_rules.specs.Calls.Call.{begin, change, ask, write}
 use Rattle.history.specs.Reports.{tableAfterAdds}
-use Rattle.history.specs.Leaves.{refusalOf, numberAndZeros, zeros, ChangesNothing, Excepted, AllAdded, workAfterAdds, KeepsLines, EndsAt, Exceptions}
+use Rattle.history.specs.Leaves.{refusalOf, numberAndZeros, zeros, HasSlot, ChangesNothing, Excepted, AllAdded, workAfterAdds, KeepsLines, EndsAt, Exceptions}
 use Rattle.history.specs.Demands.{RefusalsKeep}
 use Rattle.history.proofs.TreeTests.{load-within, restore-within}
 
@@ -251,11 +246,8 @@ lists-end t work list day = (
     Ends r = EndsAt day (r .table) (r .work) (r .reply .added + 2) (drop (r .reply .added) (itemLines list)) (r .reply)
 
 -- the trees of an image are refused by 36, 37 or 38
-abbrev Tells : ℕ → Type 0
-Tells n = (n ≡ duplicateTag) ⊎ ((n ≡ misplacedItem) ⊎ (n ≡ badThreshold))
-
 Told : ℕ → Type 0
-Told n = (n ≡ 0) ⊎ Tells n
+Told n = (n ≡ 0) ⊎ HasSlot n
 
 told-by : (a b c : Bool) → Told (unless a duplicateTag (unless b misplacedItem (unless c badThreshold 0)))
 unfolding Told
@@ -273,14 +265,14 @@ slots-told before earlier (l ∷ laid) (row ∷ rows) = (
   slots-told before (earlier ++ (row ∷ [])) laid rows,
 )
 
-first-told : (at : ℕ) (ns : List ℕ) → All Told ns → (firstRefused at ns .refusal ≡ 0 → ⊥) → Tells (firstRefused at ns .refusal)
+first-told : (at : ℕ) (ns : List ℕ) → All Told ns → (firstRefused at ns .refusal ≡ 0 → ⊥) → HasSlot (firstRefused at ns .refusal)
 unfolding firstRefused Told
 first-told at [] told refused = absurd (refused refl)
 first-told at (zero ∷ ns) told refused = first-told (suc at) ns (told .1) refused
 first-told at (suc n ∷ ns) (inl e, rest) refused = absurd (refused e)
 first-told at (suc n ∷ ns) (inr tells, rest) refused = tells
 
-trees-told : (bytes : List ℕ) → (treesIn bytes .refusal ≡ 0 → ⊥) → Tells (treesIn bytes .refusal)
+trees-told : (bytes : List ℕ) → (treesIn bytes .refusal ≡ 0 → ⊥) → HasSlot (treesIn bytes .refusal)
 unfolding treesIn treesReply slotRefusals bucketRefusals bucketsOf
 trees-told bytes =
     first-told 0 (slotRefusals (spaceIn bytes) (orderIn bytes) (bucketIn bytes))
@@ -288,12 +280,12 @@ trees-told bytes =
     (λ k h. slots-told (flatten (map (bucketIn bytes) (countFrom 0 k))) [] (layout (distance (spaceIn bytes)) (bucketIn bytes k)) (bucketIn bytes k)))
 
 -- a reply of load or restore that no tree's test gives has no slot
-unslotted : (n : ℕ) (r : Loaded) → ((r .refusal ≡ 0 → ⊥) → (Tells (r .refusal) → ⊥) → r ≡ record { refusal = r .refusal; slot = 0 })
-    → (orLoaded n r .refusal ≡ 0 → ⊥) → (Tells (orLoaded n r .refusal) → ⊥) → orLoaded n r ≡ record { refusal = orLoaded n r .refusal; slot = 0 }
+unslotted : (n : ℕ) (r : Loaded) → ((r .refusal ≡ 0 → ⊥) → (HasSlot (r .refusal) → ⊥) → r ≡ record { refusal = r .refusal; slot = 0 })
+    → (orLoaded n r .refusal ≡ 0 → ⊥) → (HasSlot (orLoaded n r .refusal) → ⊥) → orLoaded n r ≡ record { refusal = orLoaded n r .refusal; slot = 0 }
 unslotted zero r behind refused other = behind refused other
 unslotted (suc n) r behind refused other = refl
 
-load-unslotted : (rows : ℕ) (bytes : List ℕ) → (loadReply rows bytes .refusal ≡ 0 → ⊥) → (Tells (loadReply rows bytes .refusal) → ⊥)
+load-unslotted : (rows : ℕ) (bytes : List ℕ) → (loadReply rows bytes .refusal ≡ 0 → ⊥) → (HasSlot (loadReply rows bytes .refusal) → ⊥)
     → loadReply rows bytes ≡ record { refusal = loadReply rows bytes .refusal; slot = 0 }
 unfolding loadReply
 load-unslotted rows bytes =
@@ -380,7 +372,7 @@ module _ (t : Table) where
       (sym (answer-short zeroSummary (areas .summary) (tableSummaries t radii) n six) i)
       (sym (answer-short zeroEntry (areas .listing) (tableListing t radii chosen) n six) i)
 
-  at-least : {n : ℕ} → Tells n → 36 ≤ n
+  at-least : {n : ℕ} → HasSlot n → 36 ≤ n
   at-least (inl e) = omega (arith, e)
   at-least (inr (inl e)) = omega (arith, e)
   at-least (inr (inr e)) = omega (arith, e)

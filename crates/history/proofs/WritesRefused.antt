@@ -1,7 +1,7 @@
 -- What the calls that write a table are refused by. The tests of a lent table say 0, 23 or 24, and what is tested
 -- behind them says neither of these two in a look up or a write; a write reads of its area but the length, so a save is
 -- a write into any area as long as its part's rest.
-use Prim.Native.Nat.{ℕ, zero, suc, _+_, _-_, _*_, _/_, _≤_, _<_}
+use Prim.Native.Nat.{ℕ, zero, suc, _+_, _-_, _*_, _/_, _<_}
 use mathlib.Core.Path.{_≡_, refl, sym, ap, _∙_}
 use mathlib.Core.Bool.{Bool, true, false, _&&_}
 use mathlib.Core.Logic.{_⊎_, inl, inr, ⊎-elim}

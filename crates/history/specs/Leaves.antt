@@ -87,12 +87,16 @@ pub record ChangesNothing (c : Call) (t : Table) (areas : Areas c) : Type 0 wher
   pub table : tableAfter c t areas ≡ t
   pub lent : areasAfter c t areas ≡ areas
 
+-- RULES 12.8: the refusals of an image's trees, 36, 37 and 38, which return a slot
+abbrev pub HasSlot : ℕ → Type 0
+HasSlot n = (n ≡ duplicateTag) ⊎ ((n ≡ misplacedItem) ⊎ (n ≡ badThreshold))
+
 -- RULES 14.2, the exceptions, by the call and its number: 36, 37 and 38 of load and restore; every refusal of a herd
 -- list, which returns its line; 6 on range, nearest, a batch and lots. No other
 abbrev pub Excepted : Call → ℕ → Type 0
 Excepted (begin (fresh order space)) n = ⊥
-Excepted (begin (load bytes)) n = (n ≡ duplicateTag) ⊎ ((n ≡ misplacedItem) ⊎ (n ≡ badThreshold))
-Excepted (begin (restore states name)) n = (n ≡ duplicateTag) ⊎ ((n ≡ misplacedItem) ⊎ (n ≡ badThreshold))
+Excepted (begin (load bytes)) n = HasSlot n
+Excepted (begin (restore states name)) n = HasSlot n
 Excepted (change (add tag profile day)) n = ⊥
 Excepted (change (remove tag)) n = ⊥
 Excepted (change (readList list day)) n = Unit {0}
@@ -107,9 +111,15 @@ Excepted (write w) n = ⊥
 abbrev pub NotExcepted : (c : Call) → Table → Areas c → Type 0
 NotExcepted c t areas = Excepted c (refusalOf c t areas) → ⊥
 
--- as many entries of two words as an area has, all zero
+-- RULES 4.1: a row of zeros, and an entry of two; as many entries as an area has, all zero
+abbrev pub noRow : Row
+noRow = replicate 13 0
+
+abbrev pub noEntry : List ℕ
+noEntry = 0 ∷ 0 ∷ []
+
 abbrev pub zeros : List (List ℕ) → List (List ℕ)
-zeros area = replicate (length area) (0 ∷ 0 ∷ [])
+zeros area = replicate (length area) noEntry
 
 -- RULES 13.4: some lines of a herd list, of one day, are all accepted as adds, each on what the adds before it left
 unfoldable pub AllAdded : ℕ → Table → List Row → List ListLine → Type 0
@@ -203,13 +213,6 @@ pub record Fills {A : Type 0} (zero : A) (n : ℕ) (answer before after : List A
   pub long : length after ≡ length before
   pub front : take n after ≡ answer
   pub past : drop n after ≡ replicate (length before - n) zero
-
--- RULES 4.1: a row of zeros, and an entry of two
-abbrev pub noRow : Row
-noRow = replicate 13 0
-
-abbrev pub noEntry : List ℕ
-noEntry = 0 ∷ 0 ∷ []
 
 -- RULES 4.7: a table area keeps its length, and the rows past a table of this order
 pub record KeepsRows (order : ℕ) (before after : Table) : Type 0 where

@@ -23,7 +23,8 @@ answerOf NoNumber = record { refusal = badForm; number = 0 }
 
 -- a number where a test says that there is one
 unfoldable pub answerIf : Bool → ℕ → Answer
-answerIf test n = elim test [ true ↦ record { refusal = 0; number = n } | false ↦ record { refusal = badForm; number = 0 } ]
+answerIf test n =
+    elim test [ true ↦ record { refusal = 0; number = n } | false ↦ record { refusal = badForm; number = 0 } ]
 
 -- a measure and where its part ends
 pub record MeasureAnswer : Type 0 where

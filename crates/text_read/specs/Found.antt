@@ -1,4 +1,5 @@
--- What is found in a part, and in the parts in turn, by the forms of the grammar: a value where the part has the form, and else none.
+-- What is found in a part, and in the parts in turn, by the forms of the grammar: a value where the part has the form,
+-- and else none.
 use Prim.Native.Nat.{ℕ, zero, suc, _^_, _<_}
 use mathlib.Core.Path.{_≡_}
 use mathlib.Core.Bool.{Bool, true, false, _&&_}
@@ -18,7 +19,8 @@ numberIn base least most text = answerIf (isNumeral base least most text) (numer
 
 -- a measure without its sign
 unfoldable pub isSize : ℕ → List ℕ → Bool
-isSize mark size = eqb (partsIn mark size) 2 && isNumeral 10 1 5 (partAt mark size 0) && isNumeral 10 2 2 (partAt mark size 1)
+isSize mark size =
+    eqb (partsIn mark size) 2 && isNumeral 10 1 5 (partAt mark size 0) && isNumeral 10 2 2 (partAt mark size 1)
 
 unfoldable pub sizeIn : ℕ → List ℕ → Answer
 sizeIn mark size = answerIf (isSize mark size) (hundredths mark size)
@@ -48,14 +50,25 @@ MeasureAt separator mark text parts a =
       | suc n ↦ (suc n ≡ badForm) × (isMeasure mark (getD parts 0 []) ≡ false)
     ]
 
+-- of the parts behind one that ends at a place
+abbrev pub MeasureBehind : ℕ → ℕ → List ℕ → ℕ → MeasureAnswer → Type 0
+MeasureBehind separator mark text end a = MeasureAt separator mark text (partsBehind separator text end) a
+
 -- the first four; no part is no measure, so there are four
 unfoldable pub fourMeasures : ℕ → List (List ℕ) → Bool
 fourMeasures mark parts =
-    isMeasure mark (getD parts 0 []) && isMeasure mark (getD parts 1 []) && isMeasure mark (getD parts 2 []) && isMeasure mark (getD parts 3 [])
+    isMeasure mark (getD parts 0 [])
+    && isMeasure mark (getD parts 1 [])
+    && isMeasure mark (getD parts 2 [])
+    && isMeasure mark (getD parts 3 [])
 
 unfoldable pub measuresOf : ℕ → List (List ℕ) → List ℤ
 measuresOf mark parts =
-    measureIn mark (getD parts 0 []) ∷ measureIn mark (getD parts 1 []) ∷ measureIn mark (getD parts 2 []) ∷ measureIn mark (getD parts 3 []) ∷ []
+    measureIn mark (getD parts 0 [])
+    ∷ measureIn mark (getD parts 1 [])
+    ∷ measureIn mark (getD parts 2 [])
+    ∷ measureIn mark (getD parts 3 [])
+    ∷ []
 
 pub record MeasuresAt (separator mark : ℕ) (text : List ℕ) (parts : List (List ℕ)) (r : MeasuresRead) : Type 0 where
   pub found : r .found ≡ fourMeasures mark parts

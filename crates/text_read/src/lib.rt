@@ -1,4 +1,5 @@
-// What herd lists and `yard` read alike: the parts of a text, found one after the other, a part's number, and measures in turn.
+// What herd lists and `yard` read alike: the parts of a text, found one after the other, a part's number, and measures
+// in turn.
 ghost use mathlib.Core.Path.{_≡_};
 ghost use mathlib.Core.Bool.{true, false};
 ghost use Prim.Native.Nat.{_≤_, _<_};
@@ -7,7 +8,7 @@ ghost use Rattle.text_rules.specs.Text.{digitOf, isDigit};
 ghost use Rattle.text_rules.specs.Fields.{isNegative, unsigned};
 ghost use Rattle.text_read.specs.Parts.{PartEnd, TwoParts, partsBehind};
 ghost use Rattle.text_read.specs.Answers.{answerOf, measureAnswerOf};
-ghost use Rattle.text_read.specs.Found.{numberIn, sizeIn, SizeFits, signedSize, MeasureAt, MeasuresAt};
+ghost use Rattle.text_read.specs.Found.{numberIn, sizeIn, SizeFits, signedSize, MeasureBehind, MeasuresAt};
 
 pub enum NumberRead {
     Number(u64),
@@ -20,7 +21,8 @@ pub enum MeasureRead {
     NoMeasure,
 }
 
-// Four measures and where the last one's part ends. Where they are not found, measures and place are left free: all that holds of them is their type.
+// Four measures and where the last one's part ends. Where they are not found, measures and place are left free: all
+// that holds of them is their type.
 pub struct MeasuresRead {
     pub found: bool,
     pub measures: [i32; 4],
@@ -159,7 +161,7 @@ fn signed(size: NumberRead, negative: bool, end: usize) -> MeasureRead
 
 // The measure in the part behind one that ends at a place.
 fn measure(text: &[u8], end: usize, separator: u8, mark: u8) -> MeasureRead
-    ensures { λ r. ⌜ MeasureAt separator mark (now (text .entry)) (partsBehind separator (now (text .entry)) end) (measureAnswerOf r) ⌝ }
+    ensures { λ r. ⌜ MeasureBehind separator mark (now (text .entry)) end (measureAnswerOf r) ⌝ }
 {
     if text.len() <= end {
         return MeasureRead::NoMeasure;

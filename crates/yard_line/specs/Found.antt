@@ -54,7 +54,8 @@ dayIn usual (text ∷ next ∷ fields) = record { refusal = badForm; number = 0 
 unfoldable pub usualDay : ℕ → ℕ
 usualDay letter = elim (eqb letter letterA) [ true ↦ 1 | false ↦ 0 ]
 
--- the day of a line behind whose second field stands what its letter asks for: nothing behind a removal's tag, and else a profile and its day
+-- the day of a line behind whose second field stands what its letter asks for: nothing behind a removal's tag, and else
+-- a profile and its day
 unfoldable pub dayFor : ℕ → List (List ℕ) → Answer
 dayFor letter fields =
     elim (eqb letter letterR) [

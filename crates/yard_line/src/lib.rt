@@ -1,4 +1,5 @@
-// What a line says: a header, a command with its day, its profile. Every line of bytes is one of them or of another form. The fields are read in turn.
+// What a line says: a header, a command with its day, its profile. Every line of bytes is one of them or of another
+// form. The fields are read in turn.
 ghost use mathlib.Core.Path.{_≡_};
 ghost use mathlib.Core.Bool.{true, false};
 ghost use Prim.Native.Nat.{_≤_, _<_, _^_};
@@ -6,7 +7,8 @@ ghost use lib.ListN.{length};
 ghost use Rattle.text_rules.specs.Text.{space};
 ghost use Rattle.text_read.specs.Parts.{partsBehind};
 ghost use Rattle.yard_rules.specs.Line.{hasProfile, profileIn, headerIn, commandIn};
-ghost use Rattle.yard_line.specs.Found.{wordAnswerOf, wordIn, CodeAt, ProfileAt, usualDay, dayIn, dayFor, commandOf};
+ghost use Rattle.yard_line.specs.Found.{wordAnswerOf, wordIn, CodeAt, ProfileAt};
+ghost use Rattle.yard_line.specs.Found.{usualDay, dayIn, dayFor, commandOf};
 use metric_rules::Profile;
 use text_read::NumberRead;
 use yard_rules::Command;
@@ -18,7 +20,8 @@ pub enum WordRead {
     NoWord,
 }
 
-// Where no code or profile is found, the words, the profile and its end are left free: all that holds of them is their type.
+// Where no code or profile is found, the words, the profile and its end are left free: all that holds of them is their
+// type.
 pub struct CodeRead {
     pub found: bool,
     pub words: [u64; 2],
@@ -151,7 +154,8 @@ pub fn profile(line: &[u8]) -> Profile
     profile
 }
 
-// The day behind a code that ends at a place: the usual one where nothing stands there, and none where it is not one day and nothing more.
+// The day behind a code that ends at a place: the usual one where nothing stands there, and none where it is not one
+// day and nothing more.
 fn day_behind(line: &[u8], code_end: usize, usual: u32) -> WordRead
     ensures { λ r. ⌜ wordAnswerOf r ≡ dayIn usual (partsBehind space (now (line .entry)) «code_end») ⌝ }
 {

@@ -1,5 +1,5 @@
-// Behind index.js in a worker: an index of its own that only drafts. At 4,096 head 32 radii take half a second, in which
-// the page must not stand still; a load takes some milliseconds.
+// Behind index.js in a worker: an index of its own that only drafts. At 4,096 head 32 radii take half a second, in
+// which the page must not stand still; a load takes some milliseconds.
 
 let starting;
 

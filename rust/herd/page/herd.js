@@ -49,13 +49,13 @@ function readMeasure(typed) {
 function readCode(typed) {
   const digits = typed.trim().toLowerCase();
   if (digits === "" || digits === "-") return NO_CODE;
-  if (!/^[0-9a-f]{32}$/.test(digits)) throw new Mistyped(`a coat code is 32 hex digits, not ${digits.length}, or empty`);
+  if (!/^[0-9a-f]{32}$/.test(digits)) throw new Mistyped("a coat code is 32 hex digits, or empty");
   return [digits.slice(0, 16), digits.slice(16)].map(half => BigInt(`0x${half}`));
 }
 
 function readWhole(typed, most) {
-  const digits = typed.trim();
-  if (!/^\d+$/.test(digits) || Number(digits) > most) throw new Mistyped(`a whole number up to ${grouped(most)} belongs here`);
+  const digits = typed.trim(), isWhole = /^\d+$/.test(digits) && Number(digits) <= most;
+  if (!isWhole) throw new Mistyped(`a whole number up to ${grouped(most)} belongs here`);
   return Number(digits);
 }
 
@@ -79,7 +79,8 @@ class Herd {
     this.head.sort((a, b) => a.tag < b.tag ? -1 : 1);
     this.byTag = new Map(this.head.map(head => [head.tag, head]));
     // How far the others are from the head of the lowest tag, which leads the first lot.
-    this.away = this.head.length ? index.range(this.head[0], ANY_DISTANCE, ANY_DAY).map(({ distance }) => distance) : [0];
+    const away = this.head.length ? index.range(this.head[0], ANY_DISTANCE, ANY_DAY) : [{ distance: 0 }];
+    this.away = away.map(({ distance }) => distance);
   }
 
   get metric() { return METRICS[this.table.metric]; }
@@ -89,8 +90,11 @@ class Herd {
   get removed() { return this.table.buckets.reduce((sum, { built, live }) => sum + built - live, 0); }
   // By this radius all are one lot.
   get farthest() { return this.away.at(-1); }
-  // One to begin with: by it the first lot has as many head as there are such lots, more or less.
-  get likelyRadius() { return Number(this.away[Math.floor(Math.sqrt(this.away.length))]?.toPrecision(2) ?? this.farthest); }
+  // One to begin with, by which the first lot has as many head as there are such lots, more or less.
+  get likelyRadius() {
+    const place = Math.min(this.away.length - 1, Math.floor(Math.sqrt(this.away.length)));
+    return Number(this.away[place].toPrecision(2));
+  }
 
   // All head whose tag has these digits in it.
   matching(digits) {
@@ -137,7 +141,7 @@ function replacing(index, tag, add) {
 const startsWith = (bytes, ...begin) => begin.every((byte, i) => bytes[i] === byte);
 const LINE_FEED = 10, CARRIAGE_RETURN = 13;
 
-// A list as the call reads it: a spreadsheet may write a byte order mark, carriage returns, and no line feed at the end.
+// A list as the call reads it: a spreadsheet may write a byte order mark, carriage returns, no line feed at the end.
 function tidied(bytes) {
   if (startsWith(bytes, 0xff, 0xfe) || startsWith(bytes, 0xfe, 0xff)) {
     throw new Mistyped("it is saved as UTF-16; save it as UTF-8, in a spreadsheet as CSV UTF-8");

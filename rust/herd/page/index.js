@@ -1,5 +1,5 @@
-// A herd in the proved calls: their areas, laid out once for the largest order, and what they answer as plain lists. The
-// page has one, and each of its workers another. What the calls do and refuse is told in vpindex.h.
+// A herd in the proved calls: their areas, laid out once for the largest order, and what they answer as plain lists.
+// The page has one, and each of its workers another. What the calls do and refuse is told in vpindex.h.
 
 const MAX_HEAD = resultEntries(MAX_ORDER), ANY_DISTANCE = 0xffffffff;
 // What the words of a row are, behind the tag and the profile.

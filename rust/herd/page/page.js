@@ -348,6 +348,9 @@ function imageFault(refusal) {
 
 function addList(bytes) {
   const day = typedWhole(at("list-day"), MAX_DAY), list = tidied(bytes);
+  if (startsWith(list, ...new TextEncoder().encode("tag,"))) {
+    throw new Mistyped("it is a list as `herd list --csv` writes it, which `herd read` takes; this is for a scale head's");
+  }
   if (!herd) index.fresh(...typedStart());
   const { added, replaced, refused } = readList(index, list, day, at("list-again").checked);
   const more = refused.length - TOLD_LINES;

@@ -85,9 +85,6 @@ mod tests {
             ("list", list([number(1), number("-0.05"), text("a\"b\\c\né")])),
             ("empty", object([])),
         ]);
-        assert_eq!(
-            value.to_string(),
-            r#"{"none":null,"truth":true,"list":[1,-0.05,"a\"b\\c\u000aé"],"empty":{}}"#
-        );
+        assert_eq!(value.to_string(), r#"{"none":null,"truth":true,"list":[1,-0.05,"a\"b\\c\u000aé"],"empty":{}}"#);
     }
 }

@@ -277,10 +277,10 @@ def hold_day(browser, folder):
 
     page.see("at('files').open = true")
     page.type("#list-day", "412")
-    hold("a list is read", told_after(page, lambda: give(page, EXAMPLES / "herd.list")), "8 added, 0 replaced, 0 refused")
-    herd("read", image, EXAMPLES / "herd.list", "--day", 412)
+    hold("a list is read", told_after(page, lambda: give(page, EXAMPLES / "sound.list")), "8 added, 0 replaced, 0 refused")
+    herd("read", image, EXAMPLES / "sound.list", "--day", 412)
     sheet = folder / "sheet.list"
-    text = (EXAMPLES / "herd.list").read_text().replace("412,50", "420,00").replace("\n", "\r\n").rstrip("\r\n")
+    text = (EXAMPLES / "sound.list").read_text().replace("412,50", "420,00").replace("\n", "\r\n").rstrip("\r\n")
     sheet.write_bytes(b"\xef\xbb\xbf" + text.encode())
     page.type("#list-day", "413")
     page.click("#list-again")
@@ -316,6 +316,43 @@ def hold_day(browser, folder):
     hold_refused(page, image, folder)
     hold_rebuilt(page, image, folder)
     hold_alone(page)
+    page.close()
+
+
+def hold_documented(browser, folder):
+    """The day of the document's first part, in the page and by the program."""
+    image, right = folder / "documented.img", folder / "right.list"
+    right.write_text((EXAMPLES / "fault.list").read_text().replace("409.00", "409,00"))
+    herd("new", image, "--head", 300, "--metric", "sum")
+    herd("read", image, EXAMPLES / "sound.list", "--day", 320)
+    herd("read", image, EXAMPLES / "fault.list", "--day", 321, "--replace", status=1)
+    herd("read", image, right, "--day", 321, "--replace")
+    code = "00ff" * 8
+    herd("add", image, "036000000000120", "455.00", "131.00", "190.00", "1.10", code, "--day", 321)
+    page = Page(browser, folder / "empty.html", 1280, 900)
+    wait(page, "index")
+    page.see("at('order').value = 9")
+    page.click("#start")
+    page.click("#files summary")
+    page.type("#list-day", "320")
+    told = told_after(page, lambda: give(page, EXAMPLES / "sound.list"))
+    hold("documented: the first list", told, "8 added, 0 replaced, 0 refused")
+    page.type("#list-day", "321")
+    page.click("#list-again")
+    told = told_after(page, lambda: give(page, EXAMPLES / "fault.list"))
+    hold("documented: the second list", told, "0 added, 7 replaced, 1 refused. line 5: a line of the list is not of the form")
+    told = told_after(page, lambda: give(page, right))
+    hold("documented: the second list, put right", told, "0 added, 8 replaced, 0 refused")
+    hold("documented: a head is added", weigh(page, "036000000000120", ["455", "131", "190", "1.1"], 321, code),
+         "036000000000120 was added")
+    page.type("#radius", "20.00")
+    drafted(page, 2000)
+    hold("documented: lots by 20.00", page.text("#drafted"), "6 lots, the largest of 3 head")
+    page.type("#tag", "036000000000106")
+    page.click("#remove")
+    hold("documented: one is removed", page.text("#size"), "8 head")
+    page.click("#undo")
+    hold("documented: the same image", bytes(page.see("[...herd.image]")), image.read_bytes())
     page.close()
 
 
@@ -364,6 +401,8 @@ def hold_refused(page, image, folder):
             ("header.list", b"tag;kg\n", f"Refused: {header}"),
             ("wide.list", "\ufefftag;kg;hip;girth;gain\n".encode("utf-16-le"),
              "Refused: it is saved as UTF-16; save it as UTF-8, in a spreadsheet as CSV UTF-8"),
+            ("yard.csv", b"tag,day,kg,hip,girth,gain,code\n", "Refused: it is a list as `herd list --csv` writes it, "
+             "which `herd read` takes; this is for a scale head's"),
             ("fault.list", (EXAMPLES / "fault.list").read_bytes(), None)]:
         (folder / what).write_bytes(bad)
         told = told_after(page, lambda: give(page, folder / what))
@@ -576,7 +615,7 @@ def make(folder):
         herd("new", folder / f"{name}.img", "--order", order, "--metric", metric, *more)
         head = [] if name == "eight" else list(list_of(rng, count))
         (folder / f"{name}.list").write_text(scale(head))
-        listed = EXAMPLES / "herd.list" if name == "eight" else folder / f"{name}.list"
+        listed = EXAMPLES / "sound.list" if name == "eight" else folder / f"{name}.list"
         herd("read", folder / f"{name}.img", listed, "--day", 300)
     tags = [head["tag"] for head in answer("list", folder / "worst.img")]
     herd("remove", folder / "worst.img", "-", given="\n".join(rng.sample(tags, 60)))
@@ -599,7 +638,7 @@ def main():
         try:
             if "--picture" in sys.argv:
                 page = opened(browser, folder / "full.img.html", 1280, 900)
-                page.see("chooseHead(herd.head[0].tag); scrollTo(0, 0)")
+                page.see("chooseHead(herd.head[0].tag); document.activeElement.blur(); scrollTo(0, 0)")
                 time.sleep(.5)
                 Path(sys.argv[sys.argv.index("--picture") + 1]).write_bytes(page.picture(1280, 1240))
                 return
@@ -612,6 +651,7 @@ def main():
                 hold(f"{image}: the browser complains of nothing", page.told()[0], [])
                 page.close()
             hold_day(browser, folder)
+            hold_documented(browser, folder)
             hold_looks(browser, folder / "full.img.html", Native(folder / "full.img"))
         finally:
             browser.close()

@@ -1,7 +1,7 @@
 //! One error for everything that the crate refuses.
 
-use std::error::Error as StdError;
-use std::fmt;
+use core::error::Error as CoreError;
+use core::fmt;
 
 use crate::{ExtendRefusal, ImageRefusal, ListRefusal, ParseError, Refusal};
 
@@ -49,7 +49,7 @@ impl Error {
         }
     }
 
-    fn held(&self) -> &(dyn StdError + 'static) {
+    fn held(&self) -> &(dyn CoreError + 'static) {
         match self {
             Error::Refused(refusal) => refusal,
             Error::Text(error) => error,
@@ -67,8 +67,8 @@ impl fmt::Display for Error {
 }
 
 /// Its source is that of what it holds, whose words are its own.
-impl StdError for Error {
-    fn source(&self) -> Option<&(dyn StdError + 'static)> {
+impl CoreError for Error {
+    fn source(&self) -> Option<&(dyn CoreError + 'static)> {
         self.held().source()
     }
 }

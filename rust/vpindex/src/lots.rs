@@ -1,7 +1,10 @@
 //! Items drafted into lots.
 
+use alloc::{vec, vec::Vec};
+use core::ops::Deref;
+
 use crate::ffi::{self, MAX_RADII};
-use crate::{Order, Refusal, Tag};
+use crate::{Order, Refusal, Row, Table, Tag};
 
 /// What a radius drafts the items of a table into.
 #[derive(Clone, Copy, Debug, Default, PartialEq, Eq, Hash)]
@@ -88,6 +91,59 @@ impl Lots {
         self.tags.shrink_to_fit();
         self.ends.shrink_to_fit();
         self
+    }
+}
+
+impl<A: Deref<Target = [Row]>> Table<A> {
+    /// The items drafted into lots by each of 1 to 32 radii, with the lots by one of them, chosen by its place in the list
+    /// from 1. By a radius the item of the lowest tag that is in no lot yet leads one, of itself and of every other in no
+    /// lot yet within the radius of it, until all are in one.
+    ///
+    /// ```
+    /// use vpindex::{Day, Metric, Order, Profile, Table, Tag};
+    ///
+    /// let mut table = Table::new(Order::new(4)?, Metric::SumOfDifferences);
+    /// let tags: Vec<Tag> = (1..=4).map(|national| Tag::new(36, national)).collect::<Result<_, _>>()?;
+    /// for (&tag, weight) in tags.iter().zip([41_000, 45_000, 43_500, 41_800]) {
+    ///     table.add(tag, &Profile::new([weight, 0, 0, 0], [0, 0])?, Day::MIN)?;
+    /// }
+    ///
+    /// let lots = table.lots(&[500, 1_500, 2_500], 2)?;
+    /// assert_eq!(lots.by_radius().iter().map(|drafted| drafted.lots).collect::<Vec<_>>(), [4, 2, 2]);
+    /// assert_eq!(lots.iter().collect::<Vec<_>>(), [[tags[0], tags[3]], [tags[1], tags[2]]]);
+    /// # Ok::<(), vpindex::Error>(())
+    /// ```
+    ///
+    /// # Errors
+    ///
+    /// [`Refusal::BadRadii`] if there are not 1 to 32 radii, or the chosen place is not in their list.
+    pub fn lots(&self, radii: &[u32], chosen: u32) -> Result<Lots, Refusal> {
+        let mut lots = Lots::new(self.order());
+        self.lots_into(radii, chosen, &mut lots)?;
+        Ok(lots.trimmed())
+    }
+
+    /// As [`Table::lots`], in place of what was drafted before, and with nothing allocated.
+    ///
+    /// ```
+    /// use vpindex::{Day, Lots, Metric, Order, Profile, Table, Tag};
+    ///
+    /// let mut table = Table::new(Order::new(4)?, Metric::SumOfDifferences);
+    /// let mut lots = Lots::new(table.order());
+    /// for (national, kilos) in [(1, 41_000), (2, 45_000), (3, 43_500)] {
+    ///     table.add(Tag::new(36, national)?, &Profile::new([kilos, 0, 0, 0], [0, 0])?, Day::MIN)?;
+    ///     table.lots_into(&[2_000], 1, &mut lots)?;
+    /// }
+    /// assert_eq!((lots.len(), lots.by_radius()[0].largest), (2, 2));
+    /// # Ok::<(), vpindex::Error>(())
+    /// ```
+    ///
+    /// # Errors
+    ///
+    /// [`Refusal::ShortArea`] if the lots have room for a lower order alone, and else as [`Table::lots`]. Nothing is
+    /// drafted then.
+    pub fn lots_into(&self, radii: &[u32], chosen: u32, lots: &mut Lots) -> Result<(), Refusal> {
+        lots.fill(radii.len(), |work, summary, listing| ffi::lots(&self.rows, work, radii, summary, listing, chosen))
     }
 }
 

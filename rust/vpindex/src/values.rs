@@ -1,7 +1,7 @@
 //! Arguments that are checked once, when they are made.
 
-use std::fmt;
-use std::num::NonZeroU16;
+use core::fmt;
+use core::num::NonZeroU16;
 
 use crate::{Refusal, ffi};
 
@@ -14,7 +14,11 @@ pub(crate) const LAST_NATIONAL: u64 = 274_877_906_943;
 pub struct Tag(u64);
 
 impl Tag {
-    /// From its two parts; else [`Refusal::BadTag`].
+    /// From its two parts.
+    ///
+    /// # Errors
+    ///
+    /// [`Refusal::BadTag`] if one is not in its range.
     pub const fn new(country: u32, national: u64) -> Result<Tag, Refusal> {
         let is_valid = 1 <= country && country <= 999 && national <= LAST_NATIONAL;
         if is_valid { Ok(Tag(country as u64 * COUNTRY + national)) } else { Err(Refusal::BadTag) }
@@ -59,7 +63,11 @@ impl Profile {
     /// The largest measure; the least is its negative.
     pub const MAX_MEASURE: i32 = 1_000_000;
 
-    /// With any code, and measures in their range; else [`Refusal::BadMeasure`].
+    /// Of four measures and any code.
+    ///
+    /// # Errors
+    ///
+    /// [`Refusal::BadMeasure`] if a measure is not in its range.
     pub const fn new(measures: [i32; 4], code: [u64; 2]) -> Result<Profile, Refusal> {
         const fn fits(measure: i32) -> bool {
             -Profile::MAX_MEASURE <= measure && measure <= Profile::MAX_MEASURE
@@ -127,7 +135,11 @@ impl Day {
     /// Day 65,535.
     pub const MAX: Day = Day(NonZeroU16::MAX);
 
-    /// Any but 0; else [`Refusal::BadDay`].
+    /// Of any number but 0.
+    ///
+    /// # Errors
+    ///
+    /// [`Refusal::BadDay`] if it is 0.
     pub const fn new(day: u16) -> Result<Day, Refusal> {
         match NonZeroU16::new(day) {
             Some(day) => Ok(Day(day)),
@@ -174,7 +186,11 @@ impl Weights {
     /// Every measure counts as it is.
     pub const ONE: Weights = Weights(ffi::Weights { each: [1; 4] });
 
-    /// Of the four measures in their order, each at most [`Weights::MAX`]; else [`Refusal::BadWeight`].
+    /// Of the four measures in their order.
+    ///
+    /// # Errors
+    ///
+    /// [`Refusal::BadWeight`] if one is above [`Weights::MAX`].
     pub const fn new(each: [u32; 4]) -> Result<Weights, Refusal> {
         let [a, b, c, d] = each;
         let is_valid = a <= Weights::MAX && b <= Weights::MAX && c <= Weights::MAX && d <= Weights::MAX;
@@ -230,12 +246,20 @@ impl Order {
     /// 4,096 items.
     pub const MAX: Order = Order(12);
 
-    /// 0 to 12; else [`Refusal::BadOrder`].
+    /// 0 to 12.
+    ///
+    /// # Errors
+    ///
+    /// [`Refusal::BadOrder`] if it is another.
     pub const fn new(order: u32) -> Result<Order, Refusal> {
         if order <= Order::MAX.0 { Ok(Order(order)) } else { Err(Refusal::BadOrder) }
     }
 
-    /// The least order whose tables hold so many items; [`Refusal::BadOrder`] where none does.
+    /// The least order whose tables hold so many items.
+    ///
+    /// # Errors
+    ///
+    /// [`Refusal::BadOrder`] where none does.
     pub const fn holding(items: usize) -> Result<Order, Refusal> {
         let mut order = Order::MIN;
         while order.capacity() < items && order.0 < Order::MAX.0 {
@@ -254,18 +278,24 @@ impl Order {
         1 << self.0
     }
 
-    pub(crate) fn table_rows(self) -> usize {
+    /// How many rows the area of a table of this order has.
+    pub const fn table_rows(self) -> usize {
         self.0 as usize + 1 + (2 << self.0)
     }
 
-    // of an image with so many built slots
-    pub(crate) fn image_bytes(self, built: usize) -> usize {
-        8 + 4 * (self.0 as usize + 1) + 50 * built
+    /// How many rows the work area has beside it.
+    pub const fn work_rows(self) -> usize {
+        1 << self.0
     }
 
-    // every slot of every bucket built
-    pub(crate) fn most_image_bytes(self) -> usize {
-        self.image_bytes((2 << self.0) - 1)
+    /// As many bytes as any image of this order can have: every slot of every bucket built.
+    pub const fn image_bytes(self) -> usize {
+        self.bytes_of_image((2 << self.0) - 1)
+    }
+
+    // with so many built slots
+    pub(crate) const fn bytes_of_image(self, built: usize) -> usize {
+        8 + 4 * (self.0 as usize + 1) + 50 * built
     }
 }
 
@@ -315,7 +345,11 @@ impl Name {
     /// How many names there are.
     pub const COUNT: usize = 8;
 
-    /// 1 to 8; else [`Refusal::BadName`].
+    /// 1 to 8.
+    ///
+    /// # Errors
+    ///
+    /// [`Refusal::BadName`] if it is another.
     pub const fn new(name: u32) -> Result<Name, Refusal> {
         if 1 <= name && name <= Name::COUNT as u32 { Ok(Name(name)) } else { Err(Refusal::BadName) }
     }

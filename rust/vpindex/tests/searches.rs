@@ -18,13 +18,16 @@ thread_local! {
     static ALLOCATED: Cell<u32> = const { Cell::new(0) };
 }
 
+// SAFETY: it is the system's own, and counting allocates nothing.
 unsafe impl GlobalAlloc for Counting {
     unsafe fn alloc(&self, layout: Layout) -> *mut u8 {
         ALLOCATED.with(|allocated| allocated.set(allocated.get() + 1));
+        // SAFETY: as the caller says.
         unsafe { System.alloc(layout) }
     }
 
     unsafe fn dealloc(&self, memory: *mut u8, layout: Layout) {
+        // SAFETY: as the caller says.
         unsafe { System.dealloc(memory, layout) }
     }
 }

@@ -1,5 +1,5 @@
-//! `herd page`: a page with the proved calls in it, and a herd. Here it is put together; whatever it shows it asks of the
-//! calls itself.
+//! `herd page`: a page with the proved calls in it, and a herd. Here it is put together; whatever it shows it asks of
+//! the calls itself.
 
 use std::ffi::OsStr;
 use std::fs::{self, File};
@@ -103,7 +103,9 @@ mod tests {
     fn put_together() {
         let page = with_herd("a\"<b>&{{module}}.img", &[1, 2, 3]);
         assert!(page.contains("data-name=\"a&quot;&lt;b>&amp;{{module}}.img\">AQID</script>"));
-        assert_eq!(page.matches("{{").count(), 1, "every place is filled but the one in the name");
+        let places = PAGE.split("{{").skip(1).map(|rest| rest.split("}}").next().unwrap_or_default());
+        let unfilled: Vec<&str> = places.filter(|place| page.contains(&format!("{{{{{place}}}}}"))).collect();
+        assert_eq!(unfilled, ["module"], "but for the one in the name");
         assert!(!page.contains("\nexport "));
         // nothing from here ends a script before its end
         assert_eq!(page.matches("</script").count(), PAGE.matches("</script").count());
