@@ -9,6 +9,11 @@
 #error "vpindex is for little-endian processors: on this one rows and images would have other bytes"
 #endif
 
+#ifdef __ARM_EABI__
+/* No float is passed, so that it links with programs that pass theirs in either way; cross.sh says it of the module. */
+__asm__(".eabi_attribute Tag_ABI_VFP_args, 3");
+#endif
+
 /* The proved code finds every field at the place that it has on x86-64. */
 #define PLACE(type, field, at) _Static_assert(offsetof(type, field) == (at), "a field is in another place")
 #define BYTES(type, bytes) _Static_assert(sizeof(type) == (bytes), "a struct has another size")

@@ -1,7 +1,7 @@
-// vpindex in JavaScript: the proved calls of include/vpindex.h, compiled to WebAssembly. That header says what each call
-// does, what it needs and what it refuses, in which order. A caller makes areas, lends them to calls and reads them
-// afterwards. A refusal is thrown, in the header's words. Tags and code words are BigInts, all else is a plain number;
-// one that does not fit its type is a RangeError and is never cut. Nothing else in JavaScript needs to know an address.
+// vpindex in JavaScript: the proved calls of include/vpindex.h, compiled to WebAssembly. That header says what each
+// call does, needs and refuses, in which order. A caller makes areas, lends them to calls and reads them afterwards. A
+// refusal is thrown, in the header's words. Tags and code words are BigInts, all else is a plain number; one that does
+// not fit its type is a RangeError and is never cut. Nothing else in JavaScript needs to know an address.
 //
 //     const vpindex = await start(bytes of vpindex.wasm);
 

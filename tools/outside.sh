@@ -54,8 +54,8 @@ needs() {
         ! grep ' U ' "$out/undefined" | grep -Ev ' mem(set|cpy|move|cmp)$'
 }
 list() { sh examples/list.sh "$@"; }
-# How many bytes a page has is not looked at.
-herd() { sh examples/herd.sh > "$out/herd.txt" && sed 's/[0-9]* bytes, /so many bytes, /' "$out/herd.txt"; }
+# How many bytes the page has, and where it is, is not looked at.
+herd() { sh examples/herd.sh > "$out/herd.txt" && sed 's/[0-9]* bytes, /so many bytes, /; s,^/.*/,/,' "$out/herd.txt"; }
 # A list that is not there is named.
 no_list() { ! list examples/none.list 2> "$out/said" && grep -q '^examples/none.list: ' "$out/said"; }
 # Built by cargo in a folder that the caller names from where the caller is.
@@ -68,10 +68,11 @@ read_only() {
         example crates/yard/stdout reader sh examples/yard.sh &&
         mkdir -p -m 777 "$out/reader" &&
         TMPDIR="$PWD/$out/reader" reader sh examples/herd.sh > "$out/written" &&
-        tail -n 1 "$out/written" | grep -q '^yard.html is written: ' && rm -r "$out/reader"
+        [ -f "$(tail -n 1 "$out/written")" ] && rm -r "$out/reader"
 }
 
 step archive sh tools/build.sh vpindex
+step wasm sh tools/build.sh vpindex --target wasm32
 step quickstart-example example c/quickstart.expected sh examples/quickstart.sh
 step list-example example examples/list.expected list
 step list-refused example examples/list-fault.expected refused list examples/fault.list
@@ -110,8 +111,14 @@ if command -v c++ > /dev/null; then
     step c++-rows cxx17 c/rows.c
     step c++-readme cxx17 "$out/first.c"
 fi
+if [ "$VPINDEX_LIB_DIR" = "$PWD/target/staticlib" ]; then
+    step targets sh tools/targets.sh
+    sed -n '/^not tested/p' "$out/targets.log"
+fi
 herd=$(sh tools/program.sh herd 2> "$out/herd.log")
-step herd-on-a-terminal python3 tools/herd_terminal.py "$herd"
-if command -v chromium > /dev/null; then
-    step herd-page python3 tools/herd_page.py "$herd"
+step herd-on-a-terminal python3 rust/herd/tests/terminal.py "$herd"
+if python3 rust/herd/tests/browser.py; then
+    step herd-page python3 rust/herd/tests/page.py "$herd"
+else
+    echo 'outside: herd-page was not tested: there is no chromium'
 fi

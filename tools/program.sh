@@ -6,6 +6,10 @@ set -eu
 here=$PWD
 cd "$(dirname "$0")/.."
 sh tools/build.sh vpindex
+# The page that herd writes has the calls in it. VPINDEX_WASM, a full path, names another vpindex.wasm.
+if [ "$1" = herd ] && [ -z "${VPINDEX_WASM:-}" ] && [ ! target/wasm32/vpindex.wasm -nt target/staticlib/libvpindex.a ]; then
+    sh tools/build.sh vpindex --target wasm32 >&2
+fi
 folder=${CARGO_TARGET_DIR:-$PWD/target/rust}
 case $folder in
     /*) ;;

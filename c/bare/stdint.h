@@ -7,5 +7,6 @@ typedef __UINT16_TYPE__ uint16_t;
 typedef __UINT32_TYPE__ uint32_t;
 typedef __UINT64_TYPE__ uint64_t;
 typedef __UINTPTR_TYPE__ uintptr_t;
+#define UINT32_C(number) number##U
 #define UINT64_C(number) number##ULL
 #endif

@@ -69,10 +69,13 @@ begin-paid :
     {u : Table} → Invariant u → (live slots : ℕ) → liveTotal u ≡ live → below (builtOf u) (suc (orderOf u)) ≡ slots → Paid u (counts live (slots - live) 0)
 unfolding due potentialOf liveTotal below bucketsOf
 begin-paid {u} invariant live slots lives builts =
-    let held = begin-pays (orderOf u) (builtOf u) (liveOf u) (λ k h. size-room k (builtOf u k) (liveOf u k) (sizes-at (orderOf u) (builtOf u) (liveOf u) (invariant .sizes) k h) .0) in
+    let held =
+    begin-pays (orderOf u) (builtOf u) (liveOf u)
+    (λ k h. size-room k (builtOf u k) (liveOf u k) (sizes-at (orderOf u) (builtOf u) (liveOf u) (invariant .sizes) k h) .0) in
     let dead : below (builtOf u) (suc (orderOf u)) - below (liveOf u) (suc (orderOf u)) ≡ slots - live = omega (arith, lives, builts) in
     let some : below (liveOf u) (suc (orderOf u)) ≡ live = omega (arith, lives) in
-    let same : orderOf u * (4 * (orderOf u + 1) * below (liveOf u) (suc (orderOf u)) + 11 * (below (builtOf u) (suc (orderOf u)) - below (liveOf u) (suc (orderOf u))))
+    let same : orderOf u *
+    (4 * (orderOf u + 1) * below (liveOf u) (suc (orderOf u)) + 11 * (below (builtOf u) (suc (orderOf u)) - below (liveOf u) (suc (orderOf u))))
     ≡ orderOf u * (4 * (orderOf u + 1) * live + 11 * (slots - live)) =
     ap₂ (λ (a r : ℕ). orderOf u * (4 * (orderOf u + 1) * a + 11 * r)) some dead
     in
@@ -94,7 +97,8 @@ fresh-paid left t order space is e =
 -- the image's slots and its slots of mark 0, in the model's figures
 live-counted : (image : List ℕ) → length (liveRows image) ≡ length (select (λ i. eqb (markIn image i) 0) (countFrom 0 (slotsInAll image)))
 live-counted image =
-    sym (length-map (liveRows image) itemOf) ∙ ap length (items-read image) ∙ length-map (select (λ i. eqb (markIn image i) 0) (countFrom 0 (slotsInAll image))) (itemRead image)
+    sym (length-map (liveRows image) itemOf) ∙ ap length (items-read image)
+    ∙ length-map (select (λ i. eqb (markIn image i) 0) (countFrom 0 (slotsInAll image))) (itemRead image)
 
 loaded-paid : (left t : Table) (image : List ℕ) → All (λ b. b < 2 ^ 8) image → loadRefusal (length t) image ≡ 0
     → Paid (leftBy left (loadedTable image t)) (imageSums image)
@@ -117,9 +121,11 @@ load-paid : (left t : Table) (image : List ℕ) → All (λ b. b < 2 ^ 8) image 
     → Paid (leftBy left (tableAfterLoad image t)) (imageSums image)
 unfolding tableAfterLoad
 load-paid left t image bytes e =
-    subst (λ (n : ℕ). Paid (leftBy left (elim n as (λ _. Table) [ zero ↦ loadedTable image t | suc j ↦ t ])) (imageSums image)) (sym e) (loaded-paid left t image bytes e)
+    subst (λ (n : ℕ). Paid (leftBy left (elim n as (λ _. Table) [ zero ↦ loadedTable image t | suc j ↦ t ])) (imageSums image)) (sym e)
+    (loaded-paid left t image bytes e)
 
-pub begun-paid : (left t : Table) (b : Begin) → IsBegin b → beginShown b (beginReply b (length t)) .refusal ≡ 0 → Paid (leftBy left (tableBegun b t)) (starting b)
+pub begun-paid : (left t : Table) (b : Begin) → IsBegin b → beginShown b (beginReply b (length t)) .refusal ≡ 0
+    → Paid (leftBy left (tableBegun b t)) (starting b)
 unfolding beginShown tableAfterFresh starting loadRefusal restoreRefusal
 begun-paid left t (fresh order space) is e =
     subst (λ (n : ℕ). Paid (leftBy left (elim n as (λ _. Table) [ zero ↦ freshTable order space t | suc j ↦ t ])) (starting (fresh order space))) (sym e)

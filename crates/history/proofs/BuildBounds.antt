@@ -3,13 +3,13 @@
 -- too short to be marked would be, with those of a lower bucket: within the room of bucket k.
 use Prim.Native.Nat.{ℕ, zero, suc, _+_, _-_, _*_, _^_, _≤_, _<_}
 use native.Mathlib.Omega.{arith}
-use native.Mathlib.Nat.{mul-le-mul-left}
+use native.Mathlib.Nat.{mul-le-mul-left, mul-le-mul-right, suc-mul}
 use native.Mathlib.Decide.{ℕ-discrete}
-use mathlib.Core.Path.{_≡_, refl, ap, _∙_}
+use mathlib.Core.Path.{_≡_, refl, ap, _∙_, subst}
 use mathlib.Core.Bool.{Bool, true, false}
 use mathlib.Core.List.{List, [], _∷_, flatten}
 use mathlib.Core.Option.{Option, none, some}
-use lib.ListN.{length, getD, set, length-append}
+use lib.ListN.{length, getD, set, take, length-append, length-take}
 use Rattle.lists.specs.Lists.{select}
 use Rattle.metric_rules.specs.declared.Profile.{Profile}
 use Rattle.metric_rules.specs.Row.{Row, word, isLive, withMark}
@@ -23,7 +23,7 @@ use Rattle.table_rules.specs.Table.{Table, rowAt, orderOf, liveOf, slotsOf, liv
 use Rattle.table_rules.specs.Rebuild.{Rebuilt, liveItems, rebuilt}
 use Rattle.table_rules.specs.Checks.{changeRefusal}
 use Rattle.table_rules.specs.LookUp.{Place, find}
-use Rattle.table_rules.specs.Add.{addRefusal, gathered, addTarget, added, addReply}
+use Rattle.table_rules.specs.Add.{addRefusal, gathered, addTarget, added, addReply, tableAfterAdd, workAfterAdd}
 use Rattle.table_rules.specs.Remove.{removeRefusal, marked, united, moved, afterDeletion, removed, removeReply}
 use Rattle.table_rules.proofs.Chains.{or-zero}
 use Rattle.table_rules.proofs.Views.{kept-live-slots}
@@ -34,8 +34,13 @@ use Rattle.table_rules.proofs.Sizes.{room-zero, room-next}
 use Rattle.table_rules.proofs.Deletion.{Rebuilds, Deletion, deletion}
 use Rattle.table_rules.proofs.Deletion.Rebuilds.{unites-in-k, unites-lower, unites-between, moves}
 use Rattle.table_rules.proofs.Deletion.Deletion.{empties, ends, rebuilds}
+use Rattle.list_rules.specs.Lines.{ListLine, itemLines}
+use Rattle.list_rules.specs.Lines.ListLine.{anItem, malformed}
+use Rattle.list_rules.specs.ReadList.{readListReply}
+use Rattle.history.specs.Reports.{addsCost}
 use Rattle.history.specs.Demands.{BuildsBounded}
-use Rattle.history.proofs.Reporting.{within, slot-built, slot-room, only, one-less}
+use Rattle.history.proofs.Reporting.{within, slot-built, slot-room, only, one-less, reports}
+use Rattle.history.proofs.Framing.{frame}
 
 -- an element that passed is set to another: none more pass
 set-few : {A : Type 0} (test : A → Bool) (other : A) (xs : List A) (i : ℕ) (a : A) → i < length xs → test (getD xs i other) ≡ true
@@ -184,6 +189,44 @@ remove-most t work tag = go (removeRefusal t work tag) refl
     go zero e = removed-most (changeable work t (or-zero (changeRefusal (length work) t) _ e .0)) tag
     go (suc n) e = omega arith
 
+-- the lines of a herd list, each an add to what those before it left, in a table of the same order
+add-order : (t : Table) (work : List Row) (tag : ℕ) (p : Profile) (day : ℕ) → orderOf (tableAfterAdd t work tag p day) ≡ orderOf t
+unfolding orderOf rowAt word headerRow
+add-order t work tag p day = ap (λ (row : Row). getD row 0 0) (frame t work .adds tag p day .header)
+
+lines-most : (day : ℕ) (lines : List ListLine) (t : Table) (work : List Row)
+    → addsCost day t work lines ≤ length lines * (orderOf t * 2 ^ orderOf t)
+unfolding addsCost
+lines-most day [] t work = omega arith
+lines-most day (malformed ∷ lines) t work = omega arith
+lines-most day (anItem tag p ∷ lines) t work =
+    let u = tableAfterAdd t work tag p day in
+    let rest : addsCost day u (workAfterAdd t work tag p day) lines ≤ length lines * (orderOf t * 2 ^ orderOf t) =
+    subst (λ (order : ℕ). addsCost day u (workAfterAdd t work tag p day) lines ≤ length lines * (order * 2 ^ order)) (add-order t work tag p day)
+    (lines-most day lines u (workAfterAdd t work tag p day)) in
+    omega (
+      arith,
+      rest,
+      add-most t work tag p day,
+      reports t work .adds tag p day,
+      suc-mul (length lines) (orderOf t * 2 ^ orderOf t),
+    )
+
+list-most : (t : Table) (work : List Row) (list : List ℕ) (day : ℕ)
+    → readListReply t work list day .distances ≤ readListReply t work list day .added * (orderOf t * 2 ^ orderOf t)
+list-most t work list day =
+    let added = readListReply t work list day .added in
+    let most = orderOf t * 2 ^ orderOf t in
+    omega (
+      arith,
+      reports t work .lists list day,
+      lines-most day (take added (itemLines list)) t work,
+      mul-le-mul-right most (length-take-most added (itemLines list)),
+    )
+  where
+    length-take-most : (n : ℕ) (lines : List ListLine) → length (take n lines) ≤ n
+    length-take-most n lines = simp length-take (omega arith)
+
 pub builds-bounded : BuildsBounded
 unfolding orderOf rowAt word headerRow
-builds-bounded t work = record { adds = add-most t work; removes = remove-most t work }
+builds-bounded t work = record { adds = add-most t work; removes = remove-most t work; lists = list-most t work }

@@ -165,7 +165,8 @@ module _ {t : Table} {m : Model} (ok : Matches t m) where
         space = same-space (only .header) ∙ ok .space;
         same =
             List·Permᴰ·trans (perm-of-eq (items-live u))
-            (Permᴰ·symm (struck tag (itemOf (place .row)) (m .items) (map itemOf (allLive u)) (removed-tag (ok .invariant) tag place (there .1)) stay (tags-once ok)));
+            (Permᴰ·symm
+            (struck tag (itemOf (place .row)) (m .items) (map itemOf (allLive u)) (removed-tag (ok .invariant) tag place (there .1)) stay (tags-once ok)));
       }
 
 -- an accepted call that begins a table begins the model's, and a refused one leaves what lay there
@@ -176,7 +177,8 @@ fresh-matches order space four t e =
     subst (λ (n : ℕ). Matches (elim n as (λ _. Table) [ zero ↦ freshTable order space t | suc j ↦ t ]) (modelBegun (fresh order space))) (sym e)
     (matches-fresh order space t four e)
 
-after-load-matches : (image : List ℕ) (t : Table) → All (λ b. b < 2 ^ 8) image → loadRefusal (length t) image ≡ 0 → Matches (tableAfterLoad image t) (imageModel image)
+after-load-matches : (image : List ℕ) (t : Table) → All (λ b. b < 2 ^ 8) image → loadRefusal (length t) image ≡ 0
+    → Matches (tableAfterLoad image t) (imageModel image)
 unfolding tableAfterLoad
 after-load-matches image t bytes e =
     subst (λ (n : ℕ). Matches (elim n as (λ _. Table) [ zero ↦ loadedTable image t | suc j ↦ t ]) (imageModel image)) (sym e) (load-matches image t bytes e)
@@ -187,7 +189,8 @@ named-first zero reply e = refl
 named-first (suc n) reply e = e
 
 -- the image that an accepted restore loads, in the model's places
-pub accepted-image : (states : List ℕ) (name : ℕ) (t : Table) → restoreRefusal (length t) states name ≡ 0 → savedImage (partOf states name) ≡ imageIn states name
+pub accepted-image : (states : List ℕ) (name : ℕ) (t : Table) → restoreRefusal (length t) states name ≡ 0
+    → savedImage (partOf states name) ≡ imageIn states name
 unfolding restoreRefusal restoreReply
 accepted-image states name t e = restored-image states name (sym (restore-refusal states name) ∙ named-first (nameRefusal states name) _ e)
 
@@ -200,7 +203,8 @@ begin-matches (restore states name) is t e =
     let as-load = restored states name t e in
     let same : image ≡ imageIn states name = accepted-image states name t e in
     subst (λ (bytes : List ℕ). Matches (tableAfterRestore states name t) (imageModel bytes)) same
-    (subst (λ (u : Table). Matches u (imageModel image)) (sym (as-load .1)) (after-load-matches image t (image-all states name (λ b. b < 2 ^ 8) (is .0)) (as-load .0)))
+    (subst (λ (u : Table). Matches u (imageModel image)) (sym (as-load .1))
+    (after-load-matches image t (image-all states name (λ b. b < 2 ^ 8) (is .0)) (as-load .0)))
 
 pub begin-refused : (b : Begin) (t : Table) (n : ℕ) → beginShown b (beginReply b (length t)) .refusal ≡ suc n → tableBegun b t ≡ t
 unfolding beginShown tableAfterFresh tableAfterLoad loadRefusal restoreRefusal

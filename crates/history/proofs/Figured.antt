@@ -1,5 +1,5 @@
--- The model's own figures and the definitions of the calls say the same: of tags and measures, of what a weight pays, of a list's weights, of a batch's queries, and
--- of how lots are told. Test by test; a listing lot by lot.
+-- The model's own figures and the definitions of the calls say the same: of tags and measures, of what a weight pays, of a list's weights, of a batch's
+-- queries, and of how lots are told. Test by test; a listing lot by lot.
 use Prim.Native.Nat.{ℕ, suc, _+_, _-_, _*_, _/_, _%_, _≤_, _<_, max}
 use native.Mathlib.Omega.{arith}
 use mathlib.Core.Path.{_≡_, refl, sym, _∙_, ap, ap₂}
@@ -54,10 +54,14 @@ rounded n = go (leb 50 (n % 100)) refl
     go true e = let h : 50 ≤ n % 100 = leb-true 50 (n % 100) e in omega arith
     go false e = let h : n % 100 < 50 = leb-false 50 (n % 100) e in omega arith
 
+pub board-figured : (w : ℕ) → duesBy board w ≡ inCents (w * centsAKilo w)
+unfolding duesBy duesAt
+board-figured w = ap (λ (rate : ℕ). (w * rate + 50) / 100) (rate-is w) ∙ rounded (w * centsAKilo w)
+
 pays-is : (weight : Option ℤ) → pays weight ≡ paysFor weight
-unfolding pays paysFor duesBy duesAt
+unfolding pays paysFor
 pays-is none = refl
-pays-is (some (pos w)) = ap (λ (rate : ℕ). (w * rate + 50) / 100) (rate-is w) ∙ rounded (w * centsAKilo w)
+pays-is (some (pos w)) = board-figured w
 pays-is (some (negsuc w)) = refl
 
 pub dues-are : (weights : List (Option ℤ)) → duesOf weights ≡ map paysFor weights
@@ -109,7 +113,8 @@ batch-figured queries fit longer e =
     (test-all (λ query. validMeasures (profileOf query)) (λ query. measuresWithin (profileOf query)) (λ query. measures-within (profileOf query)) queries)
   where
     go : {number measures : Bool} (many valid : Bool) → number ≡ not many → measures ≡ valid
-        → orElse (unless number badBatch (unless measures badMeasure 0)) (unless fit noRoom 0) ≡ when many badBatch (unless valid badMeasure (when longer noRoom 0))
+        → orElse (unless number badBatch (unless measures badMeasure 0)) (unless fit noRoom 0)
+        ≡ when many badBatch (unless valid badMeasure (when longer noRoom 0))
     go {number} {measures} true valid f g =
         ap (λ (b : Bool). orElse (unless b badBatch (unless measures badMeasure 0)) (unless fit noRoom 0)) f
     go {number} {measures} false true f g =

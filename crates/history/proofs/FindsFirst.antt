@@ -36,7 +36,6 @@ use Rattle.table_rules.specs.Add.{addRefusal, addTarget, added, addReply}
 use Rattle.table_rules.specs.declared.Removed.{Removed}
 use Rattle.table_rules.specs.Rebuild.{Rebuilt}
 use Rattle.table_rules.specs.Remove.{removeRefusal, marked, afterDeletion, removed, removeReply, tableAfterRemove}
-use Rattle.dues_rules.specs.Board.{board, duesBy}
 use Rattle.dues_rules.specs.Listed.{mostListed, noDues, weightAt, isFound, isWeight, pays}
 use Rattle.dues_rules.specs.Listed.{weightsRefusal, weightsReply, areaAfter, duesRefusal, duesReply, duesAfter}
 use Rattle.table_rules.specs.LookUp.{Place, placeFrom, placeIn, find, isLiveTag, liveTagRefusal, lookUpRefusal, notFound, lookUpReply}
@@ -48,9 +47,11 @@ use Rattle.table_rules.proofs.Chains.{or-zero, unless-zero, when-zero, or-not, 
 use Rattle.table_rules.proofs.Changes.{marked-live}
 use Rattle.table_rules.proofs.Deletion.{Deletion, deletion}
 use Rattle.table_rules.proofs.Deletion.Deletion.{empties, ends, rebuilds}
+use Rattle.history.specs.Figures.{centsAKilo, inCents}
 use Rattle.history.specs.Places.{wordIn, builtSize, liveSize, slotRow, profileIn}
 use Rattle.history.specs.Slots.{TagAt, FirstAt, RepliesFirst, Struck, StrikesFirst, PaysFirst, NoneAt}
 use Rattle.history.specs.Demands.{FindsFirst}
+use Rattle.history.proofs.Figured.{board-figured}
 
 -- a slot that has the tag: its row is live, and its tag is that
 abbrev Has : ℕ → Row → Type 0
@@ -363,9 +364,9 @@ none-weighs : isWeight none ≡ true → ⊥
 unfolding isWeight
 none-weighs e = false≢true e
 
-pos-pays : (weight : ℕ) → pays (some (pos weight)) ≡ duesBy board weight
+pos-pays : (weight : ℕ) → pays (some (pos weight)) ≡ inCents (weight * centsAKilo weight)
 unfolding pays
-pos-pays weight = refl
+pos-pays weight = board-figured weight
 
 -- the weight found for a tag that is neither missing nor below 0, and what it pays
 weight-first : {t : Table} → Passed t → (tag : ℕ) → isWeight (weightAt t tag) ≡ true → PaysFirst t tag (pays (weightAt t tag))

@@ -15,7 +15,8 @@ use Rattle.lists.specs.Lists.{total, countFrom, All}
 use Rattle.lists.proofs.Lists.{all-always}
 use Rattle.lists.proofs.Tests.{and-first}
 use Rattle.lists.proofs.Totals.{total-more}
-use Rattle.metric_rules.specs.Row.{Row, IsRow, word, wide, tagAt, measuresAt, codeAt, thresholdAt, markAt, dayAt, tagOf, profileOf, thresholdOf, markOf, dayOf, measure, codeWord}
+use Rattle.metric_rules.specs.Row.{Row, IsRow, word, wide, tagAt, measuresAt, codeAt, thresholdAt, markAt, dayAt, tagOf, profileOf, thresholdOf, markOf, dayOf}
+use Rattle.metric_rules.specs.Row.{measure, codeWord}
 use Rattle.metric_rules.specs.Distance.{weight, validWeights, metricAt, weightsAt, weightsOf, spaceOf}
 use Rattle.metric_rules.proofs.Laws.{metric-byte, weight-byte}
 use Rattle.table_rules.specs.Refusals.{badTable}
@@ -27,7 +28,8 @@ use Rattle.table_rules.proofs.Chains.{or-zero, unless-zero}
 use Rattle.table_rules.proofs.Passing.{bucket-within, built-inside, read-passed}
 use Rattle.table_rules.proofs.Live.{slots-length}
 use Rattle.table_rules.proofs.Fill.{passed-roomy}
-use Rattle.image_rules.specs.Bytes.{writtenForm, bytesOf, numberOf, startFields, weightFields, headerFields, tagFields, dayFields, recordFields, bytesOfFields, sizeBytes, tagWords}
+use Rattle.image_rules.specs.Bytes.{writtenForm, bytesOf, numberOf, startFields, weightFields, headerFields, tagFields, dayFields, recordFields, bytesOfFields}
+use Rattle.image_rules.specs.Bytes.{sizeBytes, tagWords}
 use Rattle.image_rules.specs.Write.{headerBytesOf, sizesOf, tagsOf, recordsOf, allSlots, imageAs, imageOf, writeRefusal, writeReply, imageAfterWrite}
 use Rattle.image_rules.specs.declared.Written.{Written}
 use Rattle.image_rules.proofs.Bytes.{length-bytes, length-fields, number-bytes}
@@ -193,7 +195,8 @@ module _ (t : Table) (words : All IsRow t) (ok : readRefusal t ≡ 0) (rest : Li
       ≡ numberOf (bytesOf (getD (headerFields writtenForm) i 0) (getD (T ∷ tableSpace t .metric ∷ writtenForm ∷ tableSpace t .weights .each) i 0))
   unfolding header headerBytesOf headerFields startFields weightFields writtenForm
   head-at i l =
-      field-at bytes [] (headerFields writtenForm) (T ∷ tableSpace t .metric ∷ writtenForm ∷ tableSpace t .weights .each) (pairs ++ (tags ++ (records ++ rest))) i _ bytes-are l (omega arith)
+      field-at bytes [] (headerFields writtenForm) (T ∷ tableSpace t .metric ∷ writtenForm ∷ tableSpace t .weights .each)
+      (pairs ++ (tags ++ (records ++ rest))) i _ bytes-are l (omega arith)
 
   order-at : numberFrom bytes 0 1 ≡ wordIn t 0 0
   unfolding headerFields startFields weightFields writtenForm total T orderOf word rowAt headerRow
@@ -281,7 +284,8 @@ module _ (t : Table) (words : All IsRow t) (ok : readRefusal t ≡ 0) (rest : Li
         → numberFrom bytes place (getD tagFields j 0) ≡ numberOf (bytesOf (getD tagFields j 0) (getD (take 2 row) j 0))
     unfolding tagFields
     tag-number j place h e =
-        field-at bytes (header ++ (pairs ++ tag-block .front)) tagFields (take 2 row) (tag-block .back ++ (records ++ rest)) j place tag-place h (omega (arith, before-tag, e))
+        field-at bytes (header ++ (pairs ++ tag-block .front)) tagFields (take 2 row) (tag-block .back ++ (records ++ rest)) j place tag-place h
+        (omega (arith, before-tag, e))
 
     record-place :
         bytes
@@ -307,7 +311,8 @@ module _ (t : Table) (words : All IsRow t) (ok : readRefusal t ≡ 0) (rest : Li
         → numberFrom bytes place (getD (recordFields writtenForm) j 0) ≡ numberOf (bytesOf (getD (recordFields writtenForm) j 0) (getD row (2 + j) 0))
     unfolding recordFields dayFields writtenForm
     record-number j place h e =
-        field-at bytes (header ++ (pairs ++ (tags ++ record-block .front))) (recordFields writtenForm) (drop 2 row) (record-block .back ++ rest) j place record-place h (omega (arith, before-record, e))
+        field-at bytes (header ++ (pairs ++ (tags ++ record-block .front))) (recordFields writtenForm) (drop 2 row) (record-block .back ++ rest) j place
+        record-place h (omega (arith, before-record, e))
         ∙ ap (λ (n : ℕ). numberOf (bytesOf (getD (recordFields writtenForm) j 0) n)) (getD-drop 2 row j 0)
 
     -- the tag's two words, and the ten of a record that have four bytes
@@ -342,15 +347,20 @@ module _ (t : Table) (words : All IsRow t) (ok : readRefusal t ≡ 0) (rest : Li
     unfolding recordFields dayFields writtenForm total
     day-at place e = record-number 10 place (omega arith) e ∙ number-low (getD row 12 0)
 
-    slot-bytes : (tagPlace place : ℕ) → 8 + 4 * (T + 1) + 8 * i ≡ tagPlace → 8 + 4 * (T + 1) + 8 * length rows + 42 * i ≡ place → SlotBytes bytes tagPlace place row
+    slot-bytes : (tagPlace place : ℕ) → 8 + 4 * (T + 1) + 8 * i ≡ tagPlace → 8 + 4 * (T + 1) + 8 * length rows + 42 * i ≡ place
+        → SlotBytes bytes tagPlace place row
     slot-bytes tagPlace place e f =
         record {
-          tag = number-wide bytes tagPlace (getD row 0 0) (getD row 1 0) (tag-at 0 tagPlace (omega arith) (omega arith)) (tag-at 1 (tagPlace + 4) (omega arith) (omega arith));
+          tag =
+              number-wide bytes tagPlace (getD row 0 0) (getD row 1 0)
+              (tag-at 0 tagPlace (omega arith) (omega arith)) (tag-at 1 (tagPlace + 4) (omega arith) (omega arith));
           measures = λ j h. record-at j (place + 4 * j) (omega arith) (omega arith);
           firstWord =
-              number-wide bytes (place + 16) (getD row 6 0) (getD row 7 0) (record-at 4 (place + 16) (omega arith) (omega arith)) (record-at 5 (place + 16 + 4) (omega arith) (omega arith));
+              number-wide bytes (place + 16) (getD row 6 0) (getD row 7 0)
+              (record-at 4 (place + 16) (omega arith) (omega arith)) (record-at 5 (place + 16 + 4) (omega arith) (omega arith));
           secondWord =
-              number-wide bytes (place + 24) (getD row 8 0) (getD row 9 0) (record-at 6 (place + 24) (omega arith) (omega arith)) (record-at 7 (place + 24 + 4) (omega arith) (omega arith));
+              number-wide bytes (place + 24) (getD row 8 0) (getD row 9 0)
+              (record-at 6 (place + 24) (omega arith) (omega arith)) (record-at 7 (place + 24 + 4) (omega arith) (omega arith));
           threshold = record-at 8 (place + 32) (omega arith) (omega arith);
           mark = record-at 9 (place + 36) (omega arith) (omega arith);
           day = day-at (place + 40) (omega arith);
@@ -421,7 +431,8 @@ write-number : (n length : ℕ)
 write-number zero length = refl
 write-number (suc n) length = refl
 
-written-bytes : (t : Table) (area : List ℕ) → All IsRow t → replyTo (write Write.image) t area .refusal ≡ 0 → TableBytes t (areasAfter (write Write.image) t area)
+written-bytes : (t : Table) (area : List ℕ) → All IsRow t → replyTo (write Write.image) t area .refusal ≡ 0
+    → TableBytes t (areasAfter (write Write.image) t area)
 unfolding writeReply writeRefusal imageAfterWrite
 written-bytes t area words e =
     let zeroed : writeRefusal t area ≡ 0 = sym (write-number (writeRefusal t area) (length (imageOf t))) ∙ e in

@@ -28,6 +28,7 @@ mod TreeTests
 mod Figured
 mod Ordering
 mod AnyDistance
+mod TreeForm
 mod RefinesLists
 mod RefinesSearch
 mod RefinesTable

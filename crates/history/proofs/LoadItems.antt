@@ -24,7 +24,8 @@ use Rattle.history.specs.Places.{numberFrom}
 use Rattle.history.specs.LoadTests.{formBytes, slotsInAll, recordFrom, markIn, weightsRead, spaceRead}
 use Rattle.history.specs.Model.{itemOf, Model, profileRead, itemRead, imageModel}
 use Rattle.history.proofs.ImageBytes.{number-wide}
-use Rattle.history.proofs.LoadTests.{number-read, order-read, metric-read, form-read, slots-read, record-place, record-from, number-from, tag-read, live-mark, day-read}
+use Rattle.history.proofs.LoadTests.{number-read, order-read, metric-read, form-read, slots-read, record-place, record-from, number-from, tag-read}
+use Rattle.history.proofs.LoadTests.{live-mark, day-read}
 use Rattle.history.proofs.RefinesLists.{select-flatten}
 
 -- what is made of those that pass, of a list and of what it was made of
@@ -76,7 +77,8 @@ module _ (image : List ℕ) where
       let first : numberFrom image (there + 16) 8 ≡ wide (reader.numberAt image 4 (here + 4 + 4 + 4 + 4)) (reader.numberAt image 4 (here + 4 + 4 + 4 + 4 + 4)) =
       number-wide image (there + 16) _ _ (sym (at (here + 4 + 4 + 4 + 4) 16 (omega arith)))
       (ap (λ (p : ℕ). numberFrom image p 4) far ∙ sym (at (here + 4 + 4 + 4 + 4 + 4) 20 (omega arith))) in
-      let second : numberFrom image (there + 24) 8 ≡ wide (reader.numberAt image 4 (here + 4 + 4 + 4 + 4 + 4 + 4)) (reader.numberAt image 4 (here + 4 + 4 + 4 + 4 + 4 + 4 + 4)) =
+      let second : numberFrom image (there + 24) 8 ≡ wide (reader.numberAt image 4 (here + 4 + 4 + 4 + 4 + 4 + 4))
+      (reader.numberAt image 4 (here + 4 + 4 + 4 + 4 + 4 + 4 + 4)) =
       number-wide image (there + 24) _ _ (sym (at (here + 4 + 4 + 4 + 4 + 4 + 4) 24 (omega arith)))
       (ap (λ (p : ℕ). numberFrom image p 4) further ∙ sym (at (here + 4 + 4 + 4 + 4 + 4 + 4 + 4) 28 (omega arith))) in
       ap₂ {C = Profile} (λ (ms : List ℤ) (code : List ℕ). record { measures = ms; code = code })

@@ -17,12 +17,14 @@ use borrow.Author.Tests.{ltb-true, ltb-false, leb-true, le-leb, lt-leb, lt-ltb, 
 use Rattle.lists.specs.Lists.{total, every, any, select, countFrom}
 use Rattle.lists.proofs.Tests.{pass-alike, every-map}
 use Rattle.metric_rules.specs.Row.{word, wide, tagAt, measuresAt, codeAt, markAt, dayAt, tagOf, profileOf, markOf, dayOf, isLive}
-use Rattle.metric_rules.specs.Validity.{nationals, countryOf, nationalOf, lastCountry, lastNational, validTag, measureLimit, validMeasure, validMeasures, validDay}
+use Rattle.metric_rules.specs.Validity.{nationals, countryOf, nationalOf, lastCountry, lastNational, validTag, measureLimit, validMeasure, validMeasures}
+use Rattle.metric_rules.specs.Validity.{validDay}
 use Rattle.metric_rules.specs.Distance.{weightsOne, lastMetric, validMetric, mostWeight, validWeights}
 use Rattle.table_rules.specs.Refusals.{badOrder, badMetric, badLength, badImage, shortArea, badTable, badWeight, badDay, unless, when}
 use Rattle.table_rules.specs.Geometry.{validOrder, room, bucketsOf, firstSlot, tableRows}
 use Rattle.table_rules.specs.Checks.{sizePasses, sizesPass}
-use Rattle.image_rules.specs.Bytes.{lastForm, validForm, startBytes, imageLength, numberOf, startFields, weightFields, headerFields, tagFields, dayFields, recordFields, headerBytes, tagBytes, recordBytes, sizeBytes, pairBytes, sizesEnd}
+use Rattle.image_rules.specs.Bytes.{lastForm, validForm, startBytes, imageLength, numberOf, startFields, weightFields, headerFields, tagFields, dayFields}
+use Rattle.image_rules.specs.Bytes.{recordFields, headerBytes, tagBytes, recordBytes, sizeBytes, pairBytes, sizesEnd}
 use Rattle.image_rules.specs.Read as reader
 use Rattle.image_rules.specs.Read.{fieldsAt, startNumbers, weightsAs, dayAs, orderIn, formIn, spaceIn, builtIn, liveIn, slotsBefore, slotsIn, rowIn, bucketIn}
 use Rattle.image_rules.specs.Load.{fieldsPass, bucketFieldsPass, allFieldsPass, daysPass, fieldsRefusal}
@@ -34,7 +36,9 @@ use Rattle.state_rules.proofs.Parts.{part-length}
 use Rattle.table_rules.proofs.Chains.{when-zero}
 use Rattle.history.specs.Places.{numberFrom}
 use Rattle.history.specs.Figures.{tagSound}
-use Rattle.history.specs.LoadTests.{orderByte, metricByte, formBytes, pairsFrom, recordSize, builtAt, liveAt, slotsUpTo, tagsFrom, slotsInAll, recordFrom, weightTooLarge, sizesSound, allSizesSound, dayRead, dayMissing, measureSound, tagIn, markIn, slotSound, slotsAt, bucketSound, allFieldsSound, loadRefusalOf, partFrom, lengthIn, imageIn, restoreRefusalOf}
+use Rattle.history.specs.LoadTests.{orderByte, metricByte, formBytes, pairsFrom, recordSize, builtAt, liveAt, slotsUpTo, tagsFrom, slotsInAll, recordFrom}
+use Rattle.history.specs.LoadTests.{weightTooLarge, sizesSound, allSizesSound, dayRead, dayMissing, measureSound, tagIn, markIn, slotSound, slotsAt}
+use Rattle.history.specs.LoadTests.{bucketSound, allFieldsSound, loadRefusalOf, partFrom, lengthIn, imageIn, restoreRefusalOf}
 use Rattle.history.proofs.ImageBytes.{number-wide}
 
 -- a number past the end is 0
@@ -77,12 +81,14 @@ every-not-any passes stops h (x ∷ xs) = ap₂ _&&_ (h x) (every-not-any passes
 pub all-any : (most : ℕ) (ns : List ℕ) → every (λ n. leb n most) ns ≡ not (any (λ n. ltb most n) ns)
 all-any most ns = every-not-any (λ n. leb n most) (λ n. ltb most n) (λ n. most-above n most) ns
 
-pub stops-alike : {passes : Bool} (met : Bool) (number : ℕ) {rest after : ℕ} → passes ≡ not met → rest ≡ after → unless passes number rest ≡ when met number after
+pub stops-alike : {passes : Bool} (met : Bool) (number : ℕ) {rest after : ℕ} → passes ≡ not met → rest ≡ after
+    → unless passes number rest ≡ when met number after
 stops-alike true number {rest} e f = ap (λ (b : Bool). unless b number rest) e
 stops-alike false number {rest} e f = ap (λ (b : Bool). unless b number rest) e ∙ f
 
 -- two tests that say the same
-pub passes-alike : {passes : Bool} (met : Bool) (number : ℕ) {rest after : ℕ} → passes ≡ met → rest ≡ after → unless passes number rest ≡ unless met number after
+pub passes-alike : {passes : Bool} (met : Bool) (number : ℕ) {rest after : ℕ} → passes ≡ met → rest ≡ after
+    → unless passes number rest ≡ unless met number after
 passes-alike met number {rest} e f = ap (λ (b : Bool). unless b number rest) e ∙ ap (λ (r : ℕ). unless met number r) f
 
 pub when-alike : {stops : Bool} (met : Bool) (number : ℕ) {rest after : ℕ} → stops ≡ met → rest ≡ after → when stops number rest ≡ when met number after
@@ -120,7 +126,8 @@ count-map : {A B : Type 0} (f : A → B) (test : B → Bool) (before : A → Boo
 unfolding select
 count-map f test before h [] = refl
 count-map {A} {B} f test before h (x ∷ xs) =
-    ap (λ (b : Bool). length {A = B} (elim b [ true ↦ f x ∷ select test (map f xs) | false ↦ select test (map f xs) ])) (h x) ∙ go (before x) (count-map f test before h xs)
+    ap (λ (b : Bool). length {A = B} (elim b [ true ↦ f x ∷ select test (map f xs) | false ↦ select test (map f xs) ])) (h x)
+    ∙ go (before x) (count-map f test before h xs)
   where
     go : (b : Bool) → length (select test (map f xs)) ≡ length (select before xs)
         → length {A = B} (elim b [ true ↦ f x ∷ select test (map f xs) | false ↦ select test (map f xs) ])
@@ -222,12 +229,14 @@ module _ (image : List ℕ) where
       (number-wide image (tagsFrom image + 8 * i) _ _ (sym (number-from 4 (tag-place i) (tagsFrom image + 8 * i) (tag-from i)))
       (sym (number-from 4 (tag-place i + 4) (tagsFrom image + 8 * i + 4) (ap (λ (p : ℕ). p + 4) (tag-from i)))))
 
-  measures-read : (i : ℕ) → validMeasures (profileOf (rowIn image i)) ≡ every (λ j. measureSound (numberFrom image (recordFrom image i + 4 * j) 4)) (0 ∷ 1 ∷ 2 ∷ 3 ∷ [])
+  measures-read : (i : ℕ)
+      → validMeasures (profileOf (rowIn image i)) ≡ every (λ j. measureSound (numberFrom image (recordFrom image i + 4 * j) 4)) (0 ∷ 1 ∷ 2 ∷ 3 ∷ [])
   unfolding validMeasures every profileOf measuresAt codeAt rowIn word fieldsAt tagFields recordFields
   measures-read i =
       let here = record-place i in
       let e = record-from i in
-      let one : (place j : ℕ) → place ≡ here + 4 * j → validMeasure (toZ w32 (reader.numberAt image 4 place)) ≡ measureSound (numberFrom image (recordFrom image i + 4 * j) 4) =
+      let one : (place j : ℕ) → place ≡ here + 4 * j → validMeasure (toZ w32 (reader.numberAt image 4 place)) ≡ measureSound
+      (numberFrom image (recordFrom image i + 4 * j) 4) =
       λ place j f.
       measure-sound (reader.numberAt image 4 place) ∙ ap measureSound (number-from 4 place (recordFrom image i + 4 * j) (f ∙ ap (λ (p : ℕ). p + 4 * j) e)) in
       ap₂ _&&_ (one here 0 (omega arith))
@@ -257,7 +266,8 @@ module _ (image : List ℕ) where
       let from : countFrom (slotsBefore image k) (builtIn image k) ≡ countFrom (slotsUpTo image k) (builtAt image k) =
       ap₂ countFrom (before-read k) (built-read k) in
       ap₂ _&&_ (every-map (rowIn image) fieldsPass (slotSound image) slot-sound _ ∙ ap (every (slotSound image)) from)
-      (ap₂ eqb (count-map (rowIn image) isLive (λ i. eqb (markIn image i) 0) live-mark _ ∙ ap (λ (is : List ℕ). length (select (λ i. eqb (markIn image i) 0) is)) from) (live-read k))
+      (ap₂ eqb (count-map (rowIn image) isLive (λ i. eqb (markIn image i) 0) live-mark _
+      ∙ ap (λ (is : List ℕ). length (select (λ i. eqb (markIn image i) 0) is)) from) (live-read k))
 
   all-sound : allFieldsPass image ≡ allFieldsSound image
   unfolding allFieldsPass allFieldsSound bucketsOf
@@ -273,14 +283,16 @@ module _ (image : List ℕ) where
       (test-buckets (λ k. sizePasses k (builtIn image k) (liveIn image k)) (sizesSound image) (orderIn image) (λ k h. size-sound k)
       ∙ ap (λ (n : ℕ). every (sizesSound image) (countFrom 0 n)) next-read)
       (ap₂ leb
-      (ap total (map-count (liveIn image) (liveAt image) 0 (suc (orderIn image)) (λ j l m. live-read j)) ∙ ap (λ (n : ℕ). total (map (liveAt image) (countFrom 0 n))) next-read)
+      (ap total (map-count (liveIn image) (liveAt image) 0 (suc (orderIn image)) (λ j l m. live-read j))
+      ∙ ap (λ (n : ℕ). total (map (liveAt image) (countFrom 0 n))) next-read)
       (ap (λ (n : ℕ). 2 ^ n) order-read))
     where
       size-sound : (k : ℕ) → sizePasses k (builtIn image k) (liveIn image k) ≡ sizesSound image k
       size-sound k = ap₂ (sizePasses k) (built-read k) (live-read k) ∙ size-by image k
 
   -- the days: a form below 2 has none, and what is read in their place is 1
-  day-by : (form at to place : ℕ) → to ≡ place → dayOf (fieldsAt image tagFields at ++ fieldsAt image (recordFields form) to ++ dayAs form) ≡ dayRead form image place
+  day-by : (form at to place : ℕ) → to ≡ place
+      → dayOf (fieldsAt image tagFields at ++ fieldsAt image (recordFields form) to ++ dayAs form) ≡ dayRead form image place
   unfolding fieldsAt tagFields recordFields dayFields dayAs dayOf word dayAt dayRead
   day-by zero at to place e = refl
   day-by (suc zero) at to place e = refl
@@ -290,7 +302,9 @@ module _ (image : List ℕ) where
 
   pub day-read : (i : ℕ) → dayOf (rowIn image i) ≡ dayRead (formBytes image) image (recordFrom image i)
   unfolding rowIn
-  day-read i = day-by (formIn image) (tag-place i) (record-place i) (recordFrom image i) (record-from i) ∙ ap (λ (form : ℕ). dayRead form image (recordFrom image i)) form-read
+  day-read i =
+      day-by (formIn image) (tag-place i) (record-place i) (recordFrom image i) (record-from i)
+      ∙ ap (λ (form : ℕ). dayRead form image (recordFrom image i)) form-read
 
   days-by : (form : ℕ) (is : List ℕ)
       → every (λ i. leb 1 (dayRead form image (recordFrom image i))) is ≡ not (ltb 1 form && any (λ i. eqb (numberFrom image (recordFrom image i + 40) 2) 0) is)
@@ -298,7 +312,8 @@ module _ (image : List ℕ) where
   days-by zero is = every-true is
   days-by (suc zero) is = every-true is
   days-by (suc (suc form)) is =
-      every-not-any (λ i. leb 1 (numberFrom image (recordFrom image i + 40) 2)) (λ i. eqb (numberFrom image (recordFrom image i + 40) 2) 0) (λ i. some-not-none (numberFrom image (recordFrom image i + 40) 2)) is
+      every-not-any (λ i. leb 1 (numberFrom image (recordFrom image i + 40) 2)) (λ i. eqb (numberFrom image (recordFrom image i + 40) 2) 0)
+      (λ i. some-not-none (numberFrom image (recordFrom image i + 40) 2)) is
       ∙ ap (λ (b : Bool). not (b && any (λ i. eqb (numberFrom image (recordFrom image i + 40) 2) 0) is)) (sym (lt-ltb 1 (suc (suc form)) (omega arith)))
 
   days-sound : daysPass image ≡ not (dayMissing image)
@@ -332,8 +347,10 @@ module _ (image : List ℕ) where
   load-refusal rows =
       let n = length image in
       let ordered : (leb 0 (orderIn image) && leb (orderIn image) 12) ≡ not (ltb 12 (orderByte image)) =
-      ap (λ (b : Bool). b && leb (orderIn image) 12) (le-leb 0 (orderIn image) (omega arith)) ∙ most-above (orderIn image) 12 ∙ ap (λ (t : ℕ). not (ltb 12 t)) order-read in
-      let measured : leb (spaceIn image .metric) 2 ≡ not (ltb 2 (metricByte image)) = most-above (spaceIn image .metric) 2 ∙ ap (λ (m : ℕ). not (ltb 2 m)) metric-read in
+      ap (λ (b : Bool). b && leb (orderIn image) 12) (le-leb 0 (orderIn image) (omega arith)) ∙ most-above (orderIn image) 12
+      ∙ ap (λ (t : ℕ). not (ltb 12 t)) order-read in
+      let measured : leb (spaceIn image .metric) 2 ≡ not (ltb 2 (metricByte image)) =
+      most-above (spaceIn image .metric) 2 ∙ ap (λ (m : ℕ). not (ltb 2 m)) metric-read in
       let formed : leb (formIn image) 2 ≡ not (ltb 2 (formBytes image)) = most-above (formIn image) 2 ∙ ap (λ (m : ℕ). not (ltb 2 m)) form-read in
       let rowsFor : orderIn image + 1 + 2 ^ suc (orderIn image) ≡ orderByte image + 1 + 2 ^ (orderByte image + 1) =
       ap₂ (λ (a b : ℕ). a + 1 + 2 ^ b) order-read next-read in
@@ -346,7 +363,8 @@ module _ (image : List ℕ) where
       (stops-alike (ltb n (tagsFrom image)) badLength (ap (λ (m : ℕ). leb m n) tags-read ∙ most-above (tagsFrom image) n)
       (passes-alike (allSizesSound image) badTable sizes-sound
       (passes-alike (eqb n (tagsFrom image + (8 + recordSize (formBytes image)) * slotsInAll image)) badLength (ap (eqb n) length-sound)
-      (stops-alike (ltb rows (orderByte image + 1 + 2 ^ (orderByte image + 1))) shortArea (ap (λ (m : ℕ). leb m rows) rowsFor ∙ most-above (orderByte image + 1 + 2 ^ (orderByte image + 1)) rows)
+      (stops-alike (ltb rows (orderByte image + 1 + 2 ^ (orderByte image + 1))) shortArea
+      (ap (λ (m : ℕ). leb m rows) rowsFor ∙ most-above (orderByte image + 1 + 2 ^ (orderByte image + 1)) rows)
       (stops-alike (dayMissing image) badDay days-sound
       (passes-alike (allFieldsSound image) badImage all-sound
       refl)))))))))))

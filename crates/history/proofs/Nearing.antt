@@ -8,7 +8,7 @@ use mathlib.Core.Bool.{Bool, true, false, _||_}
 use mathlib.Core.List.{List, [], _∷_, _++_, map, foldl}
 use lib.Dec.{leb, ltb}
 use lib.ListN.{length, take, drop, length-take, length-drop, length-append, length-map, take-append-drop}
-use borrow.Author.Tests.{leb-true, leb-false, ltb-true, ltb-false, lt-ltb, le-ltb}
+use borrow.Author.Tests.{leb-true, leb-false, ltb-true, ltb-false, lt-ltb, le-ltb, lt-leb, le-leb}
 use Rattle.lists.specs.Lists.{last, select, All}
 use Rattle.lists.proofs.Lists.{all-weaken, all-always, all-map, pairs-weaken, pairs-across, last-all, perm-length}
 use Rattle.metric_rules.specs.declared.Profile.{Profile}
@@ -263,14 +263,15 @@ module _ (dist : Profile → Profile → ℕ) (query : Profile) (reports : Row �
       (tree-visits n (take l rest) (simp length-take (omega arith)))
       (tree-visits n (drop l rest) (simp length-drop (omega arith)))
 
-  -- a tree as a whole
+  -- no tree is passed over as a whole
+  none-within : (rows : List Row) → within dist query reports k 0 0 rows < k
+  none-within rows =
+      let far = all-always (λ row. le-ltb (0 + dist (profileOf row) query) 0 (omega arith)) rows in
+      omega (arith, ap length (select-none (λ row. ltb (0 + dist (profileOf row) query) 0) rows far), some)
+
   whole-visits : (slots : List Row) (t : Tally) (rows : List Row) → KeepsOf rows t → Visits 0 0 rows slots t (nearestTree dist query reports k t slots)
   unfolding nearestTree
-  whole-visits slots t rows e =
-      let far = all-always (λ row. le-ltb (0 + dist (profileOf row) query) 0 (omega arith)) rows in
-      let none : within dist query reports k 0 0 rows ≡ 0 =
-      ap length (select-none (λ row. ltb (0 + dist (profileOf row) query) 0) rows far) in
-      tree-visits (length slots) slots (omega arith) t rows 0 0 (omega (arith, none, some)) e
+  whole-visits slots t rows e = tree-visits (length slots) slots (omega arith) t rows 0 0 (none-within rows) e
 
   -- the buckets one after the other
   down-visits : (slots : ℕ → List Row) (n : ℕ) (t : Tally) (rows : List Row) → KeepsOf rows t
@@ -285,19 +286,152 @@ module _ (dist : Profile → Profile → ℕ) (query : Profile) (reports : Row �
         rw (Down.below-next n) (omega (arith, rest .2, v .counts)),
       )
 
+  -- the other way round: every visit from what a tally keeps is the search from that tally
+  record Leaves (t r : Tally) (places : List ℕ) (after : List Row) : Type 0 where
+    keeps : KeepsOf after r
+    counts : r .count ≡ t .count + length places
+
+  abbrev half : ℕ → ℕ → ℕ → List Row → Tally → Tally
+  half a b n slots t = enterHalf dist query reports k (λ r. leb b (a + r)) (λ u. nearestWithin dist query reports k n u slots) t
+
+  module _ (a b n : ℕ) (rows slots : List Row) (t : Tally) (e : KeepsOf rows t) where
+    half-open : within dist query reports k a b rows < k → half a b n slots t ≡ nearestWithin dist query reports k n t slots
+    unfolding enterHalf
+    half-open few =
+        ap (λ (p : Bool). elim p as (λ _. Tally) [ true ↦ nearestWithin dist query reports k n t slots | false ↦ t ])
+        (opens-within a b rows t e ∙ lt-ltb (within dist query reports k a b rows) k few)
+
+    half-shut : k ≤ within dist query reports k a b rows → half a b n slots t ≡ t
+    unfolding enterHalf
+    half-shut full =
+        ap (λ (p : Bool). elim p as (λ _. Tally) [ true ↦ nearestWithin dist query reports k n t slots | false ↦ t ])
+        (opens-within a b rows t e ∙ le-ltb (within dist query reports k a b rows) k full)
+
+  half-empty : (a b n : ℕ) (t : Tally) → half a b n [] t ≡ t
+  unfolding enterHalf nearestWithin
+  half-empty a b n t = by (opens k (λ r. leb b (a + r)) (t .kept)) (none n)
+    where
+      none : (i : ℕ) → nearestWithin dist query reports k i t [] ≡ t
+      none zero = refl
+      none (suc i) = refl
+
+      by : (p : Bool) → nearestWithin dist query reports k n t [] ≡ t
+          → elim p as (λ _. Tally) [ true ↦ nearestWithin dist query reports k n t [] | false ↦ t ] ≡ t
+      by true same = same
+      by false same = refl
+
+  -- a node by the side of the query, l being the size of its left half
+  module _ (n : ℕ) (s : Row) (rest : List Row) (t : Tally) (l : ℕ) (size : l ≡ leftHalf (length rest)) where
+    abbrev first : Tally
+    first = taken dist query reports k t s
+
+    abbrev far : ℕ
+    far = dist (profileOf s) query
+
+    abbrev lefted : Tally → Tally
+    lefted u = half (thresholdOf s) far n (take l rest) u
+
+    abbrev righted : Tally → Tally
+    righted u = half far (thresholdOf s) n (drop l rest) u
+
+    node-by : (p : Bool) → leb far (thresholdOf s) ≡ p
+        → nearestWithin dist query reports k (suc n) t (s ∷ rest) ≡ elim p as (λ _. Tally) [ true ↦ righted (lefted first) | false ↦ lefted (righted first) ]
+    unfolding nearestWithin enterHalves entersLeft entersRight toQuery leftSize
+    node-by p side =
+        ap (λ (q : Bool).
+        elim q as (λ _. Tally) [
+          | true ↦ half far (thresholdOf s) n (drop (leftHalf (length rest)) rest) (half (thresholdOf s) far n (take (leftHalf (length rest)) rest) first)
+          | false ↦ half (thresholdOf s) far n (take (leftHalf (length rest)) rest) (half far (thresholdOf s) n (drop (leftHalf (length rest)) rest) first)
+        ])
+        side
+        ∙ ap (λ (i : ℕ).
+        elim p as (λ _. Tally) [
+          | true ↦ half far (thresholdOf s) n (drop i rest) (half (thresholdOf s) far n (take i rest) first)
+          | false ↦ half (thresholdOf s) far n (take i rest) (half far (thresholdOf s) n (drop i rest) first)
+        ])
+        (sym size)
+
+  first-count : (t : Tally) (s : Row) → taken dist query reports k t s .count ≡ suc (t .count)
+  unfolding taken
+  first-count t s = refl
+
+  run-leaves :
+      {a b : ℕ} {rows slots after : List Row} {places : List ℕ} → Nears dist query reports k a b rows slots places after
+      → (n : ℕ) → length slots ≤ n → (t : Tally) → KeepsOf rows t → Leaves t (half a b n slots t) places after
+  run-leaves (passed a b rows slots full) n h t e =
+      subst (λ (r : Tally). Leaves t r [] rows) (sym (half-shut a b n rows slots t e full)) (record { keeps = e; counts = omega arith })
+  run-leaves (empty a b rows) n h t e =
+      subst (λ (r : Tally). Leaves t r [] rows) (sym (half-empty a b n t)) (record { keeps = e; counts = omega arith })
+  run-leaves (leftFirst a b l rows s rest between after left right few side size lefts rights) zero h t e = absurd (omega arith)
+  run-leaves (leftFirst a b l rows s rest between after left right few side size lefts rights) (suc n) h t e =
+      let u = taken dist query reports k t s in
+      let v = run-leaves lefts n (simp length-take (omega arith)) u (taken-keeps s rows t e) in
+      let w = run-leaves rights n (simp length-drop (omega arith)) (half (thresholdOf s) (dist (profileOf s) query) n (take l rest) u) (v .keeps) in
+      subst (λ (r : Tally). Leaves t r (0 ∷ map suc left ++ map (λ i. suc (l + i)) right) after)
+      (sym (half-open a b (suc n) rows (s ∷ rest) t e few ∙ node-by n s rest t l size true (le-leb (dist (profileOf s) query) (thresholdOf s) side)))
+      (record {
+        keeps = w .keeps;
+        counts =
+            omega (
+              arith,
+              v .counts,
+              w .counts,
+              first-count t s,
+              length-append (map suc left) (map (λ i. suc (l + i)) right),
+              length-map left suc,
+              length-map right (λ i. suc (l + i)),
+            );
+      })
+  run-leaves (rightFirst a b l rows s rest between after left right few side size rights lefts) zero h t e = absurd (omega arith)
+  run-leaves (rightFirst a b l rows s rest between after left right few side size rights lefts) (suc n) h t e =
+      let u = taken dist query reports k t s in
+      let v = run-leaves rights n (simp length-drop (omega arith)) u (taken-keeps s rows t e) in
+      let w = run-leaves lefts n (simp length-take (omega arith)) (half (dist (profileOf s) query) (thresholdOf s) n (drop l rest) u) (v .keeps) in
+      subst (λ (r : Tally). Leaves t r (0 ∷ map (λ i. suc (l + i)) right ++ map suc left) after)
+      (sym (half-open a b (suc n) rows (s ∷ rest) t e few ∙ node-by n s rest t l size false (lt-leb (dist (profileOf s) query) (thresholdOf s) side)))
+      (record {
+        keeps = w .keeps;
+        counts =
+            omega (
+              arith,
+              v .counts,
+              w .counts,
+              first-count t s,
+              length-append (map (λ i. suc (l + i)) right) (map suc left),
+              length-map left suc,
+              length-map right (λ i. suc (l + i)),
+            );
+      })
+
+  down-leaves : (slots : ℕ → List Row) {n count : ℕ} {rows : List Row} → NearsDown dist query reports k slots n rows count → (t : Tally)
+      → KeepsOf rows t → foldl (λ u b. nearestTree dist query reports k u (slots b)) t (Down.below n) .count ≡ t .count + count
+  unfolding nearestTree
+  down-leaves slots (bottom rows) t e = rw Down.below-none (omega arith)
+  down-leaves slots (next n rows after places count run rest) t e =
+      let here = half-open 0 0 (length (slots n)) rows (slots n) t e (none-within rows) in
+      let v = subst (λ (r : Tally). Leaves t r places after) here (run-leaves run (length (slots n)) (omega arith) t e) in
+      rw (Down.below-next n) (omega (arith, down-leaves slots rest (nearestTree dist query reports k t (slots n)) (v .keeps), v .counts))
+
 none-kept : (k : ℕ) → [] ≡ keep k []
 none-kept k = sym (keep-of-kept k [] (record { pairs = tt; sorted = tt; few = omega arith }))
 
+-- the count of nearest is that of a visit, and of every one
+abbrev VisitedOf : Table → Profile → (Row → Bool) → ℕ → ℕ → Type 0
+VisitedOf t query reports k n = NearsDown (distance (tableSpace t)) query reports k (slotsOf t) (suc (orderOf t)) [] n
+
 nearest-down : (t : Table) (query : Profile) (firstDay k : ℕ) → 1 ≤ k
-    → NearsDown (distance (tableSpace t)) query (mayReport (queryRow query k firstDay)) k (slotsOf t) (suc (orderOf t)) []
-    (nearestAnswer t query k firstDay .count)
+    → VisitedOf t query (mayReport (queryRow query k firstDay)) k (nearestAnswer t query k firstDay .count)
+    × ((n : ℕ) → VisitedOf t query (mayReport (queryRow query k firstDay)) k n → n ≡ nearestAnswer t query k firstDay .count)
 unfolding nearestAnswer nearestTally bucketsDown bucketsOf Down.below
 nearest-down t query firstDay k some =
     let dist = distance (tableSpace t) in
     let reports = mayReport (queryRow query k firstDay) in
-    let run = down-visits dist query reports k some (slotsOf t) (suc (orderOf t)) (record { kept = []; count = 0 }) [] (none-kept k) in
-    let same : run .0 ≡ nearestAnswer t query k firstDay .count = omega (arith, run .2) in
-    subst (λ (n : ℕ). NearsDown dist query reports k (slotsOf t) (suc (orderOf t)) [] n) same (run .1)
+    let start : Tally = record { kept = []; count = 0 } in
+    let run = down-visits dist query reports k some (slotsOf t) (suc (orderOf t)) start [] (none-kept k) in
+    let same : run .0 ≡ nearestAnswer t query k firstDay .count = omega (arith, run .2) in (
+      subst (VisitedOf t query reports k) same (run .1),
+      (λ n visit. omega (arith, down-leaves dist query reports k some (slotsOf t) visit start (none-kept k))),
+    )
 
 pub counts-visits : CountsVisits
 unfolding isLive
@@ -306,6 +440,7 @@ counts-visits t query firstDay = (
   (λ k some.
       subst
       (λ (reports : Row → Bool).
-      NearsDown (distance (tableSpace t)) query reports k (slotsOf t) (suc (orderOf t)) [] (nearestAnswer t query k firstDay .count))
+      VisitedOf t query reports k (nearestAnswer t query k firstDay .count)
+      × ((n : ℕ) → VisitedOf t query reports k n → n ≡ nearestAnswer t query k firstDay .count))
       (reports-both query k firstDay) (nearest-down t query firstDay k some)),
 )

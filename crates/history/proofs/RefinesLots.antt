@@ -1,5 +1,5 @@
--- Lots alike: the live items by tag are the model's by tag, since no live tag occurs twice, and lots go by distances and tags alone. An accepted drafting shows its summary and
--- the entries of its listing, which all have a lot's number, and no zeros behind them.
+-- Lots alike: the live items by tag are the model's by tag, since no live tag occurs twice, and lots go by distances and tags alone. An accepted drafting shows
+-- its summary and the entries of its listing, which all have a lot's number, and no zeros behind them.
 use Prim.Native.Nat.{ℕ, zero, suc, _-_, _^_, _≤_}
 use native.Mathlib.Omega.{arith}
 use mathlib.Core.Path.{_≡_, refl, sym, _∙_, ap, ap₂}
@@ -22,13 +22,15 @@ use Rattle.table_rules.specs.Search.{zeroEntry}
 use Rattle.table_rules.specs.Rebuild.{liveItems}
 use Rattle.table_rules.specs.Checks.{changeRefusal}
 use Rattle.lots_rules.specs.Lots.{Summary, byTag, lots, summaryOf, listingOf}
-use Rattle.lots_rules.specs.Drafting.{badRadii, chosenRadius, draftedItems, betweenRows, tableLots, tableSummaries, tableListing, draftFits, lotsRefusal, answerIn, zeroSummary, summaryAfterLots, listingAfterLots}
+use Rattle.lots_rules.specs.Drafting.{badRadii, chosenRadius, draftedItems, betweenRows, tableLots, tableSummaries, tableListing, draftFits, lotsRefusal}
+use Rattle.lots_rules.specs.Drafting.{answerIn, zeroSummary, summaryAfterLots, listingAfterLots}
 use Rattle.lots_rules.proofs.Mapped.{lots-map, summary-map, listing-map}
 use Rattle.lots_rules.proofs.Listing.{numbered-from}
 use Rattle.call_rules.specs.Calls.{DraftAreas, Ask, areasAnswered}
 use Rattle.history.specs.Trace.{zeroed, shows, draftedIn, draftIn}
 use Rattle.history.specs.Trace.Payload.{aDraft}
-use Rattle.history.specs.Model.{Item, itemOf, Model, canRead, canChange, betweenItems, modelLots, modelSummaries, modelListing, askLengths, lotsRefusalOf, questionRefusal, askRefusal, showsUnless}
+use Rattle.history.specs.Model.{Item, itemOf, Model, canRead, canChange, betweenItems, modelLots, modelSummaries, modelListing, askLengths, lotsRefusalOf}
+use Rattle.history.specs.Model.{questionRefusal, askRefusal, showsUnless}
 use Rattle.history.specs.Represents.{itemsIn}
 use Rattle.history.proofs.RefinesItems.{Matches}
 use Rattle.history.proofs.RefinesRefusals.{Lendable, readable, change-refusal}
@@ -75,7 +77,8 @@ module _ {t : Table} {m : Model} (matches : Matches t m) where
       sym (listing-map itemOf (λ i. i .tag) (tableLots t r)) ∙ ap (listingOf (λ i. i .tag)) (lots-alike r) ∙ listing-figured (λ i. i .tag) (modelLots m r)
 
 -- 23 for the table, then for the work area
-stopped-by-work : (stop : ℕ) (can roomy : Bool) (short : Bool) (rest model : ℕ) → stop ≡ unless (can && roomy) shortArea 0 → roomy ≡ not short → (can ≡ true → rest ≡ model)
+stopped-by-work : (stop : ℕ) (can roomy : Bool) (short : Bool) (rest model : ℕ) → stop ≡ unless (can && roomy) shortArea 0 → roomy ≡ not short
+    → (can ≡ true → rest ≡ model)
     → orElse stop rest ≡ unless can shortArea (when short shortArea model)
 stopped-by-work stop true true true rest model e f g = absurd (false≢true (sym f))
 stopped-by-work stop true true false rest model e f g = ap (λ (n : ℕ). orElse n rest) e ∙ g refl
@@ -84,7 +87,8 @@ stopped-by-work stop true false false rest model e f g = absurd (false≢true f)
 stopped-by-work stop false roomy short rest model e f g = ap (λ (n : ℕ). orElse n rest) e
 
 pub lots-refusal : (m : Model) (t : Table) → Lendable t m → (radii : List ℕ) (chosen : ℕ) (areas : DraftAreas)
-    → lotsRefusal t (areas .work) (areas .summary) (areas .listing) radii chosen ≡ askRefusal m (Ask.lots radii chosen) (length t) (askLengths (Ask.lots radii chosen) areas)
+    → lotsRefusal t (areas .work) (areas .summary) (areas .listing) radii chosen
+    ≡ askRefusal m (Ask.lots radii chosen) (length t) (askLengths (Ask.lots radii chosen) areas)
 unfolding lotsRefusal draftFits askRefusal questionRefusal lotsRefusalOf canChange
 lots-refusal m t lendable radii chosen areas =
     let n = length radii in
@@ -92,10 +96,12 @@ lots-refusal m t lendable radii chosen areas =
     let work = length (areas .work) in
     let summary = length (areas .summary) in
     let listing = length (areas .listing) in
-    stopped-by-work (changeRefusal work t) (canRead m (length t)) (leb (2 ^ m .order) work) (ltb work (2 ^ m .order)) _ _ (change-refusal m t work lendable) (most-above (2 ^ m .order) work)
+    stopped-by-work (changeRefusal work t) (canRead m (length t)) (leb (2 ^ m .order) work) (ltb work (2 ^ m .order)) _ _ (change-refusal m t work lendable)
+    (most-above (2 ^ m .order) work)
     (λ e. stops-alike (ltb n 1 || ltb 32 n || (ltb chosen 1 || ltb n chosen)) badRadii (radii-figured radii chosen)
     (stops-alike (ltb summary n || ltb listing i) noRoom
-    (ap₂ _&&_ (most-above n summary) (ap (λ (k : ℕ). leb k listing) (items-counted (readable m t lendable e)) ∙ most-above i listing) ∙ not-any (ltb summary n) (ltb listing i))
+    (ap₂ _&&_ (most-above n summary) (ap (λ (k : ℕ). leb k listing) (items-counted (readable m t lendable e)) ∙ most-above i listing)
+    ∙ not-any (ltb summary n) (ltb listing i))
     refl))
 
 -- zeros end a listing, whatever stands behind them
@@ -127,11 +133,14 @@ module _ (t : Table) (radii : List ℕ) (chosen : ℕ) (areas : DraftAreas) wher
   accepted-draft e =
       ap₂ aDraft
       (ap (λ (n : ℕ). take (length radii) (answerIn zeroSummary n (areas .summary) (tableSummaries t radii))) e
-      ∙ take-at (tableSummaries t radii) (replicate (length (areas .summary) - length (tableSummaries t radii)) zeroSummary) (length radii) (length-map radii (λ r. summaryOf (tableLots t r))))
+      ∙ take-at (tableSummaries t radii) (replicate (length (areas .summary) - length (tableSummaries t radii)) zeroSummary) (length radii)
+      (length-map radii (λ r. summaryOf (tableLots t r))))
       (ap (λ (n : ℕ). draftedIn (answerIn zeroEntry n (areas .listing) (tableListing t radii chosen))) e
-      ∙ listed-all (tableListing t radii chosen) (length (areas .listing) - length (tableListing t radii chosen)) (numbered-from tagOf 1 (tableLots t (chosenRadius radii chosen))))
+      ∙ listed-all (tableListing t radii chosen) (length (areas .listing) - length (tableListing t radii chosen))
+      (numbered-from tagOf 1 (tableLots t (chosenRadius radii chosen))))
 
-  pub shows-draft : (summary : List Summary) (listing : List Entry) (n : ℕ) → refusal ≡ n → (n ≡ 0 → (tableSummaries t radii ≡ summary) × (tableListing t radii chosen ≡ listing))
+  pub shows-draft : (summary : List Summary) (listing : List Entry) (n : ℕ) → refusal ≡ n
+      → (n ≡ 0 → (tableSummaries t radii ≡ summary) × (tableListing t radii chosen ≡ listing))
       → shows refusal (draftIn refusal radii (areasAnswered (Ask.lots radii chosen) t areas)) ≡ showsUnless n (aDraft summary listing)
   unfolding showsUnless zeroed draftIn
   shows-draft summary listing zero e alike =

@@ -19,7 +19,8 @@ use Rattle.metric_rules.specs.Validity.{validTag, validMeasures, validDay}
 use Rattle.metric_rules.specs.declared.Space.{Space}
 use Rattle.metric_rules.specs.Distance.{validMetric, validWeights}
 use Rattle.search_rules.specs.Range.{Entry}
-use Rattle.table_rules.specs.Refusals.{badTag, badMeasure, badOrder, badMetric, badWeight, badDay, noCount, noRoom, alreadyLive, notLive, full, shortArea, badTable, unless, when, orElse}
+use Rattle.table_rules.specs.Refusals.{badTag, badMeasure, badOrder, badMetric, badWeight, badDay, noCount, noRoom, alreadyLive, notLive, full, shortArea}
+use Rattle.table_rules.specs.Refusals.{badTable, unless, when, orElse}
 use Rattle.table_rules.specs.Geometry.{validOrder, room, tableRows, workRows, firstSlot}
 use Rattle.table_rules.specs.Table.{Table, orderOf, tableSpace, builtOf, liveOf, liveTotal}
 use Rattle.table_rules.specs.Checks.{sizesPass, marksPass, frameRefusal, headerPasses, readRefusal, changeRefusal}
@@ -34,7 +35,8 @@ use Rattle.call_rules.specs.Calls.Begin.{fresh, load, restore}
 use Rattle.call_rules.specs.Calls.Ask.{lookUp, range, nearest, dues, rangeBatch}
 use Rattle.history.specs.Trace.{beginShown, shows}
 use Rattle.history.specs.Trace.Payload.{bare}
-use Rattle.history.specs.Model.{Item, itemOf, Model, withTag, isIn, canRead, canChange, tagRefusal, itemRefusal, addRefusalOf, removeRefusalOf, fits, weightsIn, modelRanges, batchRefusalOf, questionRefusal, askRefusal, freshRefusalOf, begunShown}
+use Rattle.history.specs.Model.{Item, itemOf, Model, withTag, isIn, canRead, canChange, tagRefusal, itemRefusal, addRefusalOf, removeRefusalOf, fits}
+use Rattle.history.specs.Model.{weightsIn, modelRanges, batchRefusalOf, questionRefusal, askRefusal, freshRefusalOf, begunShown}
 use Rattle.history.proofs.Invariant.{Invariant}
 use Rattle.history.specs.Figures.{tagSound, measuresWithin}
 use Rattle.history.proofs.LoadTests.{most-above, every-not-any, all-any, stops-alike, passes-alike, when-alike, tag-sound, some-not-none}
@@ -72,8 +74,10 @@ short-frame (r ∷ rs) m s =
     let t = r ∷ rs in
     let header = s .header (omega arith) in
     let order : validOrder (orderOf t) ≡ true = ap validOrder (header .0) ∙ s .order in
-    let long : leb (tableRows (orderOf t)) (length t) ≡ false = ap (λ (n : ℕ). leb (tableRows n) (length t)) (header .0) ∙ lt-leb (tableRows (m .order)) (length t) (s .short) in
-    ap (λ (b : Bool). unless b badTable (unless (leb (tableRows (orderOf t)) (length t)) shortArea 0)) (and-pass (validOrder (orderOf t)) (validMetric (tableSpace t)) order (header .1))
+    let long : leb (tableRows (orderOf t)) (length t) ≡ false =
+    ap (λ (n : ℕ). leb (tableRows n) (length t)) (header .0) ∙ lt-leb (tableRows (m .order)) (length t) (s .short) in
+    ap (λ (b : Bool). unless b badTable (unless (leb (tableRows (orderOf t)) (length t)) shortArea 0))
+    (and-pass (validOrder (orderOf t)) (validMetric (tableSpace t)) order (header .1))
     ∙ ap (λ (b : Bool). unless b shortArea 0) long
 
 -- behind the frame a sound table is stopped by a short work area alone
@@ -85,7 +89,8 @@ header-sound t invariant =
 pub invariant-reads : (t : Table) → Invariant t → readRefusal t ≡ 0
 unfolding readRefusal
 invariant-reads t invariant =
-    ap (λ (n : ℕ). orElse n (unless (headerPasses t) badTable 0)) (invariant-frame t invariant) ∙ ap (λ (b : Bool). unless b badTable 0) (header-sound t invariant)
+    ap (λ (n : ℕ). orElse n (unless (headerPasses t) badTable 0)) (invariant-frame t invariant)
+    ∙ ap (λ (b : Bool). unless b badTable 0) (header-sound t invariant)
 
 pub invariant-changes : (rows : ℕ) (t : Table) → Invariant t → changeRefusal rows t ≡ unless (leb (workRows (orderOf t)) rows) shortArea 0
 unfolding changeRefusal
@@ -185,7 +190,8 @@ module _ (m : Model) (t : Table) where
     pub add-refusal : Lendable t m → (tag : ℕ) (p : Profile) (day : ℕ) → addRefusal t work tag p day ≡ addRefusalOf m (length t) (length work) tag p day
     unfolding addRefusal addRefusalOf
     add-refusal lendable tag p day =
-        stopped (changeRefusal (length work) t) _ _ (itemRefusal m tag p day) (change-refusal (length work) lendable) (λ e. item-alike (changeable lendable e) tag p day)
+        stopped (changeRefusal (length work) t) _ _ (itemRefusal m tag p day) (change-refusal (length work) lendable)
+        (λ e. item-alike (changeable lendable e) tag p day)
 
     pub remove-refusal : Lendable t m → (tag : ℕ) → removeRefusal t work tag ≡ removeRefusalOf m (length t) (length work) tag
     unfolding removeRefusal removeRefusalOf
@@ -197,27 +203,32 @@ module _ (m : Model) (t : Table) where
     unfolding lookUpRefusal askRefusal questionRefusal
     look-up-refusal tag = stopped (readRefusal t) _ _ (tagRefusal m tag) (read-refusal lendable) (λ e. tag-alike (readable lendable e) tag)
 
-    pub range-refusal : (q : Profile) (r firstDay : ℕ) (result : List Entry) → rangeRefusal t result q r firstDay ≡ askRefusal m (range q r firstDay) (length t) (length result)
+    pub range-refusal : (q : Profile) (r firstDay : ℕ) (result : List Entry)
+        → rangeRefusal t result q r firstDay ≡ askRefusal m (range q r firstDay) (length t) (length result)
     unfolding rangeRefusal fitRefusal askRefusal questionRefusal fits
     range-refusal q r firstDay result =
         stopped (readRefusal t) _ _ _ (read-refusal lendable)
         (λ e. passes-alike (measuresWithin q) badMeasure (measures-within q)
         (ap (λ (es : List Entry). unless (leb (length es) (length result)) noRoom 0) (range-alike (readable lendable e) q r firstDay)))
 
-    pub nearest-refusal : (q : Profile) (k firstDay : ℕ) (result : List Entry) → nearestRefusal t result q k firstDay ≡ askRefusal m (nearest q k firstDay) (length t) (length result)
+    pub nearest-refusal : (q : Profile) (k firstDay : ℕ) (result : List Entry)
+        → nearestRefusal t result q k firstDay ≡ askRefusal m (nearest q k firstDay) (length t) (length result)
     unfolding nearestRefusal fitRefusal askRefusal questionRefusal fits
     nearest-refusal q k firstDay result =
         stopped (readRefusal t) _ _ _ (read-refusal lendable)
         (λ e. passes-alike (measuresWithin q) badMeasure (measures-within q)
-        (ap (λ (es : List Entry). when (eqb k 0) noCount (unless (leb (length es) (length result)) noRoom 0)) (nearest-alike (readable lendable e) q k firstDay)))
+        (ap (λ (es : List Entry). when (eqb k 0) noCount (unless (leb (length es) (length result)) noRoom 0))
+        (nearest-alike (readable lendable e) q k firstDay)))
 
     pub dues-refusal : (tags area : List ℕ) → duesRefusal t tags area ≡ askRefusal m (dues tags) (length t) (length area)
     unfolding duesRefusal askRefusal questionRefusal
     dues-refusal tags area =
         stopped (readRefusal t) _ _ _ (read-refusal lendable)
-        (λ e. ap (λ (weights : List (Option ℤ)). weightsRefusal weights (length area)) (weights-alike (readable lendable e) tags) ∙ dues-figured (weightsIn m tags) (length area))
+        (λ e. ap (λ (weights : List (Option ℤ)). weightsRefusal weights (length area)) (weights-alike (readable lendable e) tags)
+        ∙ dues-figured (weightsIn m tags) (length area))
 
-    pub batch-refusal : (queries : List Row) (result : List Entry) → batchRefusal t result queries ≡ askRefusal m (rangeBatch queries) (length t) (length result)
+    pub batch-refusal : (queries : List Row) (result : List Entry)
+        → batchRefusal t result queries ≡ askRefusal m (rangeBatch queries) (length t) (length result)
     unfolding batchRefusal partsRefusal partSize askRefusal questionRefusal batchRefusalOf
     batch-refusal queries result =
         let size = length result / length queries in
@@ -232,11 +243,13 @@ fresh-refusal : (rows order : ℕ) (space : Space) → freshRefusal rows order s
 unfolding freshRefusal freshRefusalOf validOrder validMetric validWeights tableRows firstSlot room
 fresh-refusal rows order space =
     let next : suc order ≡ order + 1 = omega arith in
-    let ordered : (leb 0 order && leb order 12) ≡ not (ltb 12 order) = ap (λ (b : Bool). b && leb order 12) (le-leb 0 order (omega arith)) ∙ most-above order 12 in
+    let ordered : (leb 0 order && leb order 12) ≡ not (ltb 12 order) =
+    ap (λ (b : Bool). b && leb order 12) (le-leb 0 order (omega arith)) ∙ most-above order 12 in
     stops-alike (ltb 12 order) badOrder ordered
     (stops-alike (ltb 2 (space .metric)) badMetric (most-above (space .metric) 2)
     (stops-alike (any (λ w. ltb 100 w) (space .weights .each)) badWeight (all-any 100 (space .weights .each))
-    (stops-alike (ltb rows (order + 1 + 2 ^ (order + 1))) shortArea (ap (λ (n : ℕ). leb (order + 1 + 2 ^ n) rows) next ∙ most-above (order + 1 + 2 ^ (order + 1)) rows)
+    (stops-alike (ltb rows (order + 1 + 2 ^ (order + 1))) shortArea
+    (ap (λ (n : ℕ). leb (order + 1 + 2 ^ n) rows) next ∙ most-above (order + 1 + 2 ^ (order + 1)) rows)
     refl)))
 
 -- a call that begins a table, lent so many rows

@@ -14,7 +14,8 @@ use Rattle.lists.proofs.Lists.{all-weaken, all-both, perm-map}
 use Rattle.lists.proofs.Tests.{and-first, and-second, every-all, all-every}
 use Rattle.lists.proofs.Distinct.{distinct-perm}
 use Rattle.metric_rules.specs.Row.{Row, tagOf, profileOf, dayOf, measure}
-use Rattle.metric_rules.specs.Validity.{nationals, countryOf, nationalOf, lastCountry, lastNational, validTag, measureLimit, validMeasure, validMeasures, validMark}
+use Rattle.metric_rules.specs.Validity.{nationals, countryOf, nationalOf, lastCountry, lastNational, validTag, measureLimit, validMeasure, validMeasures}
+use Rattle.metric_rules.specs.Validity.{validMark}
 use Rattle.table_rules.specs.Geometry.{room, bucketsOf}
 use Rattle.table_rules.specs.Table.{Table, orderOf, builtOf, liveOf, slotsOf, inUse, liveSlots}
 use Rattle.table_rules.specs.Checks.{sizePasses, sizesPass}

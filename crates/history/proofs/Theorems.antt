@@ -26,6 +26,7 @@ pub use Rattle.history.proofs.AcceptedLeaves.{accepted-leaves}
 pub use Rattle.history.proofs.WritesRefused.{writes-refuse}
 pub use Rattle.history.proofs.RefinesStep.{any-area}
 pub use Rattle.history.proofs.BuildsKeep.{builds-keep-items}
+pub use Rattle.history.proofs.TreeForm.{lays-out}
 pub use Rattle.history.proofs.ImageBytes.{image-bytes}
 pub use Rattle.history.proofs.ImagesBack.{accepted-gives-back}
 pub use Rattle.history.proofs.StatesBack.{save-keeps, restore-loads}

@@ -1,5 +1,5 @@
--- The trees of an image, by the definition and by the model's own words: the rows that are read are the same, so are the slots before each one, and so is what each
--- of its three tests says. What a load and a restore show follows.
+-- The trees of an image, by the definition and by the model's own words: the rows that are read are the same, so are the slots before each one, and so is what
+-- each of its three tests says. What a load and a restore show follows.
 use Prim.Native.Nat.{ℕ, zero, suc, _+_, _-_, _*_, _/_, _^_, _≤_, _<_}
 use native.Mathlib.Omega.{arith}
 use mathlib.Core.Path.{_≡_, refl, sym, _∙_, ap, ap₂, subst}
@@ -20,19 +20,23 @@ use Rattle.table_rules.specs.Geometry.{bucketsOf}
 use Rattle.image_rules.specs.Bytes.{tagFields, dayFields, recordFields}
 use Rattle.image_rules.specs.Read as reader
 use Rattle.image_rules.specs.Read.{fieldsAt, dayAs, orderIn, formIn, spaceIn, builtIn, slotsBefore, rowIn, bucketIn}
-use Rattle.image_rules.specs.Trees.{duplicateTag, misplacedItem, noneHas, tagIsNew, sameItem, placeRefusal, slotRefusal, refusalsFrom, bucketRefusals, slotRefusals, firstRefused, treesReply}
+use Rattle.image_rules.specs.Trees.{duplicateTag, misplacedItem, noneHas, tagIsNew, sameItem, placeRefusal, slotRefusal, refusalsFrom, bucketRefusals}
+use Rattle.image_rules.specs.Trees.{slotRefusals, firstRefused, treesReply}
 use Rattle.image_rules.specs.declared.Loaded.{Loaded}
 use Rattle.image_rules.specs.Load.{fieldsRefusal, orLoaded, treesIn, loadReply}
 use Rattle.image_rules.proofs.Blocks.{map-count, all-at, count-append, length-count, length-flatten, runs}
 use Rattle.state_rules.specs.Parts.{partOf, savedImage}
 use Rattle.state_rules.specs.Restore.{nameRefusal, restoreReply}
 use Rattle.history.specs.Places.{numberFrom}
-use Rattle.history.specs.LoadTests.{orderByte, metricByte, formBytes, pairsFrom, recordSize, lengthIn, weightTooLarge, allSizesSound, dayMissing, allFieldsSound, builtAt, slotsUpTo, slotsInAll, loadRefusalOf, tagsFrom, recordFrom, slotsAt, tagIn, markIn, dayRead, spaceRead, imageIn, restoreRefusalOf}
+use Rattle.history.specs.LoadTests.{orderByte, metricByte, formBytes, pairsFrom, recordSize, lengthIn, weightTooLarge, allSizesSound, dayMissing}
+use Rattle.history.specs.LoadTests.{allFieldsSound, builtAt, slotsUpTo, slotsInAll, loadRefusalOf, tagsFrom, recordFrom, slotsAt, tagIn, markIn, dayRead}
+use Rattle.history.specs.LoadTests.{spaceRead, imageIn, restoreRefusalOf}
 use Rattle.history.specs.TreeTests.{slotWords, laidOut, tagTaken, slotRefusalOf, slotRefusalsOf}
 use Rattle.history.specs.Trace.{Shown, shows}
 use Rattle.history.specs.Trace.Payload.{aSlot}
 use Rattle.history.specs.Model.{orShown, firstShown, treesShown, loadShown}
-use Rattle.history.proofs.LoadTests.{not-any, every-not-any, stops-alike, passes-alike, number-from, tag-place, record-place, tag-from, record-from, form-read, next-read, built-read, before-read, tag-read, live-mark, load-refusal, restore-refusal, restored-image}
+use Rattle.history.proofs.LoadTests.{not-any, every-not-any, stops-alike, passes-alike, number-from, tag-place, record-place, tag-from, record-from}
+use Rattle.history.proofs.LoadTests.{form-read, next-read, built-read, before-read, tag-read, live-mark, load-refusal, restore-refusal, restored-image}
 use Rattle.history.proofs.LoadItems.{space-read}
 
 -- a list as its elements by number, and some of the first of such a list
@@ -89,11 +93,13 @@ none-selected chosen met [] = refl
 none-selected {A} chosen met (x ∷ xs) = go (chosen x) (none-selected chosen met xs)
   where
     go : (b : Bool) → every (λ y. not (met y)) (select chosen xs) ≡ not (any (λ y. chosen y && met y) xs)
-        → every (λ y. not (met y)) (elim b as (λ _. List A) [ true ↦ x ∷ select chosen xs | false ↦ select chosen xs ]) ≡ not ((b && met x) || any (λ y. chosen y && met y) xs)
+        → every (λ y. not (met y)) (elim b as (λ _. List A) [ true ↦ x ∷ select chosen xs | false ↦ select chosen xs ])
+        ≡ not ((b && met x) || any (λ y. chosen y && met y) xs)
     go true e = ap (λ (b : Bool). not (met x) && b) e ∙ not-any (met x) (any (λ y. chosen y && met y) xs)
     go false e = e
 
-any-map : {A B : Type 0} (f : A → B) (test : B → Bool) (before : A → Bool) → ((x : A) → test (f x) ≡ before x) → (xs : List A) → any test (map f xs) ≡ any before xs
+any-map : {A B : Type 0} (f : A → B) (test : B → Bool) (before : A → Bool) → ((x : A) → test (f x) ≡ before x) → (xs : List A)
+    → any test (map f xs) ≡ any before xs
 unfolding any
 any-map f test before h [] = refl
 any-map f test before h (x ∷ xs) = ap₂ _||_ (h x) (any-map f test before h xs)
@@ -112,7 +118,8 @@ module _ (image : List ℕ) where
   fours (suc n) j at place rest e =
       let next : at + 4 + 4 * n ≡ at + 4 * suc n = omega arith in
       ap₂ _∷_ (number-from image 4 at (place + 4 * j) e)
-      (fours n (suc j) (at + 4) place rest (omega (arith, e)) ∙ ap (λ (p : ℕ). map (λ i. numberFrom image (place + 4 * i) 4) (countFrom (suc j) n) ++ fieldsAt image rest p) next)
+      (fours n (suc j) (at + 4) place rest (omega (arith, e))
+      ∙ ap (λ (p : ℕ). map (λ i. numberFrom image (place + 4 * i) 4) (countFrom (suc j) n) ++ fieldsAt image rest p) next)
 
   day-word : (form at place : ℕ) → at ≡ place + 40 → fieldsAt image (dayFields form) at ++ dayAs form ≡ dayRead form image place ∷ []
   unfolding fieldsAt dayFields dayAs dayRead
@@ -128,11 +135,15 @@ module _ (image : List ℕ) where
       let tag-words : List ℕ = map (λ j. numberFrom image (tags + 4 * j) 4) (countFrom 0 2) in
       let words : List ℕ = map (λ j. numberFrom image (place + 4 * j) 4) (countFrom 0 10) in
       let first : fieldsAt image (4 ∷ 4 ∷ []) (tag-place image i) ≡ tag-words ++ [] = fours 2 0 (tag-place image i) tags [] (omega (arith, tag-from image i)) in
-      let behind : fieldsAt image (recordFields (formIn image)) (record-place image i) ≡ words ++ fieldsAt image (dayFields (formIn image)) (record-place image i + 4 * 10) =
+      let behind : fieldsAt image (recordFields (formIn image)) (record-place image i) ≡ words ++ fieldsAt image (dayFields (formIn image))
+      (record-place image i + 4 * 10) =
       fours 10 0 (record-place image i) place (dayFields (formIn image)) (omega (arith, record-from image i)) in
-      let day = day-word (formIn image) (record-place image i + 4 * 10) place (omega (arith, record-from image i)) ∙ ap (λ (form : ℕ). dayRead form image place ∷ []) (form-read image) in
+      let day =
+      day-word (formIn image) (record-place image i + 4 * 10) place (omega (arith, record-from image i))
+      ∙ ap (λ (form : ℕ). dayRead form image place ∷ []) (form-read image) in
       ap₂ (λ (xs ys : List ℕ). xs ++ ys ++ dayAs (formIn image)) (first ∙ append-nil tag-words) behind
-      ∙ ap (λ (xs : List ℕ). xs ++ dayAs (formIn image)) (sym (append-assoc tag-words words (fieldsAt image (dayFields (formIn image)) (record-place image i + 4 * 10))))
+      ∙ ap (λ (xs : List ℕ). xs ++ dayAs (formIn image))
+      (sym (append-assoc tag-words words (fieldsAt image (dayFields (formIn image)) (record-place image i + 4 * 10))))
       ∙ append-assoc (tag-words ++ words) (fieldsAt image (dayFields (formIn image)) (record-place image i + 4 * 10)) (dayAs (formIn image))
       ∙ ap (λ (xs : List ℕ). tag-words ++ words ++ xs) day
 
@@ -207,7 +218,8 @@ module _ (image : List ℕ) where
       unfolding noneHas
       own-met =
           ap (every (λ row. not (eqb (tagOf row) (tagOf (rowIn image slot))))) earlier-is
-          ∙ every-map (rowIn image) (λ row. not (eqb (tagOf row) (tagOf (rowIn image slot)))) (λ j. not (eqb (tagIn image j) (tagIn image slot))) (λ j. ap not (met j)) (countFrom from s)
+          ∙ every-map (rowIn image) (λ row. not (eqb (tagOf row) (tagOf (rowIn image slot)))) (λ j. not (eqb (tagIn image j) (tagIn image slot)))
+          (λ j. ap not (met j)) (countFrom from s)
           ∙ every-not-any (λ j. not (eqb (tagIn image j) (tagIn image slot))) (λ j. eqb (tagIn image j) (tagIn image slot)) (λ j. refl) (countFrom from s)
 
       live-met : noneHas (tagOf (rowIn image slot)) (select isLive (flatten (map (bucketIn image) (countFrom 0 k)) ++ take s (bucketIn image k)))
@@ -216,7 +228,8 @@ module _ (image : List ℕ) where
       live-met =
           ap (λ (rows : List Row). every (λ row. not (eqb (tagOf row) (tagOf (rowIn image slot)))) (select isLive rows)) all-before
           ∙ none-selected isLive (λ row. eqb (tagOf row) (tagOf (rowIn image slot))) (map (rowIn image) (countFrom 0 slot))
-          ∙ ap not (any-map (rowIn image) (λ row. isLive row && eqb (tagOf row) (tagOf (rowIn image slot))) (λ j. eqb (markIn image j) 0 && eqb (tagIn image j) (tagIn image slot))
+          ∙ ap not (any-map (rowIn image) (λ row. isLive row && eqb (tagOf row) (tagOf (rowIn image slot)))
+          (λ j. eqb (markIn image j) 0 && eqb (tagIn image j) (tagIn image slot))
           (λ j. ap₂ _&&_ (live-mark image j) (met j)) (countFrom 0 slot))
 
       new-is : tagIsNew (flatten (map (bucketIn image) (countFrom 0 k))) (take s (bucketIn image k)) (rowIn image slot) ≡ not (tagTaken image k s)
@@ -226,22 +239,28 @@ module _ (image : List ℕ) where
           ∙ new-or-taken (any (λ j. eqb (tagIn image j) (tagIn image slot)) (countFrom from s)) (eqb (markIn image slot) 0) _
 
       -- all three
-      slot-refused : slotRefusal (flatten (map (bucketIn image) (countFrom 0 k))) (take s (bucketIn image k)) (getD (layout (distance (spaceIn image)) (bucketIn image k)) s []) (getD (bucketIn image k) s [])
+      slot-refused :
+          slotRefusal (flatten (map (bucketIn image) (countFrom 0 k))) (take s (bucketIn image k))
+          (getD (layout (distance (spaceIn image)) (bucketIn image k)) s []) (getD (bucketIn image k) s [])
           ≡ slotRefusalOf image k s
       unfolding slotRefusal placeRefusal slotRefusalOf thresholdOf word thresholdAt
       slot-refused =
           let laid = getD (laidOut image k) s [] in
           let words = slotWords image slot in
           let long : length laid ≡ 13 = all-at (λ row. length row ≡ 13) (laidOut image k) s [] laid-long (omega (arith, laid-length, within)) in
-          ap₂ (slotRefusal (flatten (map (bucketIn image) (countFrom 0 k))) (take s (bucketIn image k))) (ap (λ (rows : List Row). getD rows s []) laid-is) row-is
+          ap₂ (slotRefusal (flatten (map (bucketIn image) (countFrom 0 k))) (take s (bucketIn image k)))
+          (ap (λ (rows : List Row). getD rows s []) laid-is) row-is
           ∙ stops-alike (tagTaken image k s) duplicateTag new-is
           (ap (placeRefusal laid) (row-read slot)
-          ∙ passes-alike (every (λ w. eqb (getD laid w 0) (getD words w 0)) (countFrom 0 10 ++ (12 ∷ []))) misplacedItem (same-words laid words long (words-long slot)) refl)
+          ∙ passes-alike (every (λ w. eqb (getD laid w 0) (getD words w 0)) (countFrom 0 10 ++ (12 ∷ []))) misplacedItem
+          (same-words laid words long (words-long slot)) refl)
 
-    bucket-refused : bucketRefusals (spaceIn image) (flatten (map (bucketIn image) (countFrom 0 k))) (bucketIn image k) ≡ map (slotRefusalOf image k) (countFrom 0 size)
+    bucket-refused : bucketRefusals (spaceIn image) (flatten (map (bucketIn image) (countFrom 0 k))) (bucketIn image k)
+        ≡ map (slotRefusalOf image k) (countFrom 0 size)
     unfolding bucketRefusals
     bucket-refused =
-        refusals-by (flatten (map (bucketIn image) (countFrom 0 k))) [] (layout (distance (spaceIn image)) (bucketIn image k)) (bucketIn image k) (slotRefusalOf image k) 0
+        refusals-by (flatten (map (bucketIn image) (countFrom 0 k))) [] (layout (distance (spaceIn image)) (bucketIn image k)) (bucketIn image k)
+        (slotRefusalOf image k) 0
         (layout-length (distance (spaceIn image)) (bucketIn image k))
         (λ s h. let at : s ≡ 0 + s = omega arith in slot-refused s (omega (arith, h, bucket-long)) ∙ ap (slotRefusalOf image k) at)
         ∙ ap (λ (n : ℕ). map (slotRefusalOf image k) (countFrom 0 n)) bucket-long
@@ -250,7 +269,8 @@ module _ (image : List ℕ) where
   unfolding slotRefusals slotRefusalsOf bucketsOf
   slots-refused =
       ap flatten
-      (map-count (λ k. bucketRefusals (spaceIn image) (flatten (map (bucketIn image) (countFrom 0 k))) (bucketIn image k)) (λ k. map (slotRefusalOf image k) (countFrom 0 (builtAt image k)))
+      (map-count (λ k. bucketRefusals (spaceIn image) (flatten (map (bucketIn image) (countFrom 0 k))) (bucketIn image k))
+      (λ k. map (slotRefusalOf image k) (countFrom 0 (builtAt image k)))
       0 (suc (orderIn image)) (λ k l h. bucket-refused k)
       ∙ ap (λ (n : ℕ). map (λ k. map (slotRefusalOf image k) (countFrom 0 (builtAt image k))) (countFrom 0 n)) (next-read image))
 
@@ -303,7 +323,8 @@ refusals-many : (image : List ℕ) → length (slotRefusalsOf image) ≡ slotsIn
 unfolding slotRefusalsOf slotsInAll slotsUpTo
 refusals-many image =
     length-flatten (λ k. map (slotRefusalOf image k) (countFrom 0 (builtAt image k))) 0 (orderByte image + 1)
-    ∙ ap total (map-alike (λ k. length-map (countFrom 0 (builtAt image k)) (slotRefusalOf image k) ∙ length-count 0 (builtAt image k)) (countFrom 0 (orderByte image + 1)))
+    ∙ ap total
+    (map-alike (λ k. length-map (countFrom 0 (builtAt image k)) (slotRefusalOf image k) ∙ length-count 0 (builtAt image k)) (countFrom 0 (orderByte image + 1)))
 
 trees-within : (image : List ℕ) → (treesIn image .refusal ≡ 0 → ⊥) → treesIn image .slot < slotsInAll image
 unfolding treesIn treesReply
@@ -346,7 +367,8 @@ restore-below states name =
     (omega arith))))
 
 -- behind a refusal below 36
-slot-behind : (n : ℕ) (reply : Loaded) (most : ℕ) → n < 36 → (36 ≤ reply .refusal → reply .slot < most) → 36 ≤ orLoaded n reply .refusal → orLoaded n reply .slot < most
+slot-behind : (n : ℕ) (reply : Loaded) (most : ℕ) → n < 36 → (36 ≤ reply .refusal → reply .slot < most) → 36 ≤ orLoaded n reply .refusal
+    → orLoaded n reply .slot < most
 slot-behind zero reply most h behind told = behind told
 slot-behind (suc n) reply most h behind told = absurd (omega (arith, h, told))
 
@@ -356,13 +378,17 @@ load-within rows image =
     slot-behind (fieldsRefusal rows image) (treesIn image) (slotsInAll image) (omega (arith, load-refusal image rows, load-below rows image))
     (λ told. trees-within image (λ z. omega (arith, told, z)))
 
-pub restore-within : (rows : ℕ) (states : List ℕ) (name : ℕ) → 36 ≤ restoreReply rows states name .refusal → restoreReply rows states name .slot < slotsInAll (imageIn states name)
+pub restore-within : (rows : ℕ) (states : List ℕ) (name : ℕ) → 36 ≤ restoreReply rows states name .refusal
+    → restoreReply rows states name .slot < slotsInAll (imageIn states name)
 unfolding restoreReply
 restore-within rows states name told = go (nameRefusal states name) refl told
   where
     image : List ℕ
     image = savedImage (partOf states name)
 
-    go : (n : ℕ) → nameRefusal states name ≡ n → 36 ≤ orLoaded n (loadReply rows image) .refusal → orLoaded n (loadReply rows image) .slot < slotsInAll (imageIn states name)
-    go zero e h = subst (λ (bytes : List ℕ). loadReply rows image .slot < slotsInAll bytes) (restored-image states name (sym (restore-refusal states name) ∙ e)) (load-within rows image h)
+    go : (n : ℕ) → nameRefusal states name ≡ n → 36 ≤ orLoaded n (loadReply rows image) .refusal
+        → orLoaded n (loadReply rows image) .slot < slotsInAll (imageIn states name)
+    go zero e h =
+        subst (λ (bytes : List ℕ). loadReply rows image .slot < slotsInAll bytes) (restored-image states name (sym (restore-refusal states name) ∙ e))
+        (load-within rows image h)
     go (suc n) e h = absurd (omega (arith, h, e, restore-refusal states name, restore-below states name))

@@ -10,7 +10,7 @@ use Rattle.search_rules.specs.Range.{Entry}
 use Rattle.table_rules.specs.Table.{Table}
 use Rattle.call_rules.specs.Calls.{replyTo}
 use Rattle.call_rules.specs.Calls.Call.{change, ask}
-use Rattle.call_rules.specs.Calls.Change.{add, remove}
+use Rattle.call_rules.specs.Calls.Change.{add, remove, readList}
 use Rattle.call_rules.specs.Calls.Ask.{range, nearest, rangeBatch}
 use Rattle.history.specs.Places.{orderWord, builtSize, liveSize}
 
@@ -37,8 +37,11 @@ pub record Searches (t : Table) (area : List Entry) : Type 0 where
       → SlotsBound t (replyTo (ask (nearest query k firstDay)) t area .distances)
   pub batches : (queries : List Row) → SlotsBound t (replyTo (ask (rangeBatch queries)) t area .distances)
 
--- what an add or a removal reports: at most T·2^T
+-- what an add or a removal reports: at most T·2^T; and a herd list: at most that for each item added
 pub record Builds (t : Table) (work : List Row) : Type 0 where
   pub adds : (tag : ℕ) (p : Profile) (day : ℕ)
       → replyTo (change (add tag p day)) t work .distances ≤ orderWord t * 2 ^ orderWord t
   pub removes : (tag : ℕ) → replyTo (change (remove tag)) t work .distances ≤ orderWord t * 2 ^ orderWord t
+  pub lists : (list : List ℕ) (day : ℕ)
+      → let reply = replyTo (change (readList list day)) t work in
+      reply .distances ≤ reply .added * (orderWord t * 2 ^ orderWord t)

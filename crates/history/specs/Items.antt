@@ -1,5 +1,5 @@
 -- RULES 8.3, 9.2 to 9.4 by rows and words alone: which items an accepted add or removal leaves in the slots of mark 0,
--- whatever it builds or empties. Of any table of 32-bit words, foreign ones too.
+-- whatever it builds or empties. Of any table whose rows are 13 words of 32 bits, foreign ones too.
 use Prim.Native.Nat.{ℕ, suc, _^_, _<_}
 use mathlib.Core.Path.{_≡_}
 use mathlib.Core.List.{List, _∷_, map, flatten, List·Permᴰ}

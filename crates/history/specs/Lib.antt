@@ -10,6 +10,7 @@ pub mod Images
 pub mod Represents
 pub mod Reports
 pub mod Trees
+pub mod TreeForm
 pub mod Agreement
 pub mod Counter
 pub mod Leaves

@@ -1,5 +1,6 @@
--- RULES 16, the reference model: an order, a metric, four weights and a list of items. It is fed the calls' arguments, a load's image, a restore's states and a herd list
--- too, and the lengths of the lent areas, but never an answer or what the table holds.
+-- RULES 16, the reference model: an order, a metric, four weights and a list of items. It is fed the calls' arguments,
+-- a load's image, a restore's states and a herd list too, and the lengths of the lent areas, but never an answer or
+-- what the table holds.
 use Prim.Native.Nat.{ℕ, zero, suc, _+_, _-_, _*_, _/_, _%_, _^_}
 use mathlib.Core.Bool.{Bool, true, false, not, _&&_, _||_}
 use mathlib.Core.List.{List, [], _∷_, map, _++_, flatten}
@@ -36,7 +37,8 @@ use Rattle.history.specs.LoadTests.{orderByte, formBytes, slotsInAll, re
 use Rattle.history.specs.LoadTests.{spaceRead, loadRefusalOf, imageIn, restoreRefusalOf}
 use Rattle.history.specs.TreeTests.{slotRefusalsOf}
 use Rattle.history.specs.Trace.{Step, Payload, Shown, zeroed, shows}
-use Rattle.history.specs.Trace.Payload.{bare, aSlot, aWeighing, someEntries, aListRead, someDues, someLists, aDraft}
+use Rattle.history.specs.Trace.Payload.{bare, aSlot, aWeighing, someEntries, aListRead, someDues, someLists}
+use Rattle.history.specs.Trace.Payload.{aDraft}
 
 -- RULES 2.7: an item as handed over; and the item of a slot's row
 pub record Item : Type 0 where
@@ -53,7 +55,8 @@ pub record Model : Type 0 where
   pub space : Space
   pub items : List Item
 
--- of the areas lent to a call it is told the lengths alone; of a drafting those of the work area, of the summary and of the listing
+-- of the areas lent to a call it is told the lengths alone; of a drafting those of the work area, of the summary and of
+-- the listing
 pub record DraftLengths : Type 0 where
   pub work : ℕ
   pub summary : ℕ
@@ -73,7 +76,12 @@ askLengths (range q r firstDay) result = length result
 askLengths (nearest q k firstDay) result = length result
 askLengths (dues tags) area = length area
 askLengths (rangeBatch queries) result = length result
-askLengths (Ask.lots radii chosen) areas = record { work = length (areas .work); summary = length (areas .summary); listing = length (areas .listing) }
+askLengths (Ask.lots radii chosen) areas =
+    record {
+      work = length (areas .work);
+      summary = length (areas .summary);
+      listing = length (areas .listing);
+    }
 
 abbrev pub Lengths : Call → Type 0
 Lengths (begin b) = Unit {0}
@@ -105,9 +113,11 @@ unfoldable pub weighedIn : List Item → Payload
 weighedIn [] = aWeighing noProfile 0
 weighedIn (i ∷ is) = aWeighing (i .profile) (i .day)
 
--- RULES 16.5, the scan: the entry of every item weighed on the first day or later; all with d ≤ r; the first k of all, or all if fewer; by distance, then tag
+-- RULES 16.5, the scan: the entry of every item weighed on the first day or later; all with d ≤ r; the first k of all,
+-- or all if fewer; by distance, then tag
 unfoldable pub scanned : Model → Profile → ℕ → List Entry
-scanned m q firstDay = map (λ i. entry (i .tag) (distance (m .space) (i .profile) q)) (select (λ i. leb firstDay (i .day)) (m .items))
+scanned m q firstDay =
+    map (λ i. entry (i .tag) (distance (m .space) (i .profile) q)) (select (λ i. leb firstDay (i .day)) (m .items))
 
 unfoldable pub modelRange : Model → Profile → ℕ → ℕ → List Entry
 modelRange m q r firstDay = ordered (select (λ e. leb (entryDistance e) r) (scanned m q firstDay))
@@ -115,7 +125,8 @@ modelRange m q r firstDay = ordered (select (λ e. leb (entryDistance e) r) (sca
 unfoldable pub modelNearest : Model → Profile → ℕ → ℕ → List Entry
 modelNearest m q k firstDay = take k (ordered (scanned m q firstDay))
 
--- RULES 16.6: what the item with a tag weighs, its first measure, and the same of a list of tags; none where no item has the tag
+-- RULES 16.6: what the item with a tag weighs, its first measure, and the same of a list of tags; none where no item
+-- has the tag
 unfoldable pub weightOf : List Item → Option ℤ
 weightOf [] = Option.none
 weightOf (i ∷ is) = Option.some (measure (i .profile) 0)
@@ -277,12 +288,17 @@ linesAnswered day m rows work i (malformed ∷ lines) = stopsAt m badListLine i
 linesAnswered day m rows work i (anItem tag p ∷ lines) =
     elim (addRefusalOf m rows work tag p day) [
       | suc r ↦ stopsAt m (suc r) i
-      | zero ↦ oneMoreAdded (linesAnswered day (with (record { tag = tag; profile = p; day = day }) m) rows work (suc i) lines)
+      | zero ↦
+          (let item : Item = record { tag = tag; profile = p; day = day } in
+          oneMoreAdded (linesAnswered day (with item m) rows work (suc i) lines))
     ]
 
 unfoldable pub listAnswered : Model → ℕ → ℕ → List ℕ → ℕ → ListAnswered
 listAnswered m rows work list day =
-    elim (hasHeader list) [ false ↦ stopsAt m badListHeader 1 | true ↦ linesAnswered day m rows work 2 (itemLines list) ]
+    elim (hasHeader list) [
+      | false ↦ stopsAt m badListHeader 1
+      | true ↦ linesAnswered day m rows work 2 (itemLines list)
+    ]
 
 -- RULES 12.1, 12.3, slot i of an image as the model reads it, at places of its own (LoadTests): its tag among the tags;
 -- in its record four measures in two's complement, two code words, and the day at the end
@@ -301,8 +317,8 @@ itemRead bytes i =
       day = dayRead (formBytes bytes) bytes (recordFrom bytes i);
     }
 
--- RULES 16.4, fresh: order, metric and weights as given and no item; load: those of the image, with its items of mark 0;
--- restore: a load of the image in the part
+-- RULES 16.4, fresh: order, metric and weights as given and no item; load: those of the image, with its items of mark
+-- 0; restore: a load of the image in the part
 unfoldable pub imageModel : List ℕ → Model
 imageModel bytes =
     record {
@@ -316,7 +332,8 @@ modelBegun (fresh order space) = record { order = order; space = space; items = 
 modelBegun (load image) = imageModel image
 modelBegun (restore states name) = imageModel (imageIn states name)
 
--- RULES 7.2, 14.4, fresh, by figures of the model's own: 3 for an order above 12, 4 for a metric above 2, 32 for a weight above 100, 23 for fewer rows than T + 1 + 2^(T+1)
+-- RULES 7.2, 14.4, fresh, by figures of the model's own: 3 for an order above 12, 4 for a metric above 2, 32 for a
+-- weight above 100, 23 for fewer rows than T + 1 + 2^(T+1)
 unfoldable pub freshRefusalOf : ℕ → ℕ → Space → ℕ
 freshRefusalOf rows order space =
     when (ltb 12 order) badOrder

@@ -1,4 +1,5 @@
--- RULES 17.3, 17.4, 17.6, 17.7, what holds of a table after a list of calls: demand 2 on buckets, trees and searches, and demand 3.
+-- RULES 17.3, 17.4, 17.6, 17.7, what holds of a table after a list of calls: demand 2 on buckets, trees and searches,
+-- and demand 3.
 use Prim.Native.Nat.{ℕ, _+_, _*_, _/_, _%_, _≤_, _<_}
 use mathlib.Core.Path.{_≡_}
 use mathlib.Core.Bool.{Bool, true, not, _||_}
@@ -12,7 +13,8 @@ use Rattle.metric_rules.specs.Row.{Row, IsProfile, tagOf, measure, zeroRow}
 use Rattle.metric_rules.specs.Distance.{validSpace, distance}
 use Rattle.tree_rules.specs.Layout.{isLayout}
 use Rattle.table_rules.specs.Geometry.{validOrder, room, bucketsOf, headerRow, sizesRow, firstSlot, tableRows}
-use Rattle.table_rules.specs.Table.{Table, rowAt, orderOf, tableSpace, builtOf, liveOf, slotsOf, inUse, liveSlots, pairRow, headerOf}
+use Rattle.table_rules.specs.Table.{Table, rowAt, orderOf, tableSpace, builtOf, liveOf, slotsOf, inUse, liveSlots}
+use Rattle.table_rules.specs.Table.{pairRow, headerOf}
 use Rattle.table_rules.specs.Checks.{sizesPass, marksPass}
 use Rattle.table_rules.specs.Rebuild.{liveItems}
 use Rattle.table_rules.specs.LookUp.{lookUpReply}
@@ -71,23 +73,27 @@ pub record Represents (t : Table) (m : Model) : Type 0 where
   -- 10. every live item is in exactly one bucket
   pub oneBucket : every (λ i. eqb (length (bucketsWith t (i .tag))) 1) (m .items) ≡ true
   -- 11. range answers as a scan of the model, for every query, radius and first day
-  pub range : (q : Profile) (r firstDay : ℕ) → IsProfile q → rangeAnswer t q r firstDay .entries ≡ modelRange m q r firstDay
+  pub range : (q : Profile) (r firstDay : ℕ) → IsProfile q
+      → rangeAnswer t q r firstDay .entries ≡ modelRange m q r firstDay
   -- 12. nearest likewise, for every query, k and first day
-  pub nearest : (q : Profile) (k firstDay : ℕ) → IsProfile q → nearestAnswer t q k firstDay .entries ≡ modelNearest m q k firstDay
+  pub nearest : (q : Profile) (k firstDay : ℕ) → IsProfile q
+      → nearestAnswer t q k firstDay .entries ≡ modelNearest m q k firstDay
 
--- RULES 8.5, 10.2, the bucket in a reply: an accepted look up names the one in which a live slot has the tag, and no other has it; an accepted add names the one
--- that has it in the table after the call
+-- RULES 8.5, 10.2, the bucket in a reply: an accepted look up names the one in which a live slot has the tag, and no
+-- other has it; an accepted add names the one that has it in the table after the call
 pub record NamesBuckets (t : Table) : Type 0 where
   pub lookUps : (tag : ℕ) → lookUpReply t tag .refusal ≡ 0 → bucketsWith t tag ≡ lookUpReply t tag .bucket ∷ []
-  pub adds : (work : List Row) (tag : ℕ) (p : Profile) (day : ℕ) → IsChange (add tag p day) → addReply t work tag p day .refusal ≡ 0
+  pub adds : (work : List Row) (tag : ℕ) (p : Profile) (day : ℕ) → IsChange (add tag p day)
+      → addReply t work tag p day .refusal ≡ 0
       → bucketsWith (tableAfterAdd t work tag p day) tag ≡ addReply t work tag p day .bucket ∷ []
 
--- RULES 17.7, the bound on all rebuilds together, with A adds, a herd list's accepted lines among them, and R removals at order T: 4·T·(T+1)·A + 11·T·R
+-- RULES 17.7, the bound on all rebuilds together, with A adds, a herd list's accepted lines among them, and R removals
+-- at order T: 4·T·(T+1)·A + 11·T·R
 unfoldable pub rebuildBound : ℕ → Sums → ℕ
 rebuildBound order sums = 4 * order * (order + 1) * sums .adds + 11 * order * sums .removals
 
--- RULES 17.6, 17.7, demand 3: at each call table and model show the same; after the list the table represents the model, and all rebuilds since the
--- last fresh, load or restore keep within the bound, of the order that the calls set
+-- RULES 17.6, 17.7, demand 3: at each call table and model show the same; after the list the table represents the
+-- model, and all rebuilds since the last fresh, load or restore keep within the bound, of the order that the calls set
 pub record Holds (h : History) : Type 0 where
   pub traces : trace (before (h .initial)) (steps h) ≡ modelTrace blankModel (steps h)
   pub represents : Represents (finalState h .table) (finalModel h)

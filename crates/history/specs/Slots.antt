@@ -16,8 +16,8 @@ use Rattle.table_rules.specs.LookUp.{lookUpReply}
 use Rattle.table_rules.specs.Refusals.{notLive}
 use Rattle.table_rules.specs.Add.{addReply}
 use Rattle.table_rules.specs.Remove.{afterDeletion, removeReply, tableAfterRemove}
-use Rattle.dues_rules.specs.Board.{board, duesBy}
 use Rattle.dues_rules.specs.Listed.{duesReply, duesAfter}
+use Rattle.history.specs.Figures.{centsAKilo, inCents}
 use Rattle.history.specs.Places.{nthRow, wordIn, wideIn, orderWord, builtSize, liveSize, slotRow, profileIn}
 
 -- RULES 4.2, 5.5: at place i of bucket b a slot is built, its mark is 0, and its tag's words, the low one first, are
@@ -66,7 +66,7 @@ pub record PaysFirst (t : Table) (tag paid : ℕ) : Type 0 where
   pub weight : ℕ
   pub first : FirstAt t tag bucket slot
   pub weighs : toZ w32 (wordIn t (slotRow t bucket slot) 2) ≡ pos weight
-  pub pays : paid ≡ duesBy board weight
+  pub pays : paid ≡ inCents (weight * centsAKilo weight)
 
 -- no slot has the tag and mark 0
 abbrev pub NoneAt : Table → ℕ → Type 0

@@ -3,13 +3,13 @@
 use Prim.Native.Nat.{ℕ, suc, _+_, _-_, _/_, _≤_, _<_}
 use mathlib.Core.Path.{_≡_}
 use mathlib.Core.Logic.{_⊎_}
-use mathlib.Core.Bool.{Bool, true, false}
+use mathlib.Core.Bool.{Bool, true, false, _&&_}
 use mathlib.Core.List.{List, [], _∷_, _++_, map}
 use lib.ListN.{length, take, drop}
-use lib.Dec.{ltb}
+use lib.Dec.{leb, ltb, eqb}
 use Rattle.lists.specs.Lists.{All, select}
 use Rattle.metric_rules.specs.declared.Profile.{Profile}
-use Rattle.metric_rules.specs.Row.{Row, profileOf, thresholdOf}
+use Rattle.metric_rules.specs.Row.{Row, profileOf, thresholdOf, markOf, dayOf}
 use Rattle.lots_rules.specs.Claims.{OneOf}
 
 -- numbers in rising order, none twice and none below `least`
@@ -48,6 +48,10 @@ abbrev pub VisitedByOne : (Profile → Profile → ℕ) → List Row → List Ro
 VisitedByOne dist [] slots i = ⊥
 VisitedByOne dist (query ∷ queries) slots i =
     Visited dist (profileOf query) (thresholdOf query) slots i ⊎ VisitedByOne dist queries slots i
+
+-- RULES 11.2, which rows a search may report: mark 0, and a day not before the first
+abbrev pub isWeighed : ℕ → Row → Bool
+isWeighed firstDay row = eqb (markOf row) 0 && leb firstDay (dayOf row)
 
 -- nearest for k items, of the rows that `reports` says may be reported
 module _ (dist : Profile → Profile → ℕ) (query : Profile) (reports : Row → Bool) (k : ℕ) where

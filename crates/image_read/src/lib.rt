@@ -1,4 +1,4 @@
-// The numbers of an image at their places, and its slots as rows. A slice and a number say where to read.
+// The numbers of an image at their places, and its slots as rows. All are read through a reader, two at a time.
 ghost use mathlib.Core.Path.{_≡_};
 ghost use Prim.Native.Nat.{_+_, _*_, _≤_, _<_};
 ghost use mathlib.Core.List.{[], _∷_, _++_};
@@ -7,10 +7,8 @@ ghost use Rattle.image_rules.specs.Bytes.{startBytes, headerBytes, tagFields, d
 ghost use Rattle.image_rules.specs.Read.{numberAt, fieldsAt, orderIn, formIn, weightsAs, dayAs, builtIn, liveIn, slotsIn};
 ghost use Rattle.image_read.specs.InImage.{Started, Headed, HasSizes, Whole, InImage, slotIn};
 use image_form::Form;
-use image_reader::number_at;
 use image_reader::two_from;
 use image_rules::DAY_BYTES;
-use image_rules::RECORD_WORDS_BYTES;
 use image_rules::SIZE_BYTES;
 use image_rules::START_BYTES;
 use image_rules::TAG_BYTES;
@@ -19,6 +17,11 @@ use metric_rules::Space;
 use metric_rules::WEIGHTS_ONE;
 use metric_rules::Weights;
 use table_order::Order;
+
+// The bytes of a word, and where the last word of a record, its mark, stands before the day.
+const WORD_BYTES: usize = 4;
+
+const MARK_AT: usize = 36;
 
 // An image's header, its numbers as they stand there: they are tested when they are known.
 pub struct Header {
@@ -37,22 +40,7 @@ pub struct Slots {
     pub count: usize,
 }
 
-// The number of four bytes, lowest first.
-fn of_four(a: u8, b: u8, c: u8, d: u8) -> u32
-    ensures { λ r. ⌜ r ≡ a + 256 * (b + 256 * (c + 256 * d)) ⌝ }
-{
-    a as u32 + b as u32 * 0x100 + c as u32 * 0x1_0000 + d as u32 * 0x100_0000
-}
-
-// The number that stands in four bytes at a place.
-pub fn number32(image: &[u8], at: usize) -> u32
-    requires { ⌜ at + 4 ≤ length (now image) ⌝ }
-    ensures { λ r. ⌜ r ≡ numberAt (now (image .entry)) 4 at ⌝ }
-{
-    of_four(image[at], image[at + 1], image[at + 2], image[at + 3])
-}
-
-// What an image of any form begins with. Its weights stay 1 until they are read. It, the weights and the sizes are read through a reader.
+// What an image of any form begins with. Its weights stay 1 until they are read.
 pub fn start_in(image: &[u8]) -> Header
     requires { ⌜ startBytes ≤ length (now image) ⌝ }
     ensures { λ r. ⌜ Started (now (image .entry)) r ⌝ }
@@ -177,27 +165,34 @@ fn day_at(image: &[u8], form: Form, r: usize) -> u32
     if form.number < Form::FIRST_WITH_DAYS {
         return 1;
     }
-    number_at(image, r + RECORD_WORDS_BYTES, DAY_BYTES)
+    let last = two_from(image, r + MARK_AT, WORD_BYTES, DAY_BYTES);
+    last.second
 }
 
-// The row whose tag stands at t and whose record, of a form, stands at r.
+// The row whose tag stands at t and whose record, of a form, stands at r: two words at a time.
 fn row_at(image: &[u8], form: Form, t: usize, r: usize) -> Row
     requires { ⌜ (t + tagBytes ≤ length (now image)) × (r + recordBytes (form .number) ≤ length (now image)) ⌝ }
     ensures { λ row. ⌜ row ≡ fieldsAt (now (image .entry)) tagFields t ++ fieldsAt (now (image .entry)) (recordFields (form .number)) r ++ dayAs (form .number) ⌝ }
 {
+    let tag = two_from(image, t, WORD_BYTES, WORD_BYTES);
+    let front = two_from(image, r, WORD_BYTES, WORD_BYTES);
+    let back = two_from(image, r + 8, WORD_BYTES, WORD_BYTES);
+    let code = two_from(image, r + 16, WORD_BYTES, WORD_BYTES);
+    let code_end = two_from(image, r + 24, WORD_BYTES, WORD_BYTES);
+    let node = two_from(image, r + 32, WORD_BYTES, WORD_BYTES);
     [
-        number32(image, t),
-        number32(image, t + 4),
-        number32(image, r),
-        number32(image, r + 4),
-        number32(image, r + 8),
-        number32(image, r + 12),
-        number32(image, r + 16),
-        number32(image, r + 20),
-        number32(image, r + 24),
-        number32(image, r + 28),
-        number32(image, r + 32),
-        number32(image, r + 36),
+        tag.first,
+        tag.second,
+        front.first,
+        front.second,
+        back.first,
+        back.second,
+        code.first,
+        code.second,
+        code_end.first,
+        code_end.second,
+        node.first,
+        node.second,
         day_at(image, form, r),
     ]
 }

@@ -1,10 +1,12 @@
--- The claims about lots. Each is an induction over the lots: the first leader's lot and those left make up the items, and what holds of those left holds of every later lot.
+-- The claims about lots. Each is an induction over the lots: the first leader's lot and those left make up the items, and what holds of those left holds of
+-- every later lot.
 use Prim.Native.Nat.{ℕ, zero, suc, _+_, _≤_, _<_, max}
 use native.Mathlib.Omega.{arith}
 use mathlib.Core.Path.{_≡_, refl, sym, ap, ap₂, subst, _∙_}
 use mathlib.Core.Logic.{inl, inr}
 use mathlib.Core.Bool.{Bool, true, false, not}
-use mathlib.Core.List.{List, [], _∷_, _++_, map, append-nil, flatten, List·Permᴰ, List·Permᴰ·nil, List·Permᴰ·cons, List·Permᴰ·trans, Permᴰ·symm, Permᴰ·append-left}
+use mathlib.Core.List.{List, [], _∷_, _++_, map, append-nil, flatten, List·Permᴰ, List·Permᴰ·nil, List·Permᴰ·cons, List·Permᴰ·trans, Permᴰ·symm}
+use mathlib.Core.List.{Permᴰ·append-left}
 use borrow.Author.Tests.{leb-true, leb-false, le-leb, lt-leb, eq-eqb, ne-eqb, not-true}
 use lib.Dec.{leb, eqb}
 use lib.ListN.{length, getD, length-append, length-map}
@@ -55,10 +57,13 @@ module _ {A : Type 0} (dist : A → A → ℕ) (radius : ℕ) (tag : A → ℕ) 
 
   beyond : (x : A) (xs : List A) → All (λ y. radius < dist x y) (select (far dist radius x) xs)
   unfolding near
-  beyond x xs = all-weaken (λ y h. leb-false (dist x y) radius (not-true (leb (dist x y) radius) h)) (select (far dist radius x) xs) (selected-pass (far dist radius x) xs)
+  beyond x xs =
+      all-weaken (λ y h. leb-false (dist x y) radius (not-true (leb (dist x y) radius) h)) (select (far dist radius x) xs)
+      (selected-pass (far dist radius x) xs)
 
   -- the first lot and those left, permuted, are the items
-  lot-and-left : (x : A) (xs : List A) (ls : List (List A)) → List·Permᴰ (flatten ls) (select (far dist radius x) xs) → List·Permᴰ (flatten ((x ∷ select (near dist radius x) xs) ∷ ls)) (x ∷ xs)
+  lot-and-left : (x : A) (xs : List A) (ls : List (List A)) → List·Permᴰ (flatten ls) (select (far dist radius x) xs)
+      → List·Permᴰ (flatten ((x ∷ select (near dist radius x) xs) ∷ ls)) (x ∷ xs)
   unfolding flatten
   lot-and-left x xs ls p = List·Permᴰ·cons refl (List·Permᴰ·trans (Permᴰ·append-left (select (near dist radius x) xs) p) (parted (near dist radius x) xs))
 
@@ -75,7 +80,8 @@ module _ {A : Type 0} (dist : A → A → ℕ) (radius : ℕ) (tag : A → ℕ) 
   unfolding numbered total
   numbered-length n [] = refl
   numbered-length n (l ∷ ls) =
-      length-append (map (λ item. entry (tag item) n) l) (numbered tag (suc n) ls) ∙ ap₂ _+_ (length-map l (λ item. entry (tag item) n)) (numbered-length (suc n) ls)
+      length-append (map (λ item. entry (tag item) n) l) (numbered tag (suc n) ls)
+      ∙ ap₂ _+_ (length-map l (λ item. entry (tag item) n)) (numbered-length (suc n) ls)
 
   -- the listing has an entry for each item
   pub listing-length : (items : List A) → length (listingOf tag (lots dist radius items)) ≡ length items
@@ -93,14 +99,16 @@ module _ {A : Type 0} (dist : A → A → ℕ) (radius : ℕ) (tag : A → ℕ) 
       let same : a ≡ k = omega (arith, e) in
       select-append test own (numbered tag (suc a) ls)
       ∙ ap₂ _++_ (select-all test own (all-map (λ item. tag item ∷ a ∷ []) (λ e. test e ≡ true) l (all-always (λ item. eq-eqb a k same) l)))
-      (select-none test (numbered tag (suc a) ls) (all-weaken (λ e h. ne-eqb (getD e 1 0) k (λ q. omega (arith, h, q, same))) (numbered tag (suc a) ls) (numbered-from tag (suc a) ls)))
+      (select-none test (numbered tag (suc a) ls)
+      (all-weaken (λ e h. ne-eqb (getD e 1 0) k (λ q. omega (arith, h, q, same))) (numbered tag (suc a) ls) (numbered-from tag (suc a) ls)))
       ∙ append-nil own
       ∙ ap (λ (n : ℕ). map (λ item. tag item ∷ n ∷ []) l) same
   numbered-in a (suc n) k (l ∷ ls) e =
       let test : Entry → Bool = λ e. eqb (getD e 1 0) k in
       let own : List Entry = map (λ item. tag item ∷ a ∷ []) l in
       select-append test own (numbered tag (suc a) ls)
-      ∙ ap₂ _++_ (select-none test own (all-map (λ item. tag item ∷ a ∷ []) (λ e. test e ≡ false) l (all-always (λ item. ne-eqb a k (λ q. omega (arith, e, q))) l)))
+      ∙ ap₂ _++_
+      (select-none test own (all-map (λ item. tag item ∷ a ∷ []) (λ e. test e ≡ false) l (all-always (λ item. ne-eqb a k (λ q. omega (arith, e, q))) l)))
       (numbered-in (suc a) n k ls (omega (arith, e)))
 
   led : (items : List A) → Tagged tag items → All (Led dist radius tag) (lots dist radius items)
@@ -114,7 +122,8 @@ module _ {A : Type 0} (dist : A → A → ℕ) (radius : ℕ) (tag : A → ℕ) 
   apart : (items : List A) → Tagged tag items → Before (LedApart dist radius tag) (lots dist radius items)
   unfolding flatten
   apart items =
-      lots-ind dist radius (λ items ls. List·Permᴰ (flatten ls) items × (Tagged tag items → Before (LedApart dist radius tag) ls)) (List·Permᴰ·nil, λ h. tt) first items .1
+      lots-ind dist radius (λ items ls. List·Permᴰ (flatten ls) items × (Tagged tag items → Before (LedApart dist radius tag) ls))
+      (List·Permᴰ·nil, λ h. tt) first items .1
     where
       first :
           (x : A) (xs : List A) (ls : List (List A))
@@ -189,7 +198,8 @@ pub one-lot-each : (t : Table) → OneEach t
 unfolding tableLots draftedItems byTag
 one-lot-each t h =
     one-each (betweenRows (tableSpace t)) 0 tagOf (draftedItems t)
-    (pairs-perm (PositivelyApart t) (between-flips t) (Permᴰ·symm (sort-perm (λ r. tagOf r ∷ []) (liveRows t))) (before-pairs (PositivelyApart t) (liveRows t) h))
+    (pairs-perm (PositivelyApart t) (between-flips t) (Permᴰ·symm (sort-perm (λ r. tagOf r ∷ []) (liveRows t)))
+    (before-pairs (PositivelyApart t) (liveRows t) h))
 
 within-most : (t : Table) (x y : Row) → betweenRows (tableSpace t) x y ≤ mostDistance
 unfolding betweenRows mostDistance

@@ -1,5 +1,6 @@
--- Demand 3's comparison, tried on one list, on one with weights, on one with named states, on one with dues, on one with batches and on one with lots: at every call, refused ones and short areas among them, table and model show what was worked out by hand,
--- and after it the sums and the model's items are those worked out by hand. Each side is a run that antt computes.
+-- Demand 3's comparison, tried on one list, on one with weights, on one with named states, on one with dues, on one with batches and on one with lots: at every
+-- call, refused ones and short areas among them, table and model show what was worked out by hand, and after it the sums and the model's items are those worked
+-- out by hand. Each side is a run that antt computes.
 use Prim.Native.Nat.{ℕ, _+_, _*_}
 use mathlib.Core.Path.{_≡_, refl}
 use mathlib.Core.List.{List, [], _∷_, _++_, map}
@@ -14,14 +15,23 @@ use Rattle.lots_rules.specs.Lots.{Summary}
 use Rattle.call_rules.specs.Calls.{Call, draftAreas}
 use Rattle.history.specs.Places.{numberFrom}
 use Rattle.history.specs.Figures.{tagSound, measureWithin, measuresWithin, centsAKilo, inCents, isMissing, isBelowZero, paysFor, greatest}
-use Rattle.history.specs.LoadTests.{orderByte, metricByte, formBytes, pairsFrom, recordSize, builtAt, liveAt, slotsUpTo, tagsFrom, slotsInAll, recordFrom, weightTooLarge, sizesSound, allSizesSound, dayRead, weightsRead, spaceRead, dayMissing, measureSound, tagIn, markIn, slotSound, slotsAt, bucketSound, allFieldsSound, loadRefusalOf, partFrom, lengthIn, imageIn, restoreRefusalOf}
-use Rattle.history.specs.Trace.{Step, Shown, zeroed, shows, ownRows, overlaid, leftBy, beginShown, changeShown, duesIn, listedIn, draftedIn, draftIn, askShown, shown, noSums, plus, imageSums, starting, begunSums, ifAccepted, counted, sumsAfter, stateAfter, shownAt, stateAfterAll, trace}
+use Rattle.history.specs.LoadTests.{orderByte, metricByte, formBytes, pairsFrom, recordSize, builtAt, liveAt, slotsUpTo, tagsFrom, slotsInAll, recordFrom}
+use Rattle.history.specs.LoadTests.{weightTooLarge, sizesSound, allSizesSound, dayRead, weightsRead, spaceRead, dayMissing, measureSound, tagIn, markIn}
+use Rattle.history.specs.LoadTests.{slotSound, slotsAt, bucketSound, allFieldsSound, loadRefusalOf, partFrom, lengthIn, imageIn, restoreRefusalOf}
+use Rattle.history.specs.Trace.{Step, Shown, zeroed, shows, ownRows, overlaid, leftBy, beginShown, changeShown, duesIn, listedIn, draftedIn, draftIn, askShown}
+use Rattle.history.specs.Trace.{shown, noSums, plus, imageSums, starting, begunSums, ifAccepted, counted, sumsAfter, stateAfter, shownAt, stateAfterAll, trace}
 use Rattle.history.specs.Trace.Payload.{bare, aSlot, aWeighing, someEntries, aListRead, someDues, someLists, aDraft}
 use Rattle.history.specs.TreeTests.{slotWords, laidOut, tagTaken, slotRefusalOf, slotRefusalsOf}
-use Rattle.history.specs.Model.{itemOf, withTag, isIn, with, without, weighedIn, scanned, modelRange, modelNearest, weightOf, weightsIn, modelLots, modelSummaries, modelListing, canRead, canChange, tagRefusal, itemRefusal, addRefusalOf, removeRefusalOf, fits, duesRefusalOf, batchRefusalOf, lotsRefusalOf, questionRefusal, askRefusal, found, paid, answerTo, showsUnless, afterUnless, stopsAt, oneMoreAdded, linesAnswered, listAnswered, profileRead, itemRead, imageModel, modelBegun, freshRefusalOf, firstShown, treesShown, loadShown, begunShown, beginAnswer, changeAnswer, answer, answerAt, modelAfterAll, modelTrace, modelRanges, foundEach}
+use Rattle.history.specs.Model.{itemOf, withTag, isIn, with, without, weighedIn, scanned, modelRange, modelNearest, weightOf, weightsIn, modelLots}
+use Rattle.history.specs.Model.{modelSummaries, modelListing, canRead, canChange, tagRefusal, itemRefusal, addRefusalOf, removeRefusalOf, fits, duesRefusalOf}
+use Rattle.history.specs.Model.{batchRefusalOf, lotsRefusalOf, questionRefusal, askRefusal, found, paid, answerTo, showsUnless, afterUnless, stopsAt}
+use Rattle.history.specs.Model.{oneMoreAdded, linesAnswered, listAnswered, profileRead, itemRead, imageModel, modelBegun, freshRefusalOf, firstShown}
+use Rattle.history.specs.Model.{treesShown, loadShown, begunShown, beginAnswer, changeAnswer, answer, answerAt, modelAfterAll, modelTrace, modelRanges}
+use Rattle.history.specs.Model.{foundEach}
 use Rattle.history.specs.History.{before, blankModel}
 use Rattle.worked.proofs.Computing.{performed}
-use Rattle.worked.proofs.Running.{fresh, load, restore, write, save, add, remove, readList, lookUp, range, nearest, dues, lots, weighing, by, tag, valued, measured, areasFor, scratch, adding, removing, listOf, itemLine, rangeBatch}
+use Rattle.worked.proofs.Running.{fresh, load, restore, write, save, add, remove, readList, lookUp, range, nearest, dues, lots, weighing, by, tag}
+use Rattle.worked.proofs.Running.{valued, measured, areasFor, scratch, adding, removing, listOf, itemLine, rangeBatch}
 use Rattle.worked.proofs.Imaged.{oneAs, oneImage, deadImage, unweightedImage}
 
 -- calls in roomy areas, each lent its own; and one in areas of these lengths
@@ -57,7 +67,8 @@ steps =
     ∷ [])
     ++ roomy (range (valued 0) 99 300 ∷ range (valued 0) 99 301 ∷ nearest (valued 13) 1 2 ∷ lookUp (tag 5) ∷ lookUp (tag 2) ∷ [])
     ++ (lentOnly 11 2 (nearest (valued 13) 9 2) ∷ lentOnly 11 1 (nearest (valued 13) 9 2) ∷ lentOnly 11 0 (nearest (valued 13) 9 301) ∷ [])
-    ++ roomy (remove (tag 8) ∷ add (tag 7) (valued 49) 0 ∷ readList (listOf (itemLine 7 49 ∷ [])) 0 ∷ add (tag 7) (valued 49) 65_535 ∷ range (valued 0) 99 65_535 ∷ [])
+    ++ roomy (remove (tag 8) ∷ add (tag 7) (valued 49) 0 ∷ readList (listOf (itemLine 7 49 ∷ [])) 0 ∷ [])
+    ++ roomy (add (tag 7) (valued 49) 65_535 ∷ range (valued 0) 99 65_535 ∷ [])
 
 -- worked out by hand: what each call shows
 changed : ℕ → Shown
@@ -132,14 +143,20 @@ expected =
 
 tableShows : trace (before scratch) steps ≡ expected
 unfolding
-    performed steps expected before ownRows overlaid leftBy beginShown changeShown duesIn listedIn draftedIn draftIn askShown shown noSums plus imageSums starting begunSums ifAccepted counted sumsAfter stateAfter shownAt trace scratch
+    performed steps expected before ownRows overlaid leftBy beginShown changeShown duesIn listedIn draftedIn draftIn askShown shown noSums plus imageSums
+    starting begunSums ifAccepted counted sumsAfter stateAfter shownAt trace scratch
 tableShows = refl
 
 modelShows : modelTrace blankModel steps ≡ expected
 unfolding
-    performed steps expected zeroed beginShown itemOf withTag isIn with without weighedIn scanned modelRange modelNearest weightOf weightsIn modelLots modelSummaries modelListing canRead canChange tagRefusal
-    itemRefusal addRefusalOf removeRefusalOf fits questionRefusal askRefusal found paid answerTo showsUnless afterUnless stopsAt oneMoreAdded
-    linesAnswered listAnswered weightsRead dayRead profileRead itemRead imageModel modelBegun freshRefusalOf numberFrom orderByte metricByte formBytes pairsFrom recordSize builtAt liveAt slotsUpTo tagsFrom slotsInAll recordFrom weightTooLarge sizesSound allSizesSound dayMissing tagSound measureSound measureWithin measuresWithin centsAKilo inCents isMissing isBelowZero paysFor greatest duesRefusalOf batchRefusalOf lotsRefusalOf markIn slotSound slotsAt bucketSound tagIn spaceRead slotWords laidOut tagTaken slotRefusalOf slotRefusalsOf firstShown allFieldsSound loadRefusalOf partFrom lengthIn imageIn restoreRefusalOf treesShown loadShown begunShown beginAnswer changeAnswer answer answerAt modelTrace blankModel
+    performed steps expected zeroed beginShown itemOf withTag isIn with without weighedIn scanned modelRange modelNearest weightOf weightsIn modelLots
+    modelSummaries modelListing canRead canChange tagRefusal itemRefusal addRefusalOf removeRefusalOf fits questionRefusal askRefusal found paid answerTo
+    showsUnless afterUnless stopsAt oneMoreAdded linesAnswered listAnswered weightsRead dayRead profileRead itemRead imageModel modelBegun freshRefusalOf
+    numberFrom orderByte metricByte formBytes pairsFrom recordSize builtAt liveAt slotsUpTo tagsFrom slotsInAll recordFrom weightTooLarge sizesSound
+    allSizesSound dayMissing tagSound measureSound measureWithin measuresWithin centsAKilo inCents isMissing isBelowZero paysFor greatest duesRefusalOf
+    batchRefusalOf lotsRefusalOf markIn slotSound slotsAt bucketSound tagIn spaceRead slotWords laidOut tagTaken slotRefusalOf slotRefusalsOf firstShown
+    allFieldsSound loadRefusalOf partFrom lengthIn imageIn restoreRefusalOf treesShown loadShown begunShown beginAnswer changeAnswer answer answerAt modelTrace
+    blankModel
 modelShows = refl
 
 -- since the load of three live items and a dead one: item 8 added (no distance, into bucket 0), item 3 removed (enough are left), item 1 removed (2 and 8
@@ -199,8 +216,8 @@ thirdSaved : List ℕ
 unfolding performed deadImage
 thirdSaved = let n = length (snapshotOf deadImage) in replicate (2 * n) 0 ++ snapshotOf deadImage ++ replicate (5 * n + 7) 1
 
--- a save, whose refusal is excepted; a restore of no name, of one that nothing was saved under, and of one whose length is past its part: the table stays; then of
--- the third into a short area, and into one that is long enough
+-- a save, whose refusal is excepted; a restore of no name, of one that nothing was saved under, and of one whose length is past its part: the table stays; then
+-- of the third into a short area, and into one that is long enough
 savedSteps : List Step
 unfolding roomy lentOnly tag valued thirdSaved
 savedSteps =
@@ -242,8 +259,8 @@ savedSums : stateAfterAll (before scratch) savedSteps .sums ≡ record { adds = 
 unfolding tableShows modelShows savedSteps stateAfterAll
 savedSums = refl
 
--- items of 0.25, 500.50, -0.01 and 10,000.00 kg, and lists of their tags: none; some in another order, one of them twice; one that weighs below 0, with and without a
--- tag that is not live; areas of one number, of two and of a table that is too short; and a tag that was struck out
+-- items of 0.25, 500.50, -0.01 and 10,000.00 kg, and lists of their tags: none; some in another order, one of them twice; one that weighs below 0, with and
+-- without a tag that is not live; areas of one number, of two and of a table that is too short; and a tag that was struck out
 duesSteps : List Step
 unfolding roomy lentOnly tag valued measured
 duesSteps =
@@ -286,7 +303,8 @@ unfolding roomy lentOnly tag valued rowOf
 batchSteps =
     let two = rangeBatch (queryRow (valued 13) 0 0 ∷ queryRow (valued 10) 3 5 ∷ []) in
     roomy (fresh 2 (by 0) ∷ add (tag 1) (valued 10) 5 ∷ add (tag 2) (valued 13) 1 ∷ add (tag 3) (valued 13) 9 ∷ two ∷ [])
-    ++ (lentOnly 11 3 two ∷ lentOnly 10 9 (rangeBatch []) ∷ lentOnly 11 9 (rangeBatch []) ∷ lentOnly 11 9 (rangeBatch (queryRow (valued 1_000_001) 0 0 ∷ [])) ∷ [])
+    ++ (lentOnly 11 3 two ∷ lentOnly 10 9 (rangeBatch []) ∷ lentOnly 11 9 (rangeBatch []) ∷ [])
+    ++ (lentOnly 11 9 (rangeBatch (queryRow (valued 1_000_001) 0 0 ∷ [])) ∷ [])
 
 noLists : ℕ → Shown
 noLists n = shows n (someLists (replicate 16 0) [])
@@ -310,8 +328,9 @@ batchModel : modelTrace blankModel batchSteps ≡ batchShow
 unfolding modelShows modelRanges foundEach batchSteps batchShow
 batchModel = refl
 
--- no items; then four, put in by no order of their tags, of 10, 20, 16 and 13: some radii, one of them twice, with lots listed by two of them; no radius, too many, and places
--- that are not in the list; a table and a work area that are too short, a summary and a listing of one entry too few, and areas of just enough, also for as many radii as there may be; and the lots of three
+-- no items; then four, put in by no order of their tags, of 10, 20, 16 and 13: some radii, one of them twice, with lots listed by two of them; no radius, too
+-- many, and places that are not in the list; a table and a work area that are too short, a summary and a listing of one entry too few, and areas of just
+-- enough, also for as many radii as there may be; and the lots of three
 lotsSteps : List Step
 unfolding roomy lentOnly scratch tag valued
 lotsSteps =

@@ -23,7 +23,8 @@ use Rattle.metric_rules.proofs.Elements.{each-at}
 use Rattle.search_rules.specs.Range.{Entry}
 use Rattle.table_rules.specs.Table.{Table, inUse, slotsOf, liveSlots}
 use Rattle.call_rules.specs.Calls.{Begin, Ask, Call, askReply, areasAnswered}
-use Rattle.history.specs.Trace.{Step, ownRows, overlaid, leftBy, beginShown, changeShown, askShown, shown, noSums, plus, starting, begunSums, ifAccepted, counted, sumsAfter, stateAfter, shownAt, stateAfterAll}
+use Rattle.history.specs.Trace.{Step, ownRows, overlaid, leftBy, beginShown, changeShown, askShown, shown, noSums, plus, starting, begunSums, ifAccepted}
+use Rattle.history.specs.Trace.{counted, sumsAfter, stateAfter, shownAt, stateAfterAll}
 use Rattle.history.specs.Model.{itemOf}
 use Rattle.history.specs.History.{before, opening, History, steps, finalState}
 use Rattle.history.specs.Represents.{itemsIn}
@@ -53,7 +54,11 @@ unfolding weight
 by-is =
     record {
       metric = omega arith;
-      weights = record { four = refl; fits = each-at (λ (n : ℕ). n < 2 ^ 32) 0 (omega arith) (1 ∷ 1 ∷ 1 ∷ 1 ∷ []) (omega arith, (omega arith, (omega arith, (omega arith, tt)))) };
+      weights =
+          record {
+            four = refl;
+            fits = each-at (λ (n : ℕ). n < 2 ^ 32) 0 (omega arith) (1 ∷ 1 ∷ 1 ∷ 1 ∷ []) (omega arith, (omega arith, (omega arith, (omega arith, tt))));
+          };
     }
 
 -- order 1: items 1 and 2, with 10 and 14, of days 5 and 6
@@ -66,7 +71,10 @@ first =
       area = scratch;
       rest = roomy (add (tag 1) (valued 10) 5 ∷ add (tag 2) (valued 14) 6 ∷ []);
       accepted = refl;
-      arguments = ((omega arith, by-is), ((omega arith, valued-is 10 (sfits-lit tt), omega arith), ((omega arith, valued-is 14 (sfits-lit tt), omega arith), tt)));
+      arguments = (
+        (omega arith, by-is),
+        ((omega arith, valued-is 10 (sfits-lit tt), omega arith), ((omega arith, valued-is 14 (sfits-lit tt), omega arith), tt)),
+      );
     }
 
 -- order 2: item 3 in between, struck out again; items 2 and 1 in this order by bucket
@@ -129,7 +137,8 @@ batches : (take 2 (askReply (Ask.rangeBatch queries) there (area 4) .found) ≡ 
 unfolding same area queries valued tag
 batches =
     let found : List ℕ = askReply (Ask.rangeBatch queries) here (area 5) .found in
-    let agree = alike .batches queries (area 5) (area 4) (record { here = λ e. absurd (omega (arith, e)); there = all-weaken (λ n h. leb-true n 2 h) found (every-all (λ n. leb n 2) found refl) }) in
+    let few = all-weaken (λ n h. leb-true n 2 h) found (every-all (λ n. leb n 2) found refl) in
+    let agree = alike .batches queries (area 5) (area 4) (record { here = λ e. absurd (omega (arith, e)); there = few }) in
     (sym (ap (take 2) (agree .found)), sym (agree .entries 1 (omega arith)))
 
 lines : List ℕ
@@ -165,7 +174,13 @@ third =
         (omega arith, by-is),
         (
           (omega arith, valued-is 10 (sfits-lit tt), omega arith),
-          (omega arith, ((omega arith, by-is), (tt, ((lines-are, omega arith), ((valued-is 12 (sfits-lit tt), omega arith, omega arith), (tt, (omega arith, ((tt, omega arith), tt)))))))),
+          (
+            omega arith,
+            (
+              (omega arith, by-is),
+              (tt, ((lines-are, omega arith), ((valued-is 12 (sfits-lit tt), omega arith, omega arith), (tt, (omega arith, ((tt, omega arith), tt)))))),
+            ),
+          ),
         ),
       );
     }
@@ -176,7 +191,13 @@ third-sums = refl
 
 only : OnlyAdded (stateAfter (before scratch) (opening (Begin.fresh 2 (by 0)) scratch)) (third .rest)
 unfolding third-sums
-only = (tt, ((λ e. absurd (omega (arith, e))), ((λ e. absurd (omega (arith, e))), ((λ e. absurd (omega (arith, e))), (tt, (tt, (tt, (tt, ((λ e. absurd (omega (arith, e))), tt)))))))))
+only = (
+  tt,
+  (
+    (λ e. absurd (omega (arith, e))),
+    ((λ e. absurd (omega (arith, e))), ((λ e. absurd (omega (arith, e))), (tt, (tt, (tt, (tt, ((λ e. absurd (omega (arith, e))), tt))))))),
+  ),
+)
 
 counted-third : CountsAdds (finalState third)
 unfolding third-sums

@@ -55,12 +55,13 @@ first : told twice ≡ (38 ∷ 1 ∷ []) ∷ (36 ∷ 2 ∷ []) ∷ (36 ∷ 2 ∷
 unfolding told twice
 first = refl
 
--- equal tags in a bucket rank by slot. Of tags 1, 5 and 5 the third is nearer to the first than the second is, so the layout puts it before that: 37 at the second slot
--- though the tag is the same; the other way round all stand in their places, and 36 is at the third. Of tags 1, 2, 2 and 3 the layout puts the last into slot 2, and 36
--- goes before 37 there
+-- equal tags in a bucket rank by slot. Of tags 1, 5 and 5 the third is nearer to the first than the second is, so the layout puts it before that: 37 at the
+-- second slot though the tag is the same; the other way round all stand in their places, and 36 is at the third. Of tags 1, 2, 2 and 3 the layout puts the last
+-- into slot 2, and 36 goes before 37 there
 fewSlots : List ℕ → List ℕ → List (List ℕ) → List ℕ
 unfolding flatten tagBytes
-fewSlots sizes nationals records = (2 ∷ 0 ∷ 2 ∷ 0 ∷ 1 ∷ 1 ∷ 1 ∷ 1 ∷ 0 ∷ 0 ∷ 0 ∷ 0 ∷ 0 ∷ 0 ∷ 0 ∷ 0 ∷ []) ++ sizes ++ flatten (map tagBytes nationals) ++ flatten records
+fewSlots sizes nationals records =
+    (2 ∷ 0 ∷ 2 ∷ 0 ∷ 1 ∷ 1 ∷ 1 ∷ 1 ∷ 0 ∷ 0 ∷ 0 ∷ 0 ∷ 0 ∷ 0 ∷ 0 ∷ 0 ∷ []) ++ sizes ++ flatten (map tagBytes nationals) ++ flatten records
 
 valued : ℕ → ℕ → List ℕ
 unfolding recordBytes

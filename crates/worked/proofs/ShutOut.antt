@@ -1,5 +1,5 @@
--- Two slips of RULES C that `EveryReport` shuts out, by the sizes that they would leave: a build that takes a dead slot over, and a removal that drops a slot in place of
--- marking one.
+-- Two slips of RULES C that `EveryReport` shuts out, by the sizes that they would leave: a build that takes a dead slot over, and a removal that drops a slot
+-- in place of marking one.
 use Prim.Native.Nat.{ℕ, _≤_}
 use native.Mathlib.Omega.{arith}
 use native.Mathlib.Decide.{ℕ-discrete}
@@ -19,7 +19,8 @@ module _ (t u : Table) (inOrder : 3 ≤ orderOf t) where
   neither : (builtOf u 3 ≡ builtOf t 3 → ⊥) → (liveOf u 3 ≡ builtOf u 3 → ⊥) → OnlyBuilds t u → ⊥
   neither other dead builds = elim (builds 3 inOrder) [ inl kept ↦ other (kept-built-size kept) | inr afresh ↦ dead (afresh .live) ]
 
-  -- order 3: after adds of 1 to 4, a removal of 4 and adds of 5 to 7, an add that gathers the dead slot too would leave bucket 3, empty before, with 8 built and 7 live
+  -- order 3: after adds of 1 to 4, a removal of 4 and adds of 5 to 7, an add that gathers the dead slot too would leave bucket 3, empty before, with 8 built
+  -- and 7 live
   pub taken-over : builtOf t 3 ≡ 0 → builtOf u 3 ≡ 8 → liveOf u 3 ≡ 7 → OnlyBuilds t u → ⊥
   taken-over before built live = neither (λ e. omega (arith, e, before, built)) (λ e. omega (arith, e, built, live))
 

@@ -4,7 +4,8 @@ use mathlib.Core.Path.{_≡_, refl}
 use mathlib.Core.List.{List, [], _∷_, _++_, map}
 use Rattle.table_rules.specs.Table.{Table, builtOf, liveOf}
 use Rattle.tree_rules.specs.Layout.{cost}
-use Rattle.worked.proofs.Running.{fresh, add, remove, range, nearest, by, tag, valued, scratch, replies, after, contents, adding, removing, fourItems, table}
+use Rattle.worked.proofs.Running.{fresh, add, remove, range, nearest, by, tag, valued, scratch, replies, after, contents, adding, removing, fourItems}
+use Rattle.worked.proofs.Running.{table}
 
 -- a table of order 3 with live sizes 1, 1, 2, 3
 sparse : Table

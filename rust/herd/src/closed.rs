@@ -18,7 +18,7 @@ extern "C" fn look() {
     IS_CLOSED.store(unsafe { fcntl(1, F_GETFD) } == -1, Ordering::Relaxed);
 }
 
-// SAFETY: the functions that this section names are called once each, before `main`; `look` needs nothing of Rust's own.
+// SAFETY: what this section names is called once, before `main`; `look` needs nothing of Rust's own.
 #[used]
 #[unsafe(link_section = ".init_array")]
 static LOOK: extern "C" fn() = look;

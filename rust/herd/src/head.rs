@@ -54,10 +54,8 @@ pub fn weigh(table: &mut Table, item: &Item, may_replace: bool) -> Result<(Weigh
     let Item { tag, profile, day, .. } = item;
     match table.add(*tag, profile, *day) {
         Ok(added) => Ok((Weighed::Added, added.distances)),
-        // there is room for what was taken out, and every other rule was kept
         Err(Refusal::AlreadyLive) if may_replace => {
-            let removed = table.remove(*tag)?;
-            Ok((Weighed::Replaced, removed + table.add(*tag, profile, *day)?.distances))
+            Ok((Weighed::Replaced, table.replace(*tag, profile, *day)?.distances))
         }
         Err(refusal) => Err(refusal),
     }

@@ -1,5 +1,6 @@
-//! `herd`: herd images made, filled, asked and shown, for the people beside the crate. Searches, lots, dues and whether an
-//! image is accepted are proved calls of `vpindex`; what is here reads arguments and files, and writes what was answered.
+//! `herd`: herd images made, filled, asked and shown, for the people beside the crate. Changes, searches, lots, dues and
+//! whether an image is accepted are proved calls of `vpindex`; what is here reads words and files, and writes what was
+//! answered.
 //!
 //! The status is 0, 1 where something was refused, 2 for wrong use.
 

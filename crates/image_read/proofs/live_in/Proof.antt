@@ -1,6 +1,6 @@
 -- `image_read::live_in` meets its contract: the pair of bucket k stands after the header and k pairs.
 use Prim.Native.Nat.{ℕ, _+_, _*_}
-use mathlib.Core.Path.{_≡_, ap, _∙_}
+use mathlib.Core.Path.{_≡_, refl, ap, _∙_}
 use native.Mathlib.Omega.{arith}
 use borrow.Author.Needs.{needs}
 use Rattle.image_rules.specs.Bytes.{headerBytes, sizeBytes, pairBytes, sizesEnd}
@@ -16,7 +16,7 @@ place c =
 
 two-from-requires : tie.Need-two-from-requires
 unfolding sizesEnd pairBytes sizeBytes
-two-from-requires c κs = let p = c .before .before .pre in (omega arith, omega arith, omega (arith, place c, p .long))
+two-from-requires c κs = let p = c .before .before .pre in (refl, refl, omega (arith, place c, p .long))
 
 returns : tie.Need-returns
 unfolding liveIn sizeBytes

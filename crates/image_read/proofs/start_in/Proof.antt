@@ -1,5 +1,5 @@
 -- `image_read::start_in` meets its contract: the three fields of the start, one after the other.
-use mathlib.Core.Path.{ap}
+use mathlib.Core.Path.{refl, ap}
 use native.Mathlib.Omega.{arith}
 use Rattle.lists.specs.Lists.{total}
 use Rattle.image_rules.specs.Bytes.{startFields, startBytes}
@@ -9,11 +9,11 @@ use Rattle.image_read.proofs.start_in.Tie as tie
 
 two-from-requires : tie.Need-two-from-requires
 unfolding startBytes startFields total
-two-from-requires c κs = (omega arith, omega arith, omega (arith, c .before .pre))
+two-from-requires c κs = (refl, refl, omega (arith, c .before .pre))
 
 two-from-requires-2 : tie.Need-two-from-requires-2
 unfolding startBytes startFields total
-two-from-requires-2 c κs = (omega arith, omega arith, omega (arith, c .before .before .pre))
+two-from-requires-2 c κs = (refl, refl, omega (arith, c .before .before .pre))
 
 returns : tie.Need-returns
 unfolding orderIn spaceIn formIn startNumbers startFields fieldsAt

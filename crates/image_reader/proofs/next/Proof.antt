@@ -1,6 +1,7 @@
 -- `image_reader::next` meets its contract: a walk of its MIR, by hand. The borrow of the reader is opened; its image and its position go to `number_at`; the position is moved on
 -- beside the image that the reader still holds, and the borrow is closed at the reader moved on. All that the proof knows of `number_at` is that it meets its contract.
 use mathlib.Core.Path.{_≡_, refl}
+use mathlib.Core.Bool.{true}
 use Prim.Native.Nat.{ℕ, _<_, _≤_, _^_, _+_}
 use mathlib.Core.List.{List, [], _∷_}
 use lib.ListN.{length}
@@ -44,6 +45,7 @@ use denote.Triple.Table.{entered, cited}
 use denote.Triple.Walked.{says, needs, Stays, stay-dropped, stay-ref, walkOf, goes-dropped, goes-ref, Walks, ends-at, walked, walk-meets}
 use denote.Exit.{yes}
 use Rattle.image_rules.specs.Read.{numberAt}
+use Rattle.image_reader.specs.Widths.{isWidth}
 use Rattle.image_reader.specs.Moved.{movedOn}
 use Rattle.image_reader.specs.declared.Reader.{Reader}
 use Rattle.image_reader.proofs.Reader as T
@@ -120,7 +122,7 @@ module _ {M : Type 1} (𝓤 : URA M) (H : Heap 𝓤) (A : Atoms 𝓤) (W : Given
   abbrev to : Core 𝓤 H A at-mem run .Ghost
   to = (((κ′, tt), (q′, tt), tt, x′, vals′), tt)
 
-  asked : (w ≤ 2) × (h .at + w ≤ length (now (h .image))) → ent 𝓤 (onEntry 𝓤 H A core.signature (κ′, tt) (q′, tt) x′ vals′) (Core 𝓤 H A at-mem run .pre to)
+  asked : (isWidth w ≡ true) × (h .at + w ≤ length (now (h .image))) → ent 𝓤 (onEntry 𝓤 H A core.signature (κ′, tt) (q′, tt) x′ vals′) (Core 𝓤 H A at-mem run .pre to)
   asked ready = qed W (raw (onEntry 𝓤 H A core.signature (κ′, tt) (q′, tt) x′ vals′) ∷ []) ∵ says ! ready $ done !
 
   core-ensures : (r : ℕ) → ent 𝓤 (ensured 𝓤 H A core.ended (core.clauses 𝓤 H A at-mem run) (κ′, tt) x′ tt r) (fact 𝓤 (r ≡ found))
@@ -134,7 +136,7 @@ module _ {M : Type 1} (𝓤 : URA M) (H : Heap 𝓤) (A : Atoms 𝓤) (W : Given
       move ! (2 ∷ 4 ∷ []) $ join ! $ frame ! $ feqI ! (List Val) (vptr b o ∷ []) (vptr b o ∷ []) refl $ fjoin3 ! $ nothing ! $ nothing ! $ fjoin ! $ move ! (1 ∷ 0 ∷ []) $ fjoin ! $ frame ! $ done !
 
   module _ (C : Calls 𝓤 H) (Λ : Loops 𝓤 H) (fm : FmC 𝓤 H (W .laws) C) (known : Triple 𝓤 (C #image-reader·number-at) (Core 𝓤 H A at-mem run)) where
-    walk : (w ≤ 2) × (h .at + w ≤ length (now (h .image))) → ent 𝓤 (onEntry 𝓤 H A self.signature (κ, (κ′, tt)) (q, (q′, tt)) x vals) (WpFn 𝓤 H C Λ code.function (vptr b o ∷ vint w64 w ∷ []) Post)
+    walk : (isWidth w ≡ true) × (h .at + w ≤ length (now (h .image))) → ent 𝓤 (onEntry 𝓤 H A self.signature (κ, (κ′, tt)) (q, (q′, tt)) x vals) (WpFn 𝓤 H C Λ code.function (vptr b o ∷ vint w64 w ∷ []) Post)
     walk ready =
         qed W ((‵ (flft κ q) ⊛ ‵ (flft κ′ q′) ⊛ ‵ ftrue) ∷ ‵ (owns (MutRef (named 0) κ (B κ′) ∷ usize ∷ []) x vals) ∷ []) ∵ enter ! C Λ code.function (vptr b o ∷ vint w64 w ∷ []) _ $
         alloc1 ! (λ l₀. alloc1 ! (λ l₁. alloc1 ! (λ l₂. alloc1 ! (λ l₃. alloc1 ! (λ l₄. alloc1 ! (λ l₅. alloc1 ! (λ l₆. alloc0 ! $ params1 ! $ pass1 ! (init ! 10 refl (tt, tt)) $ pass1 ! (init ! 8 refl (tt, record { fits = w-fits })) $ pass0 ! $

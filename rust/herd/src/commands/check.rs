@@ -15,8 +15,8 @@ use crate::words;
 const WIDTH: usize = 16;
 
 // What "accepted" does not say.
-const NOT_SAID: &str = "Accepted means that no rule of an image is broken, not that no byte was changed since it was written:\n\
-                        an image has no checksum. sha256sum beside a copy tells that.\n";
+const NOT_SAID: &str = "Accepted means that no rule of an image is broken, not that no byte was changed since it was \
+                        written:\nan image has no checksum. sha256sum beside a copy tells that.\n";
 
 pub fn run(args: &Args) -> Outcome {
     let path = args.name(0);

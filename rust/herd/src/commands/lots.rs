@@ -13,7 +13,7 @@ use crate::words::{Radius, Whole, of_herd};
 
 const BAR: usize = 20;
 // As many as one call takes.
-pub const MOST_RADII: usize = 32;
+const MOST_RADII: usize = 32;
 // Tags of a lot in a line, so that it has less than 80 characters.
 const TAGS: usize = 4;
 
@@ -33,7 +33,7 @@ pub fn run(args: &Args) -> Outcome {
 }
 
 // Whether the call takes so many radii, of which a herd without head tells at once.
-pub fn check(count: usize, chosen: u32) -> Result<(), Failure> {
+fn check(count: usize, chosen: u32) -> Result<(), Failure> {
     match Table::new(Order::MIN, Metric::SumOfDifferences).lots(&vec![0; count], chosen) {
         Ok(_) => Ok(()),
         Err(_) if count > MOST_RADII => misuse(format!("{count} radii are too many: {MOST_RADII} are the most")),
@@ -42,7 +42,7 @@ pub fn check(count: usize, chosen: u32) -> Result<(), Failure> {
 }
 
 // The lots by each radius. One call would do for all of them, but not say how far it is.
-pub fn drafted(image: &Image, radii: &[u32]) -> Result<Vec<Lots>, Failure> {
+fn drafted(image: &Image, radii: &[u32]) -> Result<Vec<Lots>, Failure> {
     let progress = Progress::new("radii", radii.len());
     let lots = |(done, &radius): (usize, &u32)| {
         progress.show(done);

@@ -247,15 +247,15 @@ const COMMANDS: [Command; 18] = [
     },
     Command {
         name: "page",
-        usage: "IMAGE -o FILE.html [--radii RADIUS,RADIUS,..]",
-        about: "write the herd as one page for a browser, a phone or paper",
-        details: "The page needs no network: summary, buckets, trees, lots by radius with their dues, and of\n\
-                  each head the ten nearest. It tries 1 to 32 radii: without --radii those from 0 to the one\n\
-                  by which all head are one lot, closer together where they are small. A page that this\n\
-                  command wrote is replaced; another file that is there is left as it is.",
+        usage: "[IMAGE] -o FILE.html",
+        about: "write a page with the herd and the proved calls in it, for a browser or a phone",
+        details: "One file that needs no network and nothing beside it: lots by a radius, searches, head added,\n\
+                  weighed again and removed, lists read, images opened and saved, lots on paper. Without IMAGE\n\
+                  it opens or starts a herd itself. A page that this command wrote is replaced; another file\n\
+                  that is there is left as it is.",
         example: "herd page yard.img -o yard.html",
-        options: &[value("-o"), value("--radii")],
-        words: (1, 1),
+        options: &[value("-o")],
+        words: (0, 1),
         run: page::run,
     },
 ];

@@ -56,9 +56,7 @@ pub fn list_all(args: &Args) -> Outcome {
     for name in states.saved() {
         match Table::restore(&states, name) {
             Ok(table) => tables.push((name, table)),
-            Err(fault) => {
-                refused.push(format!("{}, name {name}: {}", file::shown(&beside(path)), words::of_herd(fault)))
-            }
+            Err(fault) => refused.push(damaged(path, name, &fault)),
         }
     }
     let row = |(name, table): &(Name, Table)| {

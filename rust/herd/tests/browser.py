@@ -1,4 +1,7 @@
-"""Chromium driven through its debugging pipe: a page is opened, looked at, and touched as a person would."""
+"""Chromium driven through its debugging pipe: a page is opened, looked at, and touched as a person would.
+
+Run by itself it says in its status whether there is one.
+"""
 import base64
 import fcntl
 import json
@@ -6,6 +9,7 @@ import os
 import select
 import shutil
 import signal
+import sys
 import time
 
 NAMES = ["chromium", "chromium-browser", "google-chrome", "chrome"]
@@ -177,3 +181,7 @@ class Page:
 
     def close(self):
         self.browser.call("Target.closeTarget", targetId=self.target)
+
+
+if __name__ == "__main__":
+    sys.exit(find() is None)

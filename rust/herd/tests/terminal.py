@@ -1,6 +1,6 @@
 """How far long work is: shown by `herd` on a terminal, taken away at its end, and not written into a pipe or a file.
 
-usage: herd_terminal.py PROGRAM
+usage: terminal.py PROGRAM
 """
 
 import os
