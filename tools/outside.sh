@@ -1,6 +1,7 @@
 #!/bin/sh
 # The calls as they ship, from outside: the archive, the Rust crate with its tests and its examples, the C programs.
-# VPINDEX_LIB_DIR, a full path, names the folder of another libvpindex.a, which is then not written.
+# VPINDEX_LIB_DIR, a full path, names the folder of another libvpindex.a, which is then not written; VPINDEX_WASM likewise
+# another vpindex.wasm for the page of herd.
 set -eu
 cd "$(dirname "$0")/.."
 out=target/outside
@@ -72,7 +73,9 @@ read_only() {
 }
 
 step archive sh tools/build.sh vpindex
-step wasm sh tools/build.sh vpindex --target wasm32
+if [ -z "${VPINDEX_WASM:-}" ]; then
+    step wasm sh tools/build.sh vpindex --target wasm32
+fi
 step quickstart-example example c/quickstart.expected sh examples/quickstart.sh
 step list-example example examples/list.expected list
 step list-refused example examples/list-fault.expected refused list examples/fault.list

@@ -214,10 +214,10 @@ AcceptedLeaves = (t : Table) → LeavesRest t
 abbrev pub WritesRefuse : Type 0
 WritesRefuse = (t : Table) → WritesBy t
 
--- RULES 6.1 to 6.6, what a tree is, in plain numbers (`IsTree`): by any distance and of any rows of 13 words, the
--- layout is a first slot of the smallest tag, a left half of floor(n/2) slots that are nearer to it than those of the
--- right half, equal distances by tag, and a threshold that is the largest distance of the left half, at every slot; all
--- marks are 0, and the items are those of the rows.
+-- RULES 6.1 to 6.6, what a tree is, in plain numbers (`IsTree`), by any distance and of any rows of 13 words: at every
+-- slot the first has the smallest tag, of equal ones the one gathered first; the left half has floor(n/2) of the n
+-- slots, nearer to the first than those of the right half, equal distances by tag; and the threshold is the largest
+-- distance of the left half. Every row stands in one slot, as the item that it is and with mark 0.
 -- Theorem: `lays-out`
 abbrev pub LaysOut : Type 0
 LaysOut = (dist : Profile → Profile → ℕ) (rows : List Row) → All (λ row. length row ≡ 13) rows → LaidOut dist rows
