@@ -1,8 +1,9 @@
 /*
  * The same calls on every processor: random calls of all kinds, from a seed, with a digest of every reply and of every
  * area that a call may change. Two processors on which the digests are equal gave the same bytes all along. Tables of
- * orders 0 to 6 made by the calls and spoiled, images of every form, whole, cut and altered, lists, states, short areas;
- * and of order 12 a full table and the longest image. It needs no C library: digest_main.c prints what it gives.
+ * orders 0 to 6 made by the calls and spoiled, images of every form, whole, cut and altered, lists, states, areas that
+ * are too short; and of order 12 a full table and the longest image. It needs no C library: digest_main.c prints what
+ * it gives.
  */
 #include "digest.h"
 #include "vpindex.h"
