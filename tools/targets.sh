@@ -96,7 +96,7 @@ board cortex-m4 cortex-m4 mps2-an386 0x21000000
 board cortex-m7 cortex-m7 mps2-an500 0x60000000
 if here arm-none-eabi-gcc qemu-system-arm; then
     sh examples/cortex-m7/run.sh > "$out/example.txt"
-    same 'examples/cortex-m7' "$out/example.txt" examples/cortex-m7/expected
+    same 'examples/cortex-m7' "$out/example.txt" examples/cortex-m7/run.expected
 fi
 
 # No C library at all, and the kit's compiler alone.
