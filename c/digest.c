@@ -1,8 +1,9 @@
 /*
  * The same calls on every processor: random calls of all kinds, from a seed, with a digest of every reply and of every
  * area that a call may change. Two processors on which the digests are equal gave the same bytes all along. Tables of
- * orders 0 to 6 made by the calls and spoiled, images of every form, whole, cut and altered, lists, states, short areas;
- * and of order 12 a full table and the longest image. It needs no C library: digest_main.c prints what it gives.
+ * orders 0 to 6 made by the calls and spoiled, images of every form, whole, cut and altered, lists, states, areas that
+ * are too short; and of order 12 a full table and the longest image. It needs no C library: digest_main.c prints what
+ * it gives.
  */
 #include "digest.h"
 #include "vpindex.h"
@@ -87,6 +88,16 @@ static uint64_t any_tag(void) {
     return one_in(60) ? ((uint64_t)high << 32 | low) : VPINDEX_TAG(country, national);
 }
 
+/* The tag of some slot of the table, mostly. */
+static uint64_t met_tag(void) {
+    uint64_t tag = any_tag();
+    uint32_t row = order() + 2 + below((uint32_t)2 << order());
+    if (one_in(8) || row >= VPINDEX_TABLE_ROWS(order()) || table[row][0] == 0) {
+        return tag;
+    }
+    return (uint64_t)table[row][1] << 32 | table[row][0];
+}
+
 static vpindex_profile any_profile(void) {
     vpindex_profile profile;
     for (int i = 0; i < 4; i++) {
@@ -105,21 +116,36 @@ static uint16_t any_day(void) {
     return (uint16_t)(one_in(30) ? any() : day);
 }
 
-/* A table as nobody's calls left it: a word of some row is another one. */
+/* A table as nobody's calls left it: a word of some row is another one, mostly until it is put back. */
+static struct {
+    uint32_t row, word, kept, spoiled;
+} spot;
+
 static void spoil(void) {
-    uint32_t row = below((uint32_t)VPINDEX_TABLE_ROWS(order())), word = below(VPINDEX_ROW_WORDS);
     uint32_t header = below(SMALL + 2), low = below(6), wild = any();
+    spot.row = below((uint32_t)VPINDEX_TABLE_ROWS(order()));
+    spot.word = below(VPINDEX_ROW_WORDS);
     if (one_in(3)) {
-        row = header;
+        spot.row = header;
     }
-    table[row][word] = one_in(2) ? low : wild;
+    spot.kept = table[spot.row][spot.word];
+    spot.spoiled = !one_in(12);
+    table[spot.row][spot.word] = one_in(2) ? low : wild;
+}
+
+static void mend(void) {
+    if (spot.spoiled) {
+        table[spot.row][spot.word] = spot.kept;
+        spot.spoiled = 0;
+    }
 }
 
 /* ---- Calls ------------------------------------------------------------------------------------------------------ */
 
 static void call_fresh(void) {
     vpindex_weights weights;
-    uint32_t to = one_in(25) ? any() : below(SMALL + 1), metric = one_in(25) ? any() : below(3);
+    uint32_t low = below(SMALL + 1), high = SMALL - below(2);
+    uint32_t to = one_in(25) ? any() : one_in(2) ? low : high, metric = one_in(25) ? any() : below(3);
     size_t rows = lent(VPINDEX_TABLE_ROWS(to <= SMALL ? to : SMALL));
     for (int i = 0; i < 4; i++) {
         uint32_t weight = below(VPINDEX_MAX_WEIGHT + 1), wild = any();
@@ -146,7 +172,7 @@ static void call_add(void) {
 }
 
 static void call_remove(void) {
-    uint64_t tag = any_tag();
+    uint64_t tag = met_tag();
     size_t rows = table_rows(), room = work_rows();
     vpindex_removed reply = vpindex_remove(table, rows, work, room, tag);
     mix_refusal(reply.refusal);
@@ -156,7 +182,7 @@ static void call_remove(void) {
 }
 
 static void call_look_up(void) {
-    uint64_t tag = any_tag();
+    uint64_t tag = met_tag();
     size_t rows = table_rows();
     vpindex_looked_up reply = vpindex_look_up(table, rows, tag);
     mix_refusal(reply.refusal);
@@ -356,7 +382,7 @@ static void call_dues(void) {
     uint32_t count = below(6);
     size_t rows = table_rows(), room = lent(LISTED);
     for (uint32_t i = 0; i < count; i++) {
-        tags[i] = any_tag();
+        tags[i] = met_tag();
     }
     if (one_in(50)) {
         count = VPINDEX_MAX_LISTED + 1;
@@ -381,23 +407,67 @@ static void call_lots(void) {
     mix_result(listed);
 }
 
-/* Adds and removals are called more often than what only looks at the table. */
-static void (*const calls[])(void) = {
-    call_add, call_add, call_add, call_add, call_add, call_add, call_remove, call_remove, call_fresh, call_look_up,
-    call_search, call_search, call_search, call_range_batch, call_write, call_load, call_load_misplaced, call_save,
-    call_restore, call_read_list, call_dues, call_lots,
+/* A foreign table whose slots lie in the order that is worst for parting entries about their middle one: that is always
+ * the farthest. So a search that finds all has to sort by its heap. */
+static void call_worst_order(void) {
+    enum { ITEMS = 1 << SMALL, FIRST = VPINDEX_TABLE_ROWS(SMALL) - ITEMS };
+    size_t rows = VPINDEX_TABLE_ROWS(SMALL);
+    vpindex_profile query = {{0, 0, 0, 0}, {0, 0}};
+    vpindex_fresh(table, rows, SMALL, VPINDEX_SUM_OF_DIFFERENCES, VPINDEX_WEIGHTS_ONE);
+    table[1 + SMALL][0] = ITEMS;
+    table[1 + SMALL][1] = ITEMS;
+    for (uint32_t i = 0; i < ITEMS; i++) {
+        vpindex_row *slots = table + FIRST;
+        slots[i][0] = 100 + i;
+        slots[i][2] = slots[i / 2][2];
+        slots[i / 2][2] = i;
+    }
+    vpindex_searched reply =
+        vpindex_range(table, rows, result, ITEMS, query, UINT32_C(4294967295), VPINDEX_ANY_DAY);
+    mix_refusal(reply.refusal);
+    mix(reply.found);
+    mix(reply.distances);
+    mix_result(ITEMS);
+}
+
+/* What only looks at the table, or leaves it much as it was. */
+static void (*const others[])(void) = {
+    call_look_up, call_search, call_search, call_search, call_range_batch, call_write, call_load, call_load_misplaced,
+    call_save, call_restore, call_read_list, call_dues, call_lots,
 };
+
+/* Herds grow and shrink in turn, so that every bucket is built and every way of a removal is gone. */
+static void call(uint32_t growing) {
+    if (one_in(1000)) {
+        call_worst_order();
+    } else if (one_in(150)) {
+        call_fresh();
+    } else if (one_in(2)) {
+        others[below(sizeof others / sizeof *others)]();
+    } else if (one_in(6) ? !growing : growing) {
+        call_add();
+    } else {
+        call_remove();
+    }
+}
 
 uint64_t digest_of_calls(uint32_t count, uint32_t seed, uint32_t refusals[DIGEST_REFUSALS]) {
     state = seed * UINT32_C(2654435761) | 1;
     digest = seed;
     met = refusals;
     vpindex_fresh(table, VPINDEX_TABLE_ROWS(SMALL), SMALL, VPINDEX_SUM_OF_DIFFERENCES, VPINDEX_WEIGHTS_ONE);
+    uint32_t growing = 1;
     for (uint32_t i = 0; i < count; i++) {
-        if (one_in(60)) {
+        if (one_in(80)) {
             spoil();
         }
-        calls[below(sizeof calls / sizeof *calls)]();
+        if (one_in(200)) {
+            growing = !growing;
+        }
+        call(growing);
+        if (one_in(4)) {
+            mend();
+        }
         if (i % 512 == 0) {
             mix_table(VPINDEX_TABLE_ROWS(SMALL) + MORE);
             mix_work(VPINDEX_WORK_ROWS(SMALL) + MORE);

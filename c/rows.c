@@ -48,11 +48,11 @@ static int batches_are_searches(uint32_t count) {
     uint32_t n;
     memset(queries, 255, sizeof queries);
     for (n = 0; n < count; n++) {
-        vpindex_query(queries[n], profile(3 * n), 40 * n, day(2 * n));
+        vpindex_query(queries[n], profile(3 * n), 20 * n, day(2 * n));
     }
     vpindex_ranges all = vpindex_range_batch(table, ROWS, results, part * count, queries, count);
     for (n = 0; n < count; n++) {
-        vpindex_searched one = vpindex_range(table, ROWS, result, ROOM, profile(3 * n), 40 * n, day(2 * n));
+        vpindex_searched one = vpindex_range(table, ROWS, result, ROOM, profile(3 * n), 20 * n, day(2 * n));
         if (all.refusal != 0 || one.refusal != 0 || one.found != all.found[n] ||
             memcmp(result, results + part * n, one.found * sizeof result[0]) != 0) {
             return 0;
@@ -64,7 +64,7 @@ static int batches_are_searches(uint32_t count) {
 int main(void) {
     vpindex_weights weights = {{1, 2, 0, 0}};
     for (uint32_t items = 0; items <= ROOM; items++) {
-        uint32_t refused = vpindex_fresh(table, ROWS, ORDER, VPINDEX_SUM_OF_DIFFERENCES, weights), n;
+        uint32_t refused = vpindex_fresh(table, ROWS, ORDER, items % 3, weights), n; /* by each metric in turn */
         for (n = 0; n < items; n++) {
             refused |= vpindex_add(table, ROWS, work, ROOM, VPINDEX_TAG(36, n), profile(n), day(n)).refusal;
         }

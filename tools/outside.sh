@@ -72,6 +72,7 @@ read_only() {
         [ -f "$(tail -n 1 "$out/written")" ] && rm -r "$out/reader"
 }
 
+step first-build sh tools/try_build.sh
 step archive sh tools/build.sh vpindex
 if [ -z "${VPINDEX_WASM:-}" ]; then
     step wasm sh tools/build.sh vpindex --target wasm32
@@ -98,7 +99,7 @@ if cargo clippy --version > /dev/null 2>&1; then
 fi
 step documents documents
 step relative-folder no_archive staticlib 'VPINDEX_LIB_DIR is `staticlib`, and it has to be a full path$'
-step folder-without no_archive "$PWD/c" "$PWD/c/libvpindex.a is not there: "
+step folder-without no_archive "$PWD/c" "$PWD/c/libvpindex.a is not there: prove and write it by .sh tools/build.sh vpindex., "
 step cargo-elsewhere example c/quickstart.expected elsewhere
 step c-quickstart example c/quickstart.expected c11 c/quickstart.c
 step c-refusals example c/refusals.expected c11 c/refusals.c

@@ -1,6 +1,6 @@
 -- RULES 16, the reference model: an order, a metric, four weights and a list of items. It is fed the calls' arguments,
 -- a load's image, a restore's states and a herd list too, and the lengths of the lent areas, but never an answer or
--- what the table holds.
+-- what the table holds. What it shares with the calls is listed in RULES 16.8.
 use Prim.Native.Nat.{ℕ, zero, suc, _+_, _-_, _*_, _/_, _%_, _^_}
 use mathlib.Core.Bool.{Bool, true, false, not, _&&_, _||_}
 use mathlib.Core.List.{List, [], _∷_, map, _++_, flatten}

@@ -55,8 +55,8 @@ impl Default for Batch {
 }
 
 impl<'a> Batch<&'a mut [Hit]> {
-    /// Nothing found yet, with room for as many hits in all as there are entries, of any content. The queries of a batch
-    /// have equal parts of it.
+    /// Nothing found yet, with room for as many hits in all as there are entries, of any content. The queries of a
+    /// batch have equal parts of it.
     pub fn lent(entries: &'a mut [Entry]) -> Batch<&'a mut [Hit]> {
         Batch::of(Hit::lent(entries))
     }

@@ -70,7 +70,8 @@ impl<A: DerefMut<Target = [Row]>> Table<A> {
         Ok(reply.distances)
     }
 
-    /// Puts a new profile and day in the place of an item's, as when it is weighed again: a removal and an add, or neither.
+    /// Puts a new profile and day in the place of an item's, as when it is weighed again: a removal and an add, or
+    /// neither.
     ///
     /// ```
     /// use vpindex::{Day, Metric, Order, Profile, Refusal, Table, Tag};

@@ -152,8 +152,8 @@ impl<A: Deref<Target = [Row]>> Table<A> {
         image
     }
 
-    /// Writes what [`Table::image`] gives to the front of these bytes, and gives its length; bytes behind it are left as
-    /// they are. [`Table::image_bytes`] are enough, and [`Order::image_bytes`] for any table of the order.
+    /// Writes what [`Table::image`] gives to the front of these bytes, and gives its length; bytes behind it are left
+    /// as they are. [`Table::image_bytes`] are enough, and [`Order::image_bytes`] for any table of the order.
     ///
     /// # Errors
     ///

@@ -8,10 +8,10 @@
 //! rules give for every input, a search finds what a scan of all items would, and all rebuilds of a list of calls
 //! together keep within a bound.
 //!
-//! The feature `std`, which is on by default, is for programs with an operating system, and turns on `alloc`: tables that
-//! own their areas, what is returned rather than put into a lent one, herd images under names, and faults in words.
-//! Without either the crate is `no_std` and allocates nothing: tables, searches and changes are then in areas that the
-//! caller lends ([`Table::lent`], [`Hits::lent`], [`Batch::lent`]), and the archive wants `memset` and `memcpy` alone.
+//! The feature `std`, which is on by default, is for programs with an operating system, and turns on `alloc`: tables
+//! that own their areas, results that are returned, snapshots under names, lots, dues and faults in words. Without
+//! either the crate is `no_std` and allocates nothing: tables, searches and changes are then in areas that the caller
+//! lends ([`Table::lent`], [`Hits::lent`], [`Batch::lent`]), and the archive wants `memset` and `memcpy` alone.
 //!
 //! ```
 //! use vpindex::{Day, Metric, Order, Profile, Table, Tag};

@@ -305,8 +305,11 @@ fn an_item_is_replaced() {
         let mut table = Table::new(Order::new(3).expect("valid"), Metric::SumOfDifferences);
         assert_eq!(table.try_extend(first.iter().copied()), Ok(items as usize));
         for (done, (before, Item { tag, profile, day })) in first.iter().zip(&again).enumerate() {
+            let mut apart = table.clone();
+            let distances =
+                apart.remove(*tag).expect("it is there") + apart.add(*tag, profile, *day).expect("room").distances;
             let replaced = table.replace(*tag, profile, *day).expect("it is there");
-            assert_eq!(replaced.before, *before);
+            assert_eq!((replaced.before, replaced.distances, table.image()), (*before, distances, apart.image()));
             assert_eq!(table.look_up(*tag).map(|found| found.bucket), Ok(replaced.bucket));
             let mut expected = Table::new(Order::MAX, Metric::SumOfDifferences);
             expected.try_extend(again[..=done].iter().chain(&first[done + 1..]).copied()).expect("room");
