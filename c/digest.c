@@ -1,8 +1,9 @@
 /*
  * The same calls on every processor: random calls of all kinds, from a seed, with a digest of every reply and of every
  * area that a call may change. Two processors on which the digests are equal gave the same bytes all along. Tables of
- * orders 0 to 6 made by the calls and spoiled, images of every form, whole, cut and altered, lists, states, short areas;
- * and of order 12 a full table and the longest image. It needs no C library: digest_main.c prints what it gives.
+ * orders 0 to 6 made by the calls and spoiled, images of every form, whole, cut and altered, lists, states, areas that
+ * are too short; and of order 12 a full table and the longest image. It needs no C library: digest_main.c prints what
+ * it gives.
  */
 #include "digest.h"
 #include "vpindex.h"
@@ -406,6 +407,29 @@ static void call_lots(void) {
     mix_result(listed);
 }
 
+/* A foreign table whose slots lie in the order that is worst for parting entries about their middle one: that is always
+ * the farthest. So a search that finds all has to sort by its heap. */
+static void call_worst_order(void) {
+    enum { ITEMS = 1 << SMALL, FIRST = VPINDEX_TABLE_ROWS(SMALL) - ITEMS };
+    size_t rows = VPINDEX_TABLE_ROWS(SMALL);
+    vpindex_profile query = {{0, 0, 0, 0}, {0, 0}};
+    vpindex_fresh(table, rows, SMALL, VPINDEX_SUM_OF_DIFFERENCES, VPINDEX_WEIGHTS_ONE);
+    table[1 + SMALL][0] = ITEMS;
+    table[1 + SMALL][1] = ITEMS;
+    for (uint32_t i = 0; i < ITEMS; i++) {
+        vpindex_row *slots = table + FIRST;
+        slots[i][0] = 100 + i;
+        slots[i][2] = slots[i / 2][2];
+        slots[i / 2][2] = i;
+    }
+    vpindex_searched reply =
+        vpindex_range(table, rows, result, ITEMS, query, UINT32_C(4294967295), VPINDEX_ANY_DAY);
+    mix_refusal(reply.refusal);
+    mix(reply.found);
+    mix(reply.distances);
+    mix_result(ITEMS);
+}
+
 /* What only looks at the table, or leaves it much as it was. */
 static void (*const others[])(void) = {
     call_look_up, call_search, call_search, call_search, call_range_batch, call_write, call_load, call_load_misplaced,
@@ -414,7 +438,9 @@ static void (*const others[])(void) = {
 
 /* Herds grow and shrink in turn, so that every bucket is built and every way of a removal is gone. */
 static void call(uint32_t growing) {
-    if (one_in(150)) {
+    if (one_in(1000)) {
+        call_worst_order();
+    } else if (one_in(150)) {
         call_fresh();
     } else if (one_in(2)) {
         others[below(sizeof others / sizeof *others)]();

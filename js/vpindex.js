@@ -135,7 +135,7 @@ export const tagOf = (country, national) => BigInt(country) * 1000000000000n + B
 export class Refusal extends Error {
   /**
    * @param {number} number
-   * @param {object} reply what the reply has besides: `slot` of a load or restore; `line`, `added`, `distances` of a list
+   * @param {object} reply what it has besides: `slot` of a load or restore; `line`, `added`, `distances` of a list
    */
   constructor(number, reply) {
     const [code, words] = REFUSALS[number] ?? ["UNKNOWN", "a refusal that this header does not know"];

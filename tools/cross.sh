@@ -109,7 +109,8 @@ carry() {
         stop 'c/calls.c does not spell the calls that include/vpindex.h declares'
 }
 
-c_words='-std=c11 -O3 -pedantic -Wall -Wextra -Werror -ffreestanding -nostdinc -isystem c/bare -Iinclude'
+c_words='-std=c11 -O3 -pedantic -Wall -Wextra -Wconversion -Wsign-conversion -Werror
+    -ffreestanding -nostdinc -isystem c/bare -Iinclude'
 mkdir -p target/module "$out"
 calls=$(sed -nE 's/^[a-z_0-9]+ (vpindex_[a-z_]+)\(.*/\1/p' include/vpindex.h | LC_ALL=C sort)
 # The module goes with the archive that was made beside it.

@@ -180,7 +180,8 @@ def table():
     bounds = [bounds_in(ARCHIVE) if target == "x86-64" else bounds_for(target) for target in targets]
     print(f"| call | {' | '.join(targets)} |\n|{'---|' * (len(targets) + 1)}")
     for name in bounds[0]:
-        print(f"| {name if name == 'code' else f'`{name}`'} | {' | '.join(str(-(-of[name] // 1024)) for of in bounds)} |")
+        cells = [name if name == "code" else f"`{name}`"] + [str(-(-of[name] // 1024)) for of in bounds]
+        print(f"| {' | '.join(cells)} |")
 
 
 def main(words):

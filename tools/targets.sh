@@ -1,6 +1,6 @@
 #!/bin/sh
 # The same bytes on every processor: the digest of 200,000 random calls and of tables of order 12 (c/digest.c), and what
-# c/quickstart.c writes, have to be on each target what they are with the archive. What can't be tested here is told last.
+# c/quickstart.c writes, have to be on each target what they are with the archive. What can't be tested is told last.
 #   sh tools/targets.sh            tests every target whose compiler and emulator are here
 #   sh tools/targets.sh --install  gets what is missing, where apt-get can be had
 set -eu
@@ -13,8 +13,8 @@ if [ "${1:-}" = --install ]; then
         echo 'getting compilers and emulators for other processors'
         { apt-get update && apt-get install --yes --no-install-recommends qemu-user qemu-system-arm nodejs \
             gcc-aarch64-linux-gnu libc6-dev-arm64-cross gcc-arm-linux-gnueabihf libc6-dev-armhf-cross \
-            gcc-riscv64-linux-gnu libc6-dev-riscv64-cross gcc-arm-none-eabi libnewlib-arm-none-eabi; } > /dev/null 2>&1 ||
-            echo 'not all of them can be had'
+            gcc-riscv64-linux-gnu libc6-dev-riscv64-cross gcc-arm-none-eabi libnewlib-arm-none-eabi; } \
+            > /dev/null 2>&1 || echo 'not all of them can be had'
     fi
     exit 0
 fi
@@ -38,7 +38,13 @@ same() { # NAME FILE EXPECTED
     diff "$3" "$2" || stop "$1: not as with the archive"
 }
 
+# The C file that spells the calls has no warning by that compiler, at the flags that the header is tested with.
+no_warning() { # COMPILER WORDS
+    "$@" $strict -Wconversion -Wsign-conversion -c c/calls.c -o /dev/null
+}
+
 # The archive's own, which has to have met every refusal of the header and the longest image.
+no_warning cc
 cc $strict $digest target/staticlib/libvpindex.a -o "$out/archive"
 "$out/archive" > "$out/archive.txt"
 grep -q '^longest image \([0-9]*\) of \1$' "$out/archive.txt" || stop 'the longest image was not reached'
@@ -48,12 +54,13 @@ done
 
 linux() { # NAME COMPILER EMULATOR
     here "$2" "$3" || { left="$left $1"; return 0; }
-    "$2" $strict -static $digest "target/$1/libvpindex.a" -o "$out/$1" && "$3" "$out/$1" > "$out/$1.txt"
-    same "$1" "$out/$1.txt" "$out/archive.txt"
-    "$2" $strict -static c/quickstart.c "target/$1/libvpindex.a" -o "$out/$1.quickstart" && "$3" "$out/$1.quickstart" > "$out/$1.txt"
-    same "$1, C example" "$out/$1.txt" c/quickstart.expected
-    # The C file has no warning by that compiler either.
-    "$2" $strict -c c/calls.c -o /dev/null
+    "$2" $strict -static $digest "target/$1/libvpindex.a" -o "$out/$1"
+    "$3" "$out/$1" > "$out/$1.txt"
+    same "$1, digest" "$out/$1.txt" "$out/archive.txt"
+    "$2" $strict -static c/quickstart.c "target/$1/libvpindex.a" -o "$out/$1"
+    "$3" "$out/$1" > "$out/$1.txt"
+    same "$1, quickstart" "$out/$1.txt" c/quickstart.expected
+    no_warning "$2"
     echo "$1: the same"
 }
 
@@ -75,7 +82,7 @@ board() { # NAME CPU BOARD RAM
             > "$out/$1.txt"
         same "$1, $program" "$out/$1.txt" "$expected"
     done
-    arm-none-eabi-gcc -mcpu="$2" -mthumb $strict -c c/calls.c -o /dev/null
+    no_warning arm-none-eabi-gcc -mcpu="$2" -mthumb
     echo "$1: the same"
 }
 

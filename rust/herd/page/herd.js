@@ -25,6 +25,11 @@ const moneyText = cents => grouped(measureText(cents));
 const codeText = ([first, second]) =>
   first || second ? [first, second].map(word => word.toString(16).padStart(16, "0")).join("") : "-";
 
+// A day is a date too where that of day 1 is known.
+const MILLISECONDS = 24 * 60 * 60 * 1000, DAY_ONE = Date.parse(document.getElementById("image").dataset.dayOne);
+const hasDates = !Number.isNaN(DAY_ONE);
+const dayText = day => hasDates ? new Date(DAY_ONE + (day - 1) * MILLISECONDS).toISOString().slice(0, 10) : String(day);
+
 // What a call says, in a yard's words: what the header calls a table is a herd, and its items are head.
 const ofHerd = words => words.replaceAll("table", "herd").replace(/items?/g, "head");
 
@@ -57,6 +62,13 @@ function readWhole(typed, most) {
   const digits = typed.trim(), isWhole = /^\d+$/.test(digits) && Number(digits) <= most;
   if (!isWhole) throw new Mistyped(`a whole number up to ${grouped(most)} belongs here`);
   return Number(digits);
+}
+
+function readDay(typed) {
+  const text = typed.trim(), day = (Date.parse(text) - DAY_ONE) / MILLISECONDS + 1;
+  if (!hasDates || !/^\d+-\d\d-\d\d$/.test(text)) return readWhole(text, MAX_DAY);
+  if (day >= 1 && day <= MAX_DAY && dayText(day) === text) return day;
+  throw new Mistyped(`a date from ${dayText(1)} to ${dayText(MAX_DAY)} belongs here`);
 }
 
 // Hundredths or bits; with a point a radius is in units of measures.
