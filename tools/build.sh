@@ -1,21 +1,38 @@
 #!/bin/sh
 # Proves and builds the archive of the calls or the program yard: sh tools/build.sh vpindex|yard
+# sh tools/build.sh vpindex --target NAME then compiles the same proved code for another processor (tools/cross.sh).
 # Each crate is shown on standard error as it is proved. Where no file of the crates has changed since, nothing is done.
 # VPINDEX_LIB_DIR, a full path, names the folder of another libvpindex.a, and then no archive is built.
 set -eu
 cd "$(dirname "$0")/.."
+if [ "${1:-} ${2:-}" = 'vpindex --target' ]; then
+    sh tools/cross.sh --words "${3:-}" > /dev/null
+    VPINDEX_LIB_DIR='' sh tools/build.sh vpindex
+    exec sh tools/cross.sh "$3"
+fi
 case ${1:-} in
     vpindex)
-        [ -z "${VPINDEX_LIB_DIR:-}" ] || exit 0
+        case ${VPINDEX_LIB_DIR:-} in
+            '') ;;
+            /*)
+                [ ! -f "$VPINDEX_LIB_DIR/libvpindex.a" ] || exit 0
+                echo "$VPINDEX_LIB_DIR/libvpindex.a is not there, and VPINDEX_LIB_DIR says that it is" >&2
+                exit 1
+                ;;
+            *)
+                echo "VPINDEX_LIB_DIR is \`$VPINDEX_LIB_DIR\`, and it has to be a full path" >&2
+                exit 1
+                ;;
+        esac
         built=target/staticlib/libvpindex.a
-        build() { rt check vpindex && rt staticlib vpindex; }
+        build() { rt check vpindex && echo 'step: writing the archive' && rt staticlib vpindex; }
         ;;
     yard)
         built=target/bin/yard
         build() { rt check yard; }
         ;;
     *)
-        echo 'usage: sh tools/build.sh vpindex|yard' >&2
+        echo 'usage: sh tools/build.sh vpindex [--target NAME] | yard' >&2
         exit 2
         ;;
 esac
@@ -40,15 +57,34 @@ crates=$(awk -v root="$1" -F': *' '
     }
     END { reach(root); n = 0; for (name in met) n++; print n }' crates.txt)
 log=target/$1.log
-mkdir -p target
+if ! mkdir -p target || [ ! -w target ]; then
+    echo "$built is not there or not of these crates, and $PWD/target cannot be written" >&2
+    exit 1
+fi
 echo "proving $crates crates and building $built: some minutes the first time, less after a change; the log is $log" >&2
-{ build 2>&1 || echo 'rt: not built'; } | tee "$log" | awk -v all="$crates" '
-    BEGIN { "date +%s" | getline start; close("date +%s") }
-    / proved \(/ && $1 == "rt:" {
+start=$(date +%s)
+: > "$log.start"
+# Every 20 seconds what is under way: crates that were begun since and have no verdict yet, or what follows them.
+under_way() {
+    while sleep 20 > /dev/null 2>&1 && kill -0 $$ 2> /dev/null; do
+        begun=$(find target/log -name '*.res' -newer "$log.start" -exec grep -lx failed {} + 2> /dev/null |
+            sed 's,.*/\(.*\)\.res$,\1,' | LC_ALL=C sort | tr '\n' ' ')
+        echo "  under way: ${begun:-$built } ($(($(date +%s) - start)) s so far)"
+    done
+}
+under_way >&2 &
+{ build 2>&1 || echo 'rt: not built'; } | tee "$log" | awk -v all="$crates" -v start="$start" '
+    function so_far() {
         "date +%s" | getline now; close("date +%s")
-        if (!/unchanged/) printf "  %d of %d  %s  (%d s so far)\n", ++n, all, $2, now - start; else n++
+        return "(" now - start " s so far)"
+    }
+    / proved \(/ && $1 == "rt:" {
+        n++
+        if (!/unchanged/) print "  " n " of " all "  " $2 "  " so_far()
         fflush()
-    }' >&2
+    }
+    /^step: / { print "  " substr($0, 7) "  " so_far(); fflush() }' >&2
+kill $! 2> /dev/null || true
 if tail -n 1 "$log" | grep -q '^rt: not built$'; then
     cat "$log"
     exit 1

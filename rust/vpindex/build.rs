@@ -1,5 +1,5 @@
 //! Links libvpindex.a, from the folder that VPINDEX_LIB_DIR names (a full path), or where that is not set or empty, from
-//! where `rt staticlib vpindex` writes it.
+//! where `sh tools/build.sh vpindex` writes it.
 
 use std::env;
 use std::path::{Path, PathBuf};
@@ -16,7 +16,7 @@ fn main() {
     let archive = folder.join("libvpindex.a");
     println!("cargo::rerun-if-changed={}", archive.display());
     if !archive.is_file() {
-        let remedy = "write it by `rt staticlib vpindex`, or name its folder in VPINDEX_LIB_DIR";
+        let remedy = "prove and write it by `sh tools/build.sh vpindex`, or name its folder in VPINDEX_LIB_DIR";
         println!("cargo::error={} is not there: {remedy}", archive.display());
         return;
     }

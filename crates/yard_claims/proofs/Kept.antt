@@ -16,7 +16,7 @@ use Rattle.metric_rules.specs.declared.Profile.{Profile}
 use Rattle.metric_rules.specs.Distance.{weight, validMetric, lastMetric, weightsOne}
 use Rattle.metric_rules.proofs.Elements.{each-at}
 use Rattle.table_rules.specs.Refusals.{badOrder, badMetric, shortArea, unless}
-use Rattle.table_rules.specs.Geometry.{tableRows, workRows}
+use Rattle.table_rules.specs.Geometry.{room, firstSlot, tableRows, workRows}
 use Rattle.table_rules.specs.Table.{Table, orderOf}
 use Rattle.table_rules.specs.Fresh.{freshRefusal, tableAfterFresh}
 use Rattle.table_rules.specs.Add.{tableAfterAdd}
@@ -74,7 +74,7 @@ change-table state a e command.Other p = e
 
 module _ {a : Areas} {m : Model} (s : ServedBy a m) where
   long-enough : canChange m (length (a .table)) (length (a .work)) ≡ true
-  unfolding canChange canRead
+  unfolding canChange canRead tableRows firstSlot workRows room
   long-enough =
       and-pass (leb (tableRows (m .order)) (length (a .table))) (leb (workRows (m .order)) (length (a .work)))
       (le-leb (tableRows (m .order)) (length (a .table)) (omega (arith, ap tableRows (s .matches .order), s .matches .invariant .long)))

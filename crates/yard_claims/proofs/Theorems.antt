@@ -1,5 +1,5 @@
 -- The claims of `specs/Claims`, by the lines: the first one begins the model or ends all, and each later one prints as the model does and leaves areas for the next.
-use Prim.Native.Nat.{ℕ, zero, suc, _<_}
+use Prim.Native.Nat.{ℕ, zero, suc, _^_, _<_}
 use native.Mathlib.Omega.{arith}
 use mathlib.Core.Path.{_≡_, refl, _∙_, ap, ap₂}
 use mathlib.Core.Bool.{Bool, true, false}
@@ -8,9 +8,8 @@ use mathlib.Core.List.{List, [], _∷_, _++_, append-nil}
 use lib.Dec.{leb, eqb}
 use lib.ListN.{length}
 use Rattle.metric_rules.specs.declared.Profile.{Profile}
-use Rattle.metric_rules.specs.Validity.{validTag, validMeasures, validDay}
+use Rattle.history.specs.Figures.{tagSound, measuresWithin}
 use Rattle.table_rules.specs.Refusals.{badDay}
-use Rattle.table_rules.specs.Geometry.{room}
 use Rattle.call_rules.specs.Calls.Begin.{fresh}
 use Rattle.history.specs.Model.{Model, isIn, tagRefusal, itemRefusal, modelBegun}
 use Rattle.yard_rules.specs.declared.Header.{Header}
@@ -80,17 +79,16 @@ either false h k = k
 line-number : (m : Model) (c : Command) (p : Profile) → Number (lineRefusal m c p)
 unfolding lineRefusal itemRefusal tagRefusal
 line-number m (command.Add tag day) p =
-    either (validTag tag)
-    (either (validMeasures p)
-    (either (validDay day)
+    either (tagSound tag)
+    (either (measuresWithin p)
+    (either (eqb day 0) (inr (inr refl))
     (either (isIn m tag) (inr (inl (omega arith, omega arith)))
-    (either (leb (room (m .order)) (length (m .items))) (inr (inl (omega arith, omega arith))) (inl (omega arith))))
-    (inr (inr refl)))
+    (either (leb (2 ^ m .order) (length (m .items))) (inr (inl (omega arith, omega arith))) (inl (omega arith)))))
     (inl (omega arith)))
     (inl (omega arith))
-line-number m (command.Remove tag) p = either (validTag tag) (either (isIn m tag) (inl (omega arith)) (inr (inl (omega arith, omega arith)))) (inl (omega arith))
-line-number m (command.Within radius firstDay) p = either (validMeasures p) (inl (omega arith)) (inl (omega arith))
-line-number m (command.Nearest k firstDay) p = either (validMeasures p) (either (eqb k 0) (inl (omega arith)) (inl (omega arith))) (inl (omega arith))
+line-number m (command.Remove tag) p = either (tagSound tag) (either (isIn m tag) (inl (omega arith)) (inr (inl (omega arith, omega arith)))) (inl (omega arith))
+line-number m (command.Within radius firstDay) p = either (measuresWithin p) (inl (omega arith)) (inl (omega arith))
+line-number m (command.Nearest k firstDay) p = either (measuresWithin p) (either (eqb k 0) (inl (omega arith)) (inl (omega arith))) (inl (omega arith))
 line-number m command.Other p = inl (omega arith)
 
 pub no-area-refused : NoAreaRefused

@@ -10,7 +10,7 @@ use lib.ListN.{length, take, getD}
 use lib.Dec.{leb, eqb}
 use Rattle.lists.specs.Lists.{All}
 use Rattle.metric_rules.specs.declared.Profile.{Profile}
-use Rattle.metric_rules.specs.Validity.{validMeasures}
+use Rattle.history.specs.Figures.{measuresWithin}
 use Rattle.metric_rules.specs.Distance.{validMetric}
 use Rattle.search_rules.specs.Range.{Entry}
 use Rattle.table_rules.specs.Refusals.{badMeasure, badOrder, badMetric, noCount, noRoom, shortArea, badTable, unless, when}
@@ -53,8 +53,8 @@ countsOf y lines i = let line = getD lines i [] in countsAt (afterLines y (take 
 unfoldable pub lineRefusal : Model → Command → Profile → ℕ
 lineRefusal m (command.Add tag day) p = itemRefusal m tag p day
 lineRefusal m (command.Remove tag) p = tagRefusal m tag
-lineRefusal m (command.Within radius firstDay) p = unless (validMeasures p) badMeasure 0
-lineRefusal m (command.Nearest k firstDay) p = unless (validMeasures p) badMeasure (when (eqb k 0) noCount 0)
+lineRefusal m (command.Within radius firstDay) p = unless (measuresWithin p) badMeasure 0
+lineRefusal m (command.Nearest k firstDay) p = unless (measuresWithin p) badMeasure (when (eqb k 0) noCount 0)
 lineRefusal m command.Other p = 0
 
 -- RULES 16.4, the model after a line: an accepted add puts its item in, an accepted removal strikes it out
