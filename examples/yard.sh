@@ -1,5 +1,6 @@
 #!/bin/sh
-# Proves and builds the program yard, and runs it on the rules' whole example, or on the lines of standard input with `-`.
+# Proves and builds the program yard, and runs it on the rules' whole example, or with `-` on the lines of standard
+# input.
 set -eu
 cd "$(dirname "$0")/.."
 sh tools/build.sh yard

@@ -6,7 +6,8 @@
  *
  * Link with libvpindex.a. The calls allocate nothing, keep nothing between calls and call nothing but the C library's
  * memory functions: all state is in the areas that the caller lends. Whatever these areas hold, each call ends, and its
- * reply and the content of every area afterwards are settled by the rules.
+ * reply and the content of every area afterwards are settled by the rules. In a table of order T that holds items one
+ * search counts at most 2^(T+1) - 1 distances, and fewer than four times its items; one add or removal at most T * 2^T.
  *
  * What the caller has to see to, in every call:
  *   - a pointer is not null, also where its length is 0, and points to as many elements as the length says, all of them
@@ -14,8 +15,9 @@
  *   - it is aligned as its type wants;
  *   - areas lent to the same call do not overlap;
  *   - no other thread uses an area while a call has it, except that several may read the same table;
- *   - the stack has room: at most 73 KB for vpindex_load and vpindex_restore, whatever the order, 17 KB for
- *     vpindex_dues and 5 KB for the others, as worked out from the compiled code (docs/OUTSIDE.md).
+ *   - the stack has room: on x86-64 at most 73 KB for vpindex_load and vpindex_restore, whatever the order, 17 KB for
+ *     vpindex_dues and 5 KB for the others, as worked out from the compiled code; docs/TESTING.md has the table by
+ *     processor, of which no figure is above 80, 17 and 14 KB.
  */
 #ifndef VPINDEX_H
 #define VPINDEX_H
@@ -23,15 +25,21 @@
 #include <stddef.h>
 #include <stdint.h>
 
-/* Stands before a table that a call only reads. C before C23 would want a cast for a const there. */
+/* Stands before a table or queries that a call only reads. C before C23 takes no pointer to rows where one to const
+ * rows is wanted, so there the calls are declared without const, and a program whose table is const hands it over by a
+ * cast, as in vpindex_look_up((vpindex_row *)table, ..): nothing of it is written. */
 #if defined(__cplusplus) || (defined(__STDC_VERSION__) && __STDC_VERSION__ >= 202311L)
 #define VPINDEX_READ const
 #else
 #define VPINDEX_READ
 #endif
 
+/* A conversion that is meant, as C and as C++ want it written. */
 #ifdef __cplusplus
+#define VPINDEX_AS(type, value) static_cast<type>(value)
 extern "C" {
+#else
+#define VPINDEX_AS(type, value) ((type)(value))
 #endif
 
 /* ---- Version --------------------------------------------------------------------------------------------------- */
@@ -61,7 +69,8 @@ extern "C" {
 
 /* A tag from its country, 1 to 999, and its national number, 0 to VPINDEX_MAX_NATIONAL. Country 036 is written 36: in C
  * a number that begins with 0 is octal, and 036 is 30. */
-#define VPINDEX_TAG(country, national) ((uint64_t)(country) * UINT64_C(1000000000000) + (uint64_t)(national))
+#define VPINDEX_TAG(country, national) \
+    (VPINDEX_AS(uint64_t, country) * UINT64_C(1000000000000) + VPINDEX_AS(uint64_t, national))
 
 /* ---- Areas ----------------------------------------------------------------------------------------------------- */
 
@@ -73,30 +82,33 @@ typedef uint64_t vpindex_entry[VPINDEX_ENTRY_WORDS];
 
 /* The order that these sizes are given for must be at most VPINDEX_MAX_ORDER. */
 
-/* The table: row 0 has the order, the metric and the weights, then a row for each bucket has its two sizes, then come
- * the slots. */
-#define VPINDEX_TABLE_ROWS(order) ((size_t)(order) + 1 + ((size_t)2 << (order)))
+/* The table: row 0 has the order, the metric and the weights, in words 0, 1 and 2 to 5, then a row for each bucket has
+ * its two sizes, then come the slots, of which vpindex_row_is_live says whether an item is in one. */
+#define VPINDEX_TABLE_ROWS(order) (VPINDEX_AS(size_t, order) + 1 + (VPINDEX_AS(size_t, 2) << (order)))
+#define VPINDEX_FIRST_SLOT(order) (VPINDEX_AS(size_t, order) + 2)
 
 /* The work area, lent to vpindex_add, vpindex_remove and vpindex_read_list. */
-#define VPINDEX_WORK_ROWS(order) ((size_t)1 << (order))
+#define VPINDEX_WORK_ROWS(order) (VPINDEX_AS(size_t, 1) << (order))
 
-/* As many entries as any search of a table that these calls left can find. */
-#define VPINDEX_RESULT_ENTRIES(order) ((size_t)1 << (order))
+/* As many entries as any single search of a table that these calls left can find, and a batch of so many queries. */
+#define VPINDEX_RESULT_ENTRIES(order) (VPINDEX_AS(size_t, 1) << (order))
+#define VPINDEX_BATCH_ENTRIES(order, queries) (VPINDEX_AS(size_t, queries) << (order))
 
 /* The work area lent to vpindex_lots, and as many entries as its listing can have. */
-#define VPINDEX_LOTS_ENTRIES(order) ((size_t)1 << (order))
+#define VPINDEX_LOTS_ENTRIES(order) (VPINDEX_AS(size_t, 1) << (order))
 
 /* As many bytes as any image of this order can have: every slot of every bucket built. */
-#define VPINDEX_IMAGE_BYTES(order) (8 + 4 * ((size_t)(order) + 1) + 50 * (((size_t)2 << (order)) - 1))
+#define VPINDEX_IMAGE_BYTES(order) \
+    (8 + 4 * (VPINDEX_AS(size_t, order) + 1) + 50 * ((VPINDEX_AS(size_t, 2) << (order)) - 1))
 
 /* The states: snapshots of a table under names 1 to VPINDEX_NAMES, each in its part of the area, an eighth of its bytes
  * rounded down. So many bytes have room for any snapshot of this order under every name. */
 #define VPINDEX_NAMES 8
 #define VPINDEX_STATES_BYTES(order) (VPINDEX_NAMES * (4 + VPINDEX_IMAGE_BYTES(order)))
 
-/* A query of vpindex_range_batch is a row: the four measures in words 2 to 5, the code's two words in words 6 and 7 and
- * in words 8 and 9, the low word first, the radius in word 10, and the first day in the lowest 16 bits of word 12.
- * Words 0, 1 and 11 and the rest of word 12 are ignored. */
+/* A query of vpindex_range_batch is a row, which vpindex_query fills: the four measures in words 2 to 5, the code's two
+ * words in words 6 and 7 and in words 8 and 9, the low word first, the radius in word 10, and the first day in the
+ * lowest 16 bits of word 12. Words 0, 1 and 11 and the rest of word 12 are ignored. */
 #define VPINDEX_MAX_QUERIES 16
 
 /* The first line of a herd list; vpindex_read_list says what follows it. */
@@ -246,6 +258,50 @@ typedef struct {
     uint64_t total;                      /* in cents, the sum of what each pays */
 } vpindex_dues_reply;
 
+/* ---- Rows --------------------------------------------------------------------------------------------------------
+ * A slot's row has the tag in words 0 and 1, the profile and the day as a query has profile and first day, and in words
+ * 10 and 11 its threshold and its mark, 0 where it is live. All words are 0 in a slot that no item is in. Of a table
+ * that these calls left, all items are listed so:
+ *     for (size_t i = VPINDEX_FIRST_SLOT(order); i < VPINDEX_TABLE_ROWS(order); i++)
+ *         if (vpindex_row_is_live(table[i])) .. vpindex_row_tag(table[i]) .. */
+
+static inline uint64_t vpindex_words(uint32_t low, uint32_t high) {
+    return VPINDEX_AS(uint64_t, high) << 32 | low;
+}
+
+static inline uint64_t vpindex_row_tag(const uint32_t row[VPINDEX_ROW_WORDS]) {
+    return vpindex_words(row[0], row[1]);
+}
+
+/* Whether an item is in the slot that was not removed: no tag is 0. */
+static inline int vpindex_row_is_live(const uint32_t row[VPINDEX_ROW_WORDS]) {
+    return row[11] == 0 && vpindex_row_tag(row) != 0;
+}
+
+static inline vpindex_profile vpindex_row_profile(const uint32_t row[VPINDEX_ROW_WORDS]) {
+    vpindex_profile profile = {{VPINDEX_AS(int32_t, row[2]), VPINDEX_AS(int32_t, row[3]),
+                                VPINDEX_AS(int32_t, row[4]), VPINDEX_AS(int32_t, row[5])},
+                               {vpindex_words(row[6], row[7]), vpindex_words(row[8], row[9])}};
+    return profile;
+}
+
+static inline uint16_t vpindex_row_day(const uint32_t row[VPINDEX_ROW_WORDS]) {
+    return VPINDEX_AS(uint16_t, row[12] & 65535);
+}
+
+/* Makes a row a query of vpindex_range_batch. */
+static inline void vpindex_query(uint32_t row[VPINDEX_ROW_WORDS], vpindex_profile profile, uint32_t radius,
+                                 uint16_t first_day) {
+    size_t i;
+    for (i = 0; i < 4; i++) {
+        row[2 + i] = VPINDEX_AS(uint32_t, profile.measures[i]);
+        row[6 + i] = VPINDEX_AS(uint32_t, profile.code[i / 2] >> 32 * (i % 2) & 4294967295U);
+    }
+    row[0] = row[1] = row[11] = 0;
+    row[10] = radius;
+    row[12] = first_day;
+}
+
 /* ---- Calls -------------------------------------------------------------------------------------------------------
  * Lengths are in elements: rows, entries, bytes, numbers. Rows, bytes and numbers past what a call needs keep their
  * content. */
@@ -285,7 +341,7 @@ vpindex_added vpindex_add(uint32_t (*table)[VPINDEX_ROW_WORDS], size_t table_row
 vpindex_removed vpindex_remove(uint32_t (*table)[VPINDEX_ROW_WORDS], size_t table_rows,
                                uint32_t (*work)[VPINDEX_ROW_WORDS], size_t work_rows, uint64_t tag);
 
-/* Gives the profile and the day of the item with this tag. No area is changed.
+/* Gives the bucket, the profile and the day of the item with this tag. No area is changed.
  * Refusals: SHORT_AREA (no rows), BAD_TABLE (order, metric), SHORT_AREA, BAD_TABLE (weights, sizes), BAD_TAG,
  * NOT_LIVE. */
 vpindex_looked_up vpindex_look_up(VPINDEX_READ uint32_t (*table)[VPINDEX_ROW_WORDS], size_t table_rows, uint64_t tag);

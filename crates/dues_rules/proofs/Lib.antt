@@ -2,5 +2,4 @@
 mod WorkedWeights
 mod WorkedLists
 pub mod Rates
-mod EarlierBoard
 pub mod Replies

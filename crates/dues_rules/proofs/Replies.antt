@@ -4,7 +4,9 @@ use mathlib.Core.Path.{_≡_, refl, sym, ap, _∙_}
 use mathlib.Core.List.{List, _++_}
 use mathlib.Core.Option.{Option}
 use lib.IntN.{ℤ}
-use lib.ListN.{length, drop, length-map}
+use lib.ListN.{length, take, drop, length-map}
+use lib.Seq.{take-at}
+use Rattle.lists.specs.Lists.{total}
 use Rattle.table_rules.specs.Table.{Table}
 use Rattle.dues_rules.specs.declared.Dues.{Dues}
 use Rattle.dues_rules.specs.Listed.{weightAt, weightsAt, pays, duesOf, totalOf, weightsReply, areaAfter, duesRefusal, duesReply, duesAfter}
@@ -36,3 +38,16 @@ module _ (t : Table) (tags : List ℕ) where
     accepted e =
         let left = by-refusal 0 e in
         (left .0, ap (λ (k : ℕ). duesOf weights ++ drop k area) (sym (length-map tags (weightAt t))) ∙ left .1)
+
+    -- RULES 20.5: the total is the sum of the dues that the area has for the list
+    pub total-of-area : duesReply t tags area .refusal ≡ 0 → duesReply t tags area .total ≡ total (take (length tags) (duesAfter t tags area))
+    unfolding totalOf duesReply weightsReply
+    total-of-area e =
+        let left = accepted (sym (reply-refusal (duesRefusal t tags area)) ∙ e) in
+        sym (ap (λ (r : Dues). r .total) (left .0))
+        ∙ ap total (sym (take-at (duesOf weights) _ (length tags) paid-each))
+        ∙ ap (λ (a : List ℕ). total (take (length tags) a)) (left .1)
+      where
+        reply-refusal : (n : ℕ) → weightsReply n weights .refusal ≡ n
+        reply-refusal zero = refl
+        reply-refusal (suc n) = refl

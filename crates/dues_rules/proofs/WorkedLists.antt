@@ -7,16 +7,16 @@ use mathlib.Core.Bool.{Bool, true, _&&_}
 use mathlib.Core.List.{List, [], _∷_}
 use mathlib.Core.Option.{Option, none, some}
 use lib.IntN.{ℤ, pos, negsuc}
-use lib.ListN.{length, take, drop}
+use lib.ListN.{length, drop}
 use lib.Dec.{leb}
-use lib.Seq.{take-at, drop-at}
+use lib.Seq.{drop-at}
 use Rattle.lists.specs.Lists.{every, total}
 use Rattle.table_rules.specs.Refusals.{noRoom, unless, orElse}
 use Rattle.table_rules.specs.Table.{Table}
 use Rattle.table_rules.specs.Checks.{readRefusal}
-use Rattle.dues_rules.specs.declared.Dues.{Dues}
 use Rattle.dues_rules.specs.Board.{board, within, rateBy, duesAt, duesBy}
-use Rattle.dues_rules.specs.Listed.{isFound, isWeight, pays, weightsRefusal, weightAt, weightsAt, duesOf, totalOf, areaAfter, duesRefusal, duesReply, duesAfter}
+use Rattle.dues_rules.specs.Listed.{isFound, isWeight, pays, weightsRefusal, weightAt, weightsAt, duesOf, totalOf, areaAfter, duesRefusal, duesReply}
+use Rattle.dues_rules.specs.Listed.{duesAfter}
 use Rattle.dues_rules.proofs.Replies.{paid-each, refused, accepted}
 
 unfoldable refusal : List (Option ℤ) → ℕ → ℕ
@@ -84,15 +84,6 @@ module _ (t : Table) where
   module _ (tags area : List ℕ) where
     abbrev paid : List ℕ
     paid = duesOf (weightsAt t tags)
-
-    -- RULES 20.5: the total is the sum of the dues that the area has for the list
-    total-of-area : duesRefusal t tags area ≡ 0 → duesReply t tags area .total ≡ total (take (length tags) (duesAfter t tags area))
-    unfolding totalOf
-    total-of-area e =
-        let left = accepted t tags area e in
-        sym (ap (λ (r : Dues). r .total) (left .0))
-        ∙ ap total (sym (take-at paid _ (length tags) (paid-each t tags)))
-        ∙ ap (λ (a : List ℕ). total (take (length tags) a)) (left .1)
 
     -- RULES 20.5, 20.6: numbers past the list are kept, and all of them where the call is refused
     past-kept : drop (length tags) (duesAfter t tags area) ≡ drop (length tags) area

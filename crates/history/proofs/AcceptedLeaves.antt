@@ -35,24 +35,28 @@ use Rattle.table_rules.proofs.Fill.{changeable, add-accepted}
 use Rattle.list_rules.specs.Lines.{ListLine, hasHeader, itemLines}
 use Rattle.list_rules.specs.Lines.ListLine.{anItem, malformed}
 use Rattle.list_rules.specs.ReadList.{Reading, badListHeader, stopped, oneMore, reading, listReading, readListReply, tableAfterReadList, workAfterReadList}
-use Rattle.table_rules.specs.Search.{Answer, fitRefusal, zeroEntry, searchReply, resultAfter, rangeAnswer, rangeRefusal, rangeReply, resultAfterRange, nearestAnswer, nearestRefusal, nearestReply, resultAfterNearest}
+use Rattle.table_rules.specs.Search.{Answer, fitRefusal, zeroEntry, searchReply, resultAfter, rangeAnswer, rangeRefusal, rangeReply, resultAfterRange}
+use Rattle.table_rules.specs.Search.{nearestAnswer, nearestRefusal, nearestReply, resultAfterNearest}
 use Rattle.table_rules.proofs.Chains.{or-zero, unless-zero, when-zero}
 use Rattle.table_rules.proofs.Changes.{fresh-order, fresh-past, fresh-long}
 use Rattle.table_rules.proofs.Windows.{window, window-paste, before-paste, after-paste, paste-length}
-use Rattle.batch_rules.specs.Batch.{mostQueries, singleAnswer, singleAnswers, batchCount, partSize, queriesRefusal, partsRefusal, batchRefusal, foundBy, rangesReply, partWith, partsWith, resultAfterParts, rangeBatchReply, resultAfterBatch}
+use Rattle.batch_rules.specs.Batch.{mostQueries, singleAnswer, singleAnswers, batchCount, partSize, queriesRefusal, partsRefusal, batchRefusal, foundBy}
+use Rattle.batch_rules.specs.Batch.{rangesReply, partWith, partsWith, resultAfterParts, rangeBatchReply, resultAfterBatch}
 use Rattle.batch_rules.proofs.Lists.{part-length, parts-length, result-length}
-use Rattle.dues_rules.specs.Listed.{noDues, mostListed, weightAt, isFound, isWeight, weightsRefusal, weightsAt, duesOf, weightsReply, duesRefusal, duesReply, duesAfter}
+use Rattle.dues_rules.specs.Listed.{noDues, mostListed, weightAt, isFound, isWeight, weightsRefusal, weightsAt, duesOf, weightsReply, duesRefusal, duesReply}
+use Rattle.dues_rules.specs.Listed.{duesAfter}
 use Rattle.dues_rules.proofs.Replies.{paid-each, accepted as dues-accepted}
 use Rattle.lots_rules.specs.Lots.{summaryOf}
-use Rattle.lots_rules.specs.Drafting.{badRadii, radiiPass, chosenRadius, draftedItems, betweenRows, tableLots, tableSummaries, tableListing, draftFits, lotsRefusal, answerIn, zeroSummary, workAfterLots, summaryAfterLots, listingAfterLots}
+use Rattle.lots_rules.specs.Drafting.{badRadii, radiiPass, chosenRadius, draftedItems, betweenRows, tableLots, tableSummaries, tableListing, draftFits}
+use Rattle.lots_rules.specs.Drafting.{lotsRefusal, answerIn, zeroSummary, workAfterLots, summaryAfterLots, listingAfterLots}
 use Rattle.lots_rules.proofs.Answers.{answer-all}
-use Rattle.lots_rules.proofs.Items.{Draftable, draftable}
+use Rattle.lots_rules.proofs.Items.{draftable}
 use Rattle.lots_rules.proofs.Claims.{listing-length}
 use Rattle.image_rules.specs.declared.Written.{Written}
 use Rattle.image_rules.specs.Write.{imageOf, writeRefusal, writeReply, imageAfterWrite}
-use Rattle.image_rules.specs.Load.{loadRefusal, loadedTable, tableAfterLoad}
+use Rattle.image_rules.specs.Load.{loadRefusal, tableAfterLoad}
 use Rattle.image_rules.proofs.Accepting.{accepted}
-use Rattle.image_rules.proofs.LoadedTable.{IsLoaded, loaded, table-after-load}
+use Rattle.image_rules.proofs.LoadedTable.{loaded, table-after-load}
 use Rattle.state_rules.specs.Parts.{lengthBytes, partBytes, partStart, partOf, snapshotOf, savedImage}
 use Rattle.state_rules.specs.Save.{saveRefusal, saveReply, statesAfterSave}
 use Rattle.state_rules.proofs.Parts.{part-within, parts-inside}
@@ -253,7 +257,8 @@ dues-keep t tags area e =
     let b = unless-zero (leb (length weights) mostListed && every isWeight weights) noDues _ (omega arith) (a .1) in
     let c = unless-zero (leb (length weights) (length area)) noRoom 0 (omega arith) (b .1) in
     let fits : length tags ≤ length area = omega (arith, leb-true (length weights) (length area) (c .0), length-map tags (weightAt t)) in
-    subst (Keeps (length tags) (duesOf weights) area) (dues-accepted t tags area none .1) (front-keeps (duesOf weights) area (length tags) (paid-each t tags) fits)
+    subst (Keeps (length tags) (duesOf weights) area) (dues-accepted t tags area none .1)
+    (front-keeps (duesOf weights) area (length tags) (paid-each t tags) fits)
 
 write-keeps : (t : Table) (bytes : List ℕ) → writeReply t bytes .refusal ≡ 0
     → Keeps (writeReply t bytes .length) (imageOf t) bytes (imageAfterWrite t bytes)
@@ -285,7 +290,8 @@ module _ (t : Table) (states : List ℕ) (name : ℕ) where
   saved-number e =
       snapshot-length (imageOf t)
       ∙ ap (λ (n : ℕ).
-      lengthBytes + (elim n as (λ _. Written) [ zero ↦ record { refusal = 0; length = length (imageOf t) } | suc m ↦ record { refusal = suc m; length = 0 } ]) .length)
+      lengthBytes +
+      (elim n as (λ _. Written) [ zero ↦ record { refusal = 0; length = length (imageOf t) } | suc m ↦ record { refusal = suc m; length = 0 } ]) .length)
       (sym e)
 
   snapshot-kept : saveReply t states name .refusal ≡ 0
@@ -321,7 +327,8 @@ lots-leave t radii chosen areas e =
     let n = lotsRefusal t (areas .work) (areas .summary) (areas .listing) radii chosen in
     let first = or-zero (changeRefusal (length (areas .work)) t) _ e in
     let second = unless-zero (radiiPass radii chosen) badRadii _ (omega arith) (first .1) in
-    let third = unless-zero (leb (length radii) (length (areas .summary)) && leb (length (draftedItems t)) (length (areas .listing))) noRoom 0 (omega arith) (second .1) in
+    let third =
+    unless-zero (leb (length radii) (length (areas .summary)) && leb (length (draftedItems t)) (length (areas .listing))) noRoom 0 (omega arith) (second .1) in
     let told = tableSummaries t radii in
     let listed = tableListing t radii chosen in
     let d = draftable (length (areas .work)) t (first .0) in
@@ -331,7 +338,13 @@ lots-leave t radii chosen areas e =
     let wide : length told ≤ length (areas .summary) =
     omega (arith, sums, leb-true (length radii) (length (areas .summary)) (and-first _ _ (third .0))) in
     let long : length listed ≤ length (areas .listing) =
-    omega (arith, items, d .counted, leb-true (length (draftedItems t)) (length (areas .listing)) (and-second (leb (length radii) (length (areas .summary))) _ (third .0))) in (
+    omega (
+      arith,
+      items,
+      d .counted,
+      leb-true (length (draftedItems t)) (length (areas .listing))
+          (and-second (leb (length radii) (length (areas .summary))) _ (third .0)),
+    ) in (
       subst (Keeps (2 ^ orderOf t) (replicate (2 ^ orderOf t) noEntry) (areas .work))
           (sym (ap (λ (m : ℕ). elim m as (λ _. List Entry) [ zero ↦ cleared zeroEntry (workRows (orderOf t)) (areas .work) | suc j ↦ areas .work ]) e))
           (cleared-keeps zeroEntry (workRows (orderOf t)) (areas .work) (d .roomy)),

@@ -4,8 +4,9 @@ use Prim.Native.Nat.{ℕ, zero, suc, _+_, _-_, _*_, _^_, _≤_, _<_}
 use native.Mathlib.Omega.{arith}
 use mathlib.Core.Path.{_≡_, sym, _∙_, ap, ap₂, subst}
 use mathlib.Core.List.{List}
+use lib.Dec.{eqb}
 use lib.ListN.{length, drop, length-map}
-use Rattle.lists.specs.Lists.{All}
+use Rattle.lists.specs.Lists.{select, countFrom, All}
 use Rattle.metric_rules.specs.declared.Profile.{Profile}
 use Rattle.metric_rules.specs.Row.{Row}
 use Rattle.metric_rules.specs.declared.Space.{Space}
@@ -30,12 +31,15 @@ use Rattle.call_rules.specs.Calls.Begin.{fresh, load, restore}
 use Rattle.call_rules.specs.Calls.Change.{add, remove, readList}
 use Rattle.call_rules.specs.Calls.Call.{begin, change, ask, write}
 use Rattle.history.specs.Trace.{Sums, noSums, imageSums, starting, sumsAfter, beginShown, overlaid, leftBy}
-use Rattle.history.specs.Model.{Model, itemOf, modelBegun}
+use Rattle.history.specs.LoadTests.{slotsInAll, markIn, imageIn}
+use Rattle.history.specs.Model.{Model, itemOf, itemRead, modelBegun}
 use Rattle.history.specs.History.{IsBegin, IsCall}
 use Rattle.history.proofs.Invariant.{Invariant}
 use Rattle.history.proofs.RefinesItems.{Matches, live-total}
 use Rattle.history.proofs.InvariantFresh.{freshable}
-use Rattle.history.proofs.Changing.{matches-fresh, read-matches}
+use Rattle.history.proofs.LoadTests.{slots-read}
+use Rattle.history.proofs.LoadItems.{items-read}
+use Rattle.history.proofs.Changing.{matches-fresh, read-matches, accepted-image}
 use Rattle.history.proofs.Amortized.{below, below-same, below-zero}
 use Rattle.history.proofs.AmortizedCredit.{begin-pays}
 use Rattle.history.proofs.AmortizedRebuild.{potentialOf, add-paid}
@@ -65,10 +69,13 @@ begin-paid :
     {u : Table} → Invariant u → (live slots : ℕ) → liveTotal u ≡ live → below (builtOf u) (suc (orderOf u)) ≡ slots → Paid u (counts live (slots - live) 0)
 unfolding due potentialOf liveTotal below bucketsOf
 begin-paid {u} invariant live slots lives builts =
-    let held = begin-pays (orderOf u) (builtOf u) (liveOf u) (λ k h. size-room k (builtOf u k) (liveOf u k) (sizes-at (orderOf u) (builtOf u) (liveOf u) (invariant .sizes) k h) .0) in
+    let held =
+    begin-pays (orderOf u) (builtOf u) (liveOf u)
+    (λ k h. size-room k (builtOf u k) (liveOf u k) (sizes-at (orderOf u) (builtOf u) (liveOf u) (invariant .sizes) k h) .0) in
     let dead : below (builtOf u) (suc (orderOf u)) - below (liveOf u) (suc (orderOf u)) ≡ slots - live = omega (arith, lives, builts) in
     let some : below (liveOf u) (suc (orderOf u)) ≡ live = omega (arith, lives) in
-    let same : orderOf u * (4 * (orderOf u + 1) * below (liveOf u) (suc (orderOf u)) + 11 * (below (builtOf u) (suc (orderOf u)) - below (liveOf u) (suc (orderOf u))))
+    let same : orderOf u *
+    (4 * (orderOf u + 1) * below (liveOf u) (suc (orderOf u)) + 11 * (below (builtOf u) (suc (orderOf u)) - below (liveOf u) (suc (orderOf u))))
     ≡ orderOf u * (4 * (orderOf u + 1) * live + 11 * (slots - live)) =
     ap₂ (λ (a r : ℕ). orderOf u * (4 * (orderOf u + 1) * a + 11 * r)) some dead
     in
@@ -87,6 +94,12 @@ fresh-paid left t order space is e =
     in
     longer Paid paid-keeps (done .invariant .long) (begin-paid (done .invariant) 0 0 (live-total done) none) (drop (length u) left)
 
+-- the image's slots and its slots of mark 0, in the model's figures
+live-counted : (image : List ℕ) → length (liveRows image) ≡ length (select (λ i. eqb (markIn image i) 0) (countFrom 0 (slotsInAll image)))
+live-counted image =
+    sym (length-map (liveRows image) itemOf) ∙ ap length (items-read image)
+    ∙ length-map (select (λ i. eqb (markIn image i) 0) (countFrom 0 (slotsInAll image))) (itemRead image)
+
 loaded-paid : (left t : Table) (image : List ℕ) → All (λ b. b < 2 ^ 8) image → loadRefusal (length t) image ≡ 0
     → Paid (leftBy left (loadedTable image t)) (imageSums image)
 unfolding leftBy imageSums slotsIn slotsBefore below
@@ -100,15 +113,19 @@ loaded-paid left t image bytes e =
     ∙ ap (λ (n : ℕ). below (builtIn image) (suc n)) (here .order)
     in
     longer Paid paid-keeps (done .invariant .long)
-    (begin-paid (done .invariant) (length (liveRows image)) (slotsIn image) (live-total done ∙ length-map (liveRows image) itemOf) slots) (drop (length u) left)
+    (begin-paid (done .invariant) (length (select (λ i. eqb (markIn image i) 0) (countFrom 0 (slotsInAll image)))) (slotsInAll image)
+    (live-total done ∙ length-map (liveRows image) itemOf ∙ live-counted image) (slots ∙ slots-read image))
+    (drop (length u) left)
 
 load-paid : (left t : Table) (image : List ℕ) → All (λ b. b < 2 ^ 8) image → loadRefusal (length t) image ≡ 0
     → Paid (leftBy left (tableAfterLoad image t)) (imageSums image)
 unfolding tableAfterLoad
 load-paid left t image bytes e =
-    subst (λ (n : ℕ). Paid (leftBy left (elim n as (λ _. Table) [ zero ↦ loadedTable image t | suc j ↦ t ])) (imageSums image)) (sym e) (loaded-paid left t image bytes e)
+    subst (λ (n : ℕ). Paid (leftBy left (elim n as (λ _. Table) [ zero ↦ loadedTable image t | suc j ↦ t ])) (imageSums image)) (sym e)
+    (loaded-paid left t image bytes e)
 
-pub begun-paid : (left t : Table) (b : Begin) → IsBegin b → beginShown b (beginReply b (length t)) .refusal ≡ 0 → Paid (leftBy left (tableBegun b t)) (starting b)
+pub begun-paid : (left t : Table) (b : Begin) → IsBegin b → beginShown b (beginReply b (length t)) .refusal ≡ 0
+    → Paid (leftBy left (tableBegun b t)) (starting b)
 unfolding beginShown tableAfterFresh starting loadRefusal restoreRefusal
 begun-paid left t (fresh order space) is e =
     subst (λ (n : ℕ). Paid (leftBy left (elim n as (λ _. Table) [ zero ↦ freshTable order space t | suc j ↦ t ])) (starting (fresh order space))) (sym e)
@@ -117,8 +134,10 @@ begun-paid left t (load image) is e = load-paid left t image is e
 begun-paid left t (restore states name) is e =
     let image = savedImage (partOf states name) in
     let as-load = restored states name t e in
-    subst (λ (u : Table). Paid (leftBy left u) (imageSums image)) (sym (as-load .1))
-    (load-paid left t image (image-all states name (λ b. b < 2 ^ 8) (is .0)) (as-load .0))
+    let same : image ≡ imageIn states name = accepted-image states name t e in
+    subst (λ (bytes : List ℕ). Paid (leftBy left (tableBegun (restore states name) t)) (imageSums bytes)) same
+    (subst (λ (u : Table). Paid (leftBy left u) (imageSums image)) (sym (as-load .1))
+    (load-paid left t image (image-all states name (λ b. b < 2 ^ 8) (is .0)) (as-load .0)))
 
 -- the table between calls, whose live items are the model's
 module _ {left : Table} {m : Model} (ok : Matches left m) {sums : Sums} (paid : Paid left sums) where

@@ -14,7 +14,6 @@ use Rattle.lists.proofs.Lists.{all-weaken, all-of-map, perm-map, perm-of-eq}
 use Rattle.lists.proofs.Distinct.{distinct-perm, distinct-pairs}
 use Rattle.metric_rules.specs.declared.Profile.{Profile}
 use Rattle.metric_rules.specs.Row.{IsProfile}
-use Rattle.metric_rules.specs.Validity.{validTag, validMeasures, validDay}
 use Rattle.metric_rules.specs.declared.Space.{Space}
 use Rattle.search_rules.proofs.Selecting.{select-all, select-no}
 use Rattle.table_rules.specs.Refusals.{badTag, badMeasure, badDay, alreadyLive, notLive, full, unless}
@@ -40,6 +39,7 @@ use Rattle.call_rules.specs.Calls.{Begin, beginReply, tableBegun}
 use Rattle.call_rules.specs.Calls.Begin.{fresh, load, restore}
 use Rattle.history.specs.Trace.{beginShown}
 use Rattle.history.specs.History.{IsBegin}
+use Rattle.history.specs.Figures.{tagSound, measuresWithin}
 use Rattle.history.specs.LoadTests.{imageIn}
 use Rattle.history.specs.Model.{Item, itemOf, Model, isIn, with, without, itemRefusal, tagRefusal, imageModel, modelBegun}
 use Rattle.history.specs.Represents.{itemsIn}
@@ -50,7 +50,8 @@ use Rattle.history.proofs.InvariantRemove.{invariant-removed, removed-o
 use Rattle.history.proofs.RefinesLists.{select-perm}
 use Rattle.history.proofs.RefinesRepresents.{tags-once}
 use Rattle.history.proofs.ImagesLoaded.{loaded-invariant}
-use Rattle.history.proofs.LoadTests.{restore-refusal, restored-image}
+use Rattle.history.proofs.LoadTests.{tag-sound, some-not-none, restore-refusal, restored-image}
+use Rattle.history.proofs.Figured.{measures-within}
 use Rattle.history.proofs.LoadItems.{readModel, image-model}
 use Rattle.history.proofs.RefinesItems.{Matches, live-total}
 use Rattle.history.proofs.RefinesRefusals.{live-alike}
@@ -91,19 +92,19 @@ load-matches image t bytes h = subst (Matches (loadedTable image t)) (image-mode
 -- what the model asked of an accepted add
 module _ {t : Table} {m : Model} (ok : Matches t m) where
   model-addable : (tag : ℕ) (p : Profile) (day : ℕ) → itemRefusal m tag p day ≡ 0 → Addable t tag p day
-  unfolding itemRefusal
+  unfolding itemRefusal room
   model-addable tag p day h =
-      let named = unless-zero (validTag tag) badTag _ (omega arith) h in
-      let measured = unless-zero (validMeasures p) badMeasure _ (omega arith) (named .1) in
-      let weighed = unless-zero (validDay day) badDay _ (omega arith) (measured .1) in
+      let named = unless-zero (tagSound tag) badTag _ (omega arith) h in
+      let measured = unless-zero (measuresWithin p) badMeasure _ (omega arith) (named .1) in
+      let weighed = when-zero (eqb day 0) badDay _ (omega arith) (measured .1) in
       let new = when-zero (isIn m tag) alreadyLive _ (omega arith) (weighed .1) in
-      let roomy = when-zero (leb (room (m .order)) (length (m .items))) full 0 (omega arith) (new .1) in
+      let roomy = when-zero (leb (2 ^ m .order) (length (m .items))) full 0 (omega arith) (new .1) in
       record {
-        validated = named .0;
-        measures = measured .0;
-        weighed = weighed .0;
+        validated = tag-sound tag ∙ named .0;
+        measures = measures-within p ∙ measured .0;
+        weighed = some-not-none day ∙ ap not (weighed .0);
         new = live-alike ok tag ∙ new .0;
-        notFull = rw (ok .order, live-total ok) (leb-false (room (m .order)) (length (m .items)) (roomy .0));
+        notFull = rw (ok .order, live-total ok) (leb-false (2 ^ m .order) (length (m .items)) (roomy .0));
       }
 
   pub matches-added : (tag : ℕ) (p : Profile) (day : ℕ) → tag < 2 ^ 64 → IsProfile p → day < 2 ^ 16 → itemRefusal m tag p day ≡ 0
@@ -138,7 +139,7 @@ struck tag i items stay e p once =
 module _ {t : Table} {m : Model} (ok : Matches t m) where
   model-removable : (tag : ℕ) → tagRefusal m tag ≡ 0 → (place : Place) × (find t tag ≡ some place)
   unfolding tagRefusal isLiveTag
-  model-removable tag h = go (validTag tag) (isIn m tag) (find t tag) refl (live-alike ok tag) h
+  model-removable tag h = go (tagSound tag) (isIn m tag) (find t tag) refl (live-alike ok tag) h
     where
       go :
           (a there : Bool) (o : Option Place) → find t tag ≡ o → isLiveTag t tag ≡ there → unless a badTag (unless there notLive 0) ≡ 0
@@ -164,7 +165,8 @@ module _ {t : Table} {m : Model} (ok : Matches t m) where
         space = same-space (only .header) ∙ ok .space;
         same =
             List·Permᴰ·trans (perm-of-eq (items-live u))
-            (Permᴰ·symm (struck tag (itemOf (place .row)) (m .items) (map itemOf (allLive u)) (removed-tag (ok .invariant) tag place (there .1)) stay (tags-once ok)));
+            (Permᴰ·symm
+            (struck tag (itemOf (place .row)) (m .items) (map itemOf (allLive u)) (removed-tag (ok .invariant) tag place (there .1)) stay (tags-once ok)));
       }
 
 -- an accepted call that begins a table begins the model's, and a refused one leaves what lay there
@@ -175,7 +177,8 @@ fresh-matches order space four t e =
     subst (λ (n : ℕ). Matches (elim n as (λ _. Table) [ zero ↦ freshTable order space t | suc j ↦ t ]) (modelBegun (fresh order space))) (sym e)
     (matches-fresh order space t four e)
 
-after-load-matches : (image : List ℕ) (t : Table) → All (λ b. b < 2 ^ 8) image → loadRefusal (length t) image ≡ 0 → Matches (tableAfterLoad image t) (imageModel image)
+after-load-matches : (image : List ℕ) (t : Table) → All (λ b. b < 2 ^ 8) image → loadRefusal (length t) image ≡ 0
+    → Matches (tableAfterLoad image t) (imageModel image)
 unfolding tableAfterLoad
 after-load-matches image t bytes e =
     subst (λ (n : ℕ). Matches (elim n as (λ _. Table) [ zero ↦ loadedTable image t | suc j ↦ t ]) (imageModel image)) (sym e) (load-matches image t bytes e)
@@ -185,6 +188,12 @@ named-first : (n : ℕ) (reply : Loaded) → orLoaded n reply .refusal ≡ 0 →
 named-first zero reply e = refl
 named-first (suc n) reply e = e
 
+-- the image that an accepted restore loads, in the model's places
+pub accepted-image : (states : List ℕ) (name : ℕ) (t : Table) → restoreRefusal (length t) states name ≡ 0
+    → savedImage (partOf states name) ≡ imageIn states name
+unfolding restoreRefusal restoreReply
+accepted-image states name t e = restored-image states name (sym (restore-refusal states name) ∙ named-first (nameRefusal states name) _ e)
+
 pub begin-matches : (b : Begin) → IsBegin b → (t : Table) → beginShown b (beginReply b (length t)) .refusal ≡ 0 → Matches (tableBegun b t) (modelBegun b)
 unfolding beginShown modelBegun loadRefusal restoreRefusal restoreReply
 begin-matches (fresh order space) is t e = fresh-matches order space (is .1 .weights .four) t e
@@ -192,9 +201,10 @@ begin-matches (load image) is t e = after-load-matches image t is e
 begin-matches (restore states name) is t e =
     let image = savedImage (partOf states name) in
     let as-load = restored states name t e in
-    let same : image ≡ imageIn states name = restored-image states name (sym (restore-refusal states name) ∙ named-first (nameRefusal states name) _ e) in
+    let same : image ≡ imageIn states name = accepted-image states name t e in
     subst (λ (bytes : List ℕ). Matches (tableAfterRestore states name t) (imageModel bytes)) same
-    (subst (λ (u : Table). Matches u (imageModel image)) (sym (as-load .1)) (after-load-matches image t (image-all states name (λ b. b < 2 ^ 8) (is .0)) (as-load .0)))
+    (subst (λ (u : Table). Matches u (imageModel image)) (sym (as-load .1))
+    (after-load-matches image t (image-all states name (λ b. b < 2 ^ 8) (is .0)) (as-load .0)))
 
 pub begin-refused : (b : Begin) (t : Table) (n : ℕ) → beginShown b (beginReply b (length t)) .refusal ≡ suc n → tableBegun b t ≡ t
 unfolding beginShown tableAfterFresh tableAfterLoad loadRefusal restoreRefusal

@@ -60,8 +60,10 @@ module _ (P : Entry → Type 0) (dist : Profile → Profile → ℕ) (query : Pr
         let right = ifEntered (entersRight (toQuery dist query s) (thresholdOf s) radius) (met (drop l rest)) in
         all-append P (visited dist query reports radius s .hits) (left .hits ++ right .hits) (alone-has s (h .0))
         (all-append P (left .hits) (right .hits)
-        (entered-has (entersLeft (toQuery dist query s) (thresholdOf s) radius) (met (take l rest)) (range-within-has n (take l rest) (all-take HitHas l rest (h .1))))
-        (entered-has (entersRight (toQuery dist query s) (thresholdOf s) radius) (met (drop l rest)) (range-within-has n (drop l rest) (all-drop HitHas l rest (h .1)))))
+        (entered-has (entersLeft (toQuery dist query s) (thresholdOf s) radius) (met (take l rest))
+        (range-within-has n (take l rest) (all-take HitHas l rest (h .1))))
+        (entered-has (entersRight (toQuery dist query s) (thresholdOf s) radius) (met (drop l rest))
+        (range-within-has n (drop l rest) (all-drop HitHas l rest (h .1)))))
 
     pub range-has : (slots : List Row) → All HitHas slots → All P (rangeTree dist query reports radius slots .hits)
     unfolding rangeTree
@@ -101,8 +103,12 @@ module _ (P : Entry → Type 0) (dist : Profile → Profile → ℕ) (query : Pr
               | true ↦ enterHalf dist query reports k (entersRight d m) right (enterHalf dist query reports k (entersLeft d m) left t)
               | false ↦ enterHalf dist query reports k (entersLeft d m) left (enterHalf dist query reports k (entersRight d m) right t)
             ]) .kept)
-        go true = half-has (entersRight d m) right rights (enterHalf dist query reports k (entersLeft d m) left t) (half-has (entersLeft d m) left lefts t here)
-        go false = half-has (entersLeft d m) left lefts (enterHalf dist query reports k (entersRight d m) right t) (half-has (entersRight d m) right rights t here)
+        go true =
+            half-has (entersRight d m) right rights (enterHalf dist query reports k (entersLeft d m) left t)
+            (half-has (entersLeft d m) left lefts t here)
+        go false =
+            half-has (entersLeft d m) left lefts (enterHalf dist query reports k (entersRight d m) right t)
+            (half-has (entersRight d m) right rights t here)
 
     nearest-within-has : (n : ℕ) (slots : List Row) (t : Tally) → All SlotHas slots → All P (t .kept)
         → All P (nearestWithin dist query reports k n t slots .kept)
@@ -227,7 +233,9 @@ module _ (kind : Entry → Bool) where
       unfolding visited isHit select
       alone-few s = go (reports s) (leb (toQuery dist query s) radius)
         where
-          own : (c : Bool) → length {A = Entry} (elim c [ true ↦ entryOf dist query s ∷ [] | false ↦ [] ]) ≤ length {A = Row} (elim c [ true ↦ s ∷ [] | false ↦ [] ])
+          own : (c : Bool)
+              → length {A = Entry} (elim c [ true ↦ entryOf dist query s ∷ [] | false ↦ [] ])
+              ≤ length {A = Row} (elim c [ true ↦ s ∷ [] | false ↦ [] ])
           own true = omega arith
           own false = omega arith
 
@@ -313,7 +321,8 @@ module _ (kind : Entry → Bool) where
           go true = omega (arith, half-few (entersRight d m) right y rights (lefted t), half-few (entersLeft d m) left x lefts t)
           go false = omega (arith, half-few (entersLeft d m) left x lefts (righted t), half-few (entersRight d m) right y rights t)
 
-      nearest-few-within : (n : ℕ) (slots : List Row) (t : Tally) → alike (nearestWithin dist query reports k n t slots .kept) ≤ alike (t .kept) + slotsAlike slots
+      nearest-few-within : (n : ℕ) (slots : List Row) (t : Tally)
+          → alike (nearestWithin dist query reports k n t slots .kept) ≤ alike (t .kept) + slotsAlike slots
       unfolding nearestWithin
       nearest-few-within zero slots t = omega arith
       nearest-few-within (suc n) [] t = omega arith

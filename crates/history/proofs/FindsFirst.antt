@@ -20,7 +20,8 @@ use lib.Seq.{getD-take, getD-drop, getD-set-same, getD-set-other}
 use borrow.Author.Tests.{eq-eqb, eqb-true}
 use Rattle.lists.specs.Lists.{countFrom, every, All}
 use Rattle.lists.proofs.Tests.{and-pass, and-second, every-all}
-use Rattle.metric_rules.specs.Row.{Row, word, wide, rowWidth, zeroRow, tagAt, measuresAt, codeAt, markAt, dayAt, tagOf, profileOf, markOf, dayOf, isLive, withMark, measure}
+use Rattle.metric_rules.specs.Row.{Row, word, wide, rowWidth, zeroRow, tagAt, measuresAt, codeAt, markAt, dayAt}
+use Rattle.metric_rules.specs.Row.{tagOf, profileOf, markOf, dayOf, isLive, withMark, measure}
 use Rattle.metric_rules.specs.Validity.{validTag, validMeasures, validDay}
 use Rattle.metric_rules.specs.Distance.{validMetric}
 use Rattle.metric_rules.specs.declared.Profile.{Profile}
@@ -35,8 +36,8 @@ use Rattle.table_rules.specs.Add.{addRefusal, addTarget, added, addReply}
 use Rattle.table_rules.specs.declared.Removed.{Removed}
 use Rattle.table_rules.specs.Rebuild.{Rebuilt}
 use Rattle.table_rules.specs.Remove.{removeRefusal, marked, afterDeletion, removed, removeReply, tableAfterRemove}
-use Rattle.dues_rules.specs.Board.{board, duesBy}
-use Rattle.dues_rules.specs.Listed.{mostListed, noDues, weightAt, isFound, isWeight, pays, weightsRefusal, weightsReply, areaAfter, duesRefusal, duesReply, duesAfter}
+use Rattle.dues_rules.specs.Listed.{mostListed, noDues, weightAt, isFound, isWeight, pays}
+use Rattle.dues_rules.specs.Listed.{weightsRefusal, weightsReply, areaAfter, duesRefusal, duesReply, duesAfter}
 use Rattle.table_rules.specs.LookUp.{Place, placeFrom, placeIn, find, isLiveTag, liveTagRefusal, lookUpRefusal, notFound, lookUpReply}
 use Rattle.table_rules.proofs.Live.{slots-length, is-live}
 use Rattle.table_rules.proofs.Finding.{Found, found}
@@ -46,8 +47,11 @@ use Rattle.table_rules.proofs.Chains.{or-zero, unless-zero, when-zero, or-not, 
 use Rattle.table_rules.proofs.Changes.{marked-live}
 use Rattle.table_rules.proofs.Deletion.{Deletion, deletion}
 use Rattle.table_rules.proofs.Deletion.Deletion.{empties, ends, rebuilds}
-use Rattle.history.specs.Slots.{slotRow, wordIn, builtSize, liveSize, TagAt, FirstAt, RepliesFirst, Struck, StrikesFirst, PaysFirst, NoneAt, profileIn}
+use Rattle.history.specs.Figures.{centsAKilo, inCents}
+use Rattle.history.specs.Places.{wordIn, builtSize, liveSize, slotRow, profileIn}
+use Rattle.history.specs.Slots.{TagAt, FirstAt, RepliesFirst, Struck, StrikesFirst, PaysFirst, NoneAt}
 use Rattle.history.specs.Demands.{FindsFirst}
+use Rattle.history.proofs.Figured.{board-figured}
 
 -- a slot that has the tag: its row is live, and its tag is that
 abbrev Has : ℕ → Row → Type 0
@@ -260,7 +264,7 @@ deletion-ends {t} passed tag place e more d =
     go live (rebuilds positive few step) = absurd (omega (arith, few, live, more))
 
 -- a tag that has to be live is found, where its tests pass
-missing : (t : Table) (tag : ℕ) → liveTagRefusal t tag ≡ 0 → find t tag ≡ none → ⊥
+pub missing : (t : Table) (tag : ℕ) → liveTagRefusal t tag ≡ 0 → find t tag ≡ none → ⊥
 unfolding isLiveTag
 missing t tag tests f =
     let valid = unless-zero (validTag tag) badTag _ (omega arith) tests in
@@ -360,9 +364,9 @@ none-weighs : isWeight none ≡ true → ⊥
 unfolding isWeight
 none-weighs e = false≢true e
 
-pos-pays : (weight : ℕ) → pays (some (pos weight)) ≡ duesBy board weight
+pos-pays : (weight : ℕ) → pays (some (pos weight)) ≡ inCents (weight * centsAKilo weight)
 unfolding pays
-pos-pays weight = refl
+pos-pays weight = board-figured weight
 
 -- the weight found for a tag that is neither missing nor below 0, and what it pays
 weight-first : {t : Table} → Passed t → (tag : ℕ) → isWeight (weightAt t tag) ≡ true → PaysFirst t tag (pays (weightAt t tag))
@@ -391,7 +395,8 @@ pays-at t [] rest j low = absurd (omega (arith, low))
 pays-at t (tag ∷ tags) rest zero low = refl
 pays-at t (tag ∷ tags) rest (suc j) low = pays-at t tags rest j (omega (arith, low))
 
-weighs-at : (t : Table) (tags : List ℕ) (j : ℕ) → j < length tags → All (λ o. isWeight o ≡ true) (map (weightAt t) tags) → isWeight (weightAt t (getD tags j 0)) ≡ true
+weighs-at : (t : Table) (tags : List ℕ) (j : ℕ) → j < length tags → All (λ o. isWeight o ≡ true) (map (weightAt t) tags)
+    → isWeight (weightAt t (getD tags j 0)) ≡ true
 weighs-at t [] j low h = absurd (omega (arith, low))
 weighs-at t (tag ∷ tags) zero low h = h .0
 weighs-at t (tag ∷ tags) (suc j) low h = weighs-at t tags j (omega (arith, low)) (h .1)
@@ -484,7 +489,9 @@ look-up-none t tag h =
 remove-none : (t : Table) (work : List Row) (tag : ℕ) → removeReply t work tag .refusal ≡ notLive → NoneAt t tag
 unfolding removeReply removeRefusal
 remove-none t work tag h =
-    let m = tag-missing (changeRefusal (length work) t) (validTag tag) (isLiveTag t tag) (change-not (length work) t) (refusal (removeRefusal t work tag) refl h) in
+    let m =
+    tag-missing (changeRefusal (length work) t) (validTag tag) (isLiveTag t tag) (change-not (length work) t)
+    (refusal (removeRefusal t work tag) refl h) in
     none-at (change-passed (length work) t (m .0) .0) tag (m .1)
   where
     reply : ℕ → Removed

@@ -12,7 +12,8 @@ use Rattle.lists.specs.Lists.{select, total, countFrom, All}
 use Rattle.lists.proofs.Lists.{all-append, all-perm, perm-length}
 use Rattle.lists.proofs.Tests.{and-first, and-second}
 use Rattle.metric_rules.specs.declared.Profile.{Profile}
-use Rattle.metric_rules.specs.Row.{Row, word, words, wide, measure, codeWord, tagAt, measuresAt, codeAt, thresholdAt, markAt, dayAt, tagOf, profileOf, thresholdOf, markOf, dayOf, isLive, rowOf, queryRow, mayReport}
+use Rattle.metric_rules.specs.Row.{Row, word, words, wide, measure, codeWord, tagAt, measuresAt, codeAt, thresholdAt, markAt, dayAt}
+use Rattle.metric_rules.specs.Row.{tagOf, profileOf, thresholdOf, markOf, dayOf, isLive, rowOf, queryRow, mayReport}
 use Rattle.metric_rules.specs.Distance.{distance}
 use Rattle.metric_rules.proofs.Laws.{distance-metric}
 use Rattle.tree_rules.proofs.Sorting.{sort-length}
@@ -29,12 +30,13 @@ use Rattle.table_rules.proofs.Live.{slots-length}
 use Rattle.table_rules.proofs.Passing.{read-passed}
 use Rattle.table_rules.proofs.Fill.{passed-roomy}
 use Rattle.table_rules.proofs.Keeping.{nearest-size}
-use Rattle.history.specs.Slots.{slotRow}
+use Rattle.history.specs.Places.{slotRow}
 use Rattle.history.specs.Entries.{EntryThere, isDated, entryAt, placesWith, Words}
 use Rattle.history.specs.Demands.{FoundAreThere}
 use Rattle.history.proofs.RefinesLists.{flatten-perm}
 use Rattle.history.proofs.FindsFirst.{slot-row}
-use Rattle.history.proofs.Entered.{all-ordered, HitHas, range-has, SlotHas, nearest-has, Low, range-number, alike, alike-ordered, OfKind, slotsAlike, range-few, nearest-few}
+use Rattle.history.proofs.Entered.{all-ordered, HitHas, range-has, SlotHas, nearest-has, Low, range-number}
+use Rattle.history.proofs.Entered.{alike, alike-ordered, OfKind, slotsAlike, range-few, nearest-few}
 
 -- what holds at every place holds of all
 all-places : (P : Row → Type 0) (xs : List Row) → ((i : ℕ) → i < length xs → P (getD xs i [])) → All P xs
@@ -206,8 +208,10 @@ module _ (t : Table) (query : Profile) (firstDay : ℕ) where
     slots-low small b inOrder =
         all-places (Low dist query (reports 4_294_967_295) 4_294_967_295) (slotsOf t b)
         (λ i low.
-        subst (Low dist query (reports 4_294_967_295) 4_294_967_295) (sym (slot-row t b i (built-of b i low)))
-        (omega (arith, distance-metric (tableSpace t) .fits (profileOf (rowAt t (firstSlot (orderOf t) b + i))) query), omega (arith, small (firstSlot (orderOf t) b + i) 10)))
+        subst (Low dist query (reports 4_294_967_295) 4_294_967_295) (sym (slot-row t b i (built-of b i low))) (
+          omega (arith, distance-metric (tableSpace t) .fits (profileOf (rowAt t (firstSlot (orderOf t) b + i))) query),
+          omega (arith, small (firstSlot (orderOf t) b + i) 10),
+        ))
 
     whole-number : Words t → length (rangeAnswer t query 4_294_967_295 firstDay .entries) ≡ placesWith t (isDated t firstDay)
     whole-number small = answer-number 4_294_967_295 (slots-low small) ∙ dated-number 4_294_967_295
@@ -240,7 +244,8 @@ module _ (t : Table) (query : Profile) (firstDay : ℕ) where
             hits-few radius bs,
           )
 
-      range-once : (radius : ℕ) → alike kind (rangeAnswer t query radius firstDay .entries) ≤ placesWith t (λ b i. isDated t firstDay b i && kind (entryAt t query b i))
+      range-once : (radius : ℕ)
+          → alike kind (rangeAnswer t query radius firstDay .entries) ≤ placesWith t (λ b i. isDated t firstDay b i && kind (entryAt t query b i))
       unfolding rangeAnswer rangeMet
       range-once radius =
           omega (arith, alike-ordered kind (rangeMet t query radius firstDay .hits), hits-few radius (bucketsDown t), kind-number radius)
@@ -253,7 +258,8 @@ module _ (t : Table) (query : Profile) (firstDay : ℕ) where
       kept-few k (b ∷ bs) u =
           omega (arith, kept-few k bs (nearestTree dist query (reports k) k u (slotsOf t b)), nearest-few kind dist query (reports k) k u (slotsOf t b))
 
-      nearest-once : (k : ℕ) → alike kind (nearestAnswer t query k firstDay .entries) ≤ placesWith t (λ b i. isDated t firstDay b i && kind (entryAt t query b i))
+      nearest-once : (k : ℕ)
+          → alike kind (nearestAnswer t query k firstDay .entries) ≤ placesWith t (λ b i. isDated t firstDay b i && kind (entryAt t query b i))
       unfolding nearestAnswer nearestTally select
       nearest-once k = omega (arith, kept-few k (bucketsDown t) (record { kept = []; count = 0 }), kind-number k)
 

@@ -189,7 +189,9 @@ module _ {work : List Row} {t : Table} (c : Changeable work t) (tag : ℕ) (plac
       let u : Table = emptied (k ∷ []) v in
       let whole : Only (λ j. All (λ i. j ≡ i → ⊥) (k ∷ [])) t u = only-twice (only-fewer (λ j a. a .0) only) cleared in
       fills-of whole
-      (λ j h. elim (apart-or (λ i. Holds u i [] 0 × (0 < builtOf t i)) j (k ∷ []) ((emptied-holds (k ∷ []) v inOrder long′ .0, omega (arith, slot-built)), tt)) [
+      (λ j h.
+      let gone = emptied-holds (k ∷ []) v inOrder long′ .0 in
+      elim (apart-or (λ i. Holds u i [] 0 × (0 < builtOf t i)) j (k ∷ []) ((gone, omega (arith, slot-built)), tt)) [
         | inl a ↦ inl (whole .others j h a)
         | inr gone ↦ inr (emptied-of (whole .header) j (gone .1) (gone .0))
       ])
@@ -229,7 +231,8 @@ module _ {work : List Row} {t : Table} (c : Changeable work t) (tag : ℕ) (plac
   deletion-fills (rebuilds positive few step) = inl (rebuilds-fill positive step)
 
 -- an accepted removal
-removed-fills : (t : Table) (work : List Row) (tag : ℕ) → removeRefusal t work tag ≡ 0 → OnlyFills t (removed t tag .table) ⊎ OnlyStrikes t (removed t tag .table)
+removed-fills : (t : Table) (work : List Row) (tag : ℕ) → removeRefusal t work tag ≡ 0
+    → OnlyFills t (removed t tag .table) ⊎ OnlyStrikes t (removed t tag .table)
 unfolding removed removeRefusal
 removed-fills t work tag accepted = go (find t tag) refl
   where

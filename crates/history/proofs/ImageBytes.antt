@@ -15,7 +15,8 @@ use Rattle.lists.specs.Lists.{total, countFrom, All}
 use Rattle.lists.proofs.Lists.{all-always}
 use Rattle.lists.proofs.Tests.{and-first}
 use Rattle.lists.proofs.Totals.{total-more}
-use Rattle.metric_rules.specs.Row.{Row, IsRow, word, wide, tagAt, measuresAt, codeAt, thresholdAt, markAt, dayAt, tagOf, profileOf, thresholdOf, markOf, dayOf, measure, codeWord}
+use Rattle.metric_rules.specs.Row.{Row, IsRow, word, wide, tagAt, measuresAt, codeAt, thresholdAt, markAt, dayAt, tagOf, profileOf, thresholdOf, markOf, dayOf}
+use Rattle.metric_rules.specs.Row.{measure, codeWord}
 use Rattle.metric_rules.specs.Distance.{weight, validWeights, metricAt, weightsAt, weightsOf, spaceOf}
 use Rattle.metric_rules.proofs.Laws.{metric-byte, weight-byte}
 use Rattle.table_rules.specs.Refusals.{badTable}
@@ -27,26 +28,28 @@ use Rattle.table_rules.proofs.Chains.{or-zero, unless-zero}
 use Rattle.table_rules.proofs.Passing.{bucket-within, built-inside, read-passed}
 use Rattle.table_rules.proofs.Live.{slots-length}
 use Rattle.table_rules.proofs.Fill.{passed-roomy}
-use Rattle.image_rules.specs.Bytes.{writtenForm, bytesOf, numberOf, startFields, weightFields, headerFields, tagFields, dayFields, recordFields, bytesOfFields, sizeBytes, tagWords}
+use Rattle.image_rules.specs.Bytes.{writtenForm, bytesOf, numberOf, startFields, weightFields, headerFields, tagFields, dayFields, recordFields, bytesOfFields}
+use Rattle.image_rules.specs.Bytes.{sizeBytes, tagWords}
 use Rattle.image_rules.specs.Write.{headerBytesOf, sizesOf, tagsOf, recordsOf, allSlots, imageAs, imageOf, writeRefusal, writeReply, imageAfterWrite}
 use Rattle.image_rules.specs.declared.Written.{Written}
 use Rattle.image_rules.proofs.Bytes.{length-bytes, length-fields, number-bytes}
 use Rattle.image_rules.proofs.Blocks.{all-at, Block, block-at, length-blocks, length-count, getD-count, part-at, length-flatten, map-count}
 use Rattle.call_rules.specs.Calls.{Write, replyTo, areasAfter}
 use Rattle.call_rules.specs.Calls.Call.{write}
-use Rattle.history.specs.ImageForm.{numberAt, wordIn, wideIn, builtBefore, SlotBytes, TableBytes, TableWords, RowWords}
+use Rattle.history.specs.Places.{numberFrom, wordIn, builtBefore}
+use Rattle.history.specs.ImageForm.{SlotBytes, TableBytes, TableWords, RowWords}
 use Rattle.history.specs.Demands.{ImageBytes}
 use Rattle.history.proofs.ImagesLoaded.{slot-row}
 
 -- the number in a piece
-pub number-in : (a bs c : List ℕ) (place width : ℕ) → length a ≡ place → length bs ≡ width → numberAt (a ++ (bs ++ c)) place width ≡ numberOf bs
-unfolding numberAt numberOf
+pub number-in : (a bs c : List ℕ) (place width : ℕ) → length a ≡ place → length bs ≡ width → numberFrom (a ++ (bs ++ c)) place width ≡ numberOf bs
+unfolding numberFrom numberOf
 number-in a [] c place zero e f = refl
 number-in a [] c place (suc width) e f = absurd (omega arith)
 number-in a (b ∷ bs) c place zero e f = absurd (omega arith)
 number-in a (b ∷ bs) c place (suc width) e f =
     let regroup : a ++ (b ∷ (bs ++ c)) ≡ (a ++ (b ∷ [])) ++ (bs ++ c) = sym (append-assoc a (b ∷ []) (bs ++ c)) in
-    let next : numberAt (a ++ (b ∷ (bs ++ c))) (place + 1) width ≡ numberOf bs =
+    let next : numberFrom (a ++ (b ∷ (bs ++ c))) (place + 1) width ≡ numberOf bs =
     rw regroup (number-in (a ++ (b ∷ [])) bs c (place + 1) width (length-append a (b ∷ []) ∙ ap (λ (n : ℕ). n + 1) e) (omega (arith, f))) in
     ap₂ (λ (x y : ℕ). x + 256 * y) (getD-at a b (bs ++ c) 0 place e) next
 
@@ -81,7 +84,7 @@ field (w ∷ ws) (n ∷ ns) (suc i) l =
 
 -- the number at its place
 pub field-at : (bytes a ws ns c : List ℕ) (i place : ℕ) → bytes ≡ a ++ (bytesOfFields ws ns ++ c) → i < length ws → length a + total (take i ws) ≡ place
-    → numberAt bytes place (getD ws i 0) ≡ numberOf (bytesOf (getD ws i 0) (getD ns i 0))
+    → numberFrom bytes place (getD ws i 0) ≡ numberOf (bytesOf (getD ws i 0) (getD ns i 0))
 field-at bytes a ws ns c i place e l p =
     let f = field ws ns i l in
     let here = bytesOf (getD ws i 0) (getD ns i 0) in
@@ -92,13 +95,13 @@ field-at bytes a ws ns c i place e l p =
     (length-bytes (getD ws i 0) (getD ns i 0)))
 
 -- two numbers of four bytes, one behind the other, are one of eight
-pub number-wide : (bytes : List ℕ) (place low high : ℕ) → numberAt bytes place 4 ≡ low → numberAt bytes (place + 4) 4 ≡ high
-    → numberAt bytes place 8 ≡ low + high * 2 ^ 32
-unfolding numberAt
+pub number-wide : (bytes : List ℕ) (place low high : ℕ) → numberFrom bytes place 4 ≡ low → numberFrom bytes (place + 4) 4 ≡ high
+    → numberFrom bytes place 8 ≡ low + high * 2 ^ 32
+unfolding numberFrom
 number-wide bytes place low high e f =
     let p2 : place + 1 + 1 ≡ place + 2 = omega arith in
     let p4 : place + 1 + 1 + 1 + 1 ≡ place + 4 = omega arith in
-    omega (arith, e, subst (λ (p : ℕ). numberAt bytes p 4 ≡ high) (sym p4) f)
+    omega (arith, e, subst (λ (p : ℕ). numberFrom bytes p 4 ≡ high) (sym p4) f)
 
 -- the lowest 16 bits
 pub number-low : (n : ℕ) → numberOf (bytesOf 2 n) ≡ n % 65536
@@ -107,13 +110,13 @@ number-low n = omega arith
 
 -- the built sizes before a bucket, as the definitions add them up
 pub built-before : (t : Table) (k : ℕ) → builtBefore t k ≡ total (map (builtOf t) (countFrom 0 k))
-unfolding builtBefore wordIn builtOf rowAt sizesRow word countFrom total
+unfolding builtBefore builtOf rowAt sizesRow word countFrom total
 built-before t zero = refl
 built-before t (suc k) = ap (λ (n : ℕ). n + builtOf t k) (built-before t k) ∙ sym (total-more (builtOf t) k)
 
 -- the weights in the header row
 weight-word : (t : Table) (i : ℕ) → i < 4 → weight (tableSpace t .weights) i ≡ wordIn t 0 (2 + i)
-unfolding weight tableSpace spaceOf weightsOf weightsAt word rowAt headerRow wordIn
+unfolding weight tableSpace spaceOf weightsOf weightsAt word rowAt headerRow
 weight-word t zero l = refl
 weight-word t (suc zero) l = refl
 weight-word t (suc (suc zero)) l = refl
@@ -188,25 +191,26 @@ module _ (t : Table) (words : All IsRow t) (ok : readRefusal t ≡ 0) (rest : Li
 
   -- the header's numbers: each of one byte, the form of two
   head-at : (i : ℕ) → i < 7
-      → numberAt bytes (total (take i (headerFields writtenForm))) (getD (headerFields writtenForm) i 0)
+      → numberFrom bytes (total (take i (headerFields writtenForm))) (getD (headerFields writtenForm) i 0)
       ≡ numberOf (bytesOf (getD (headerFields writtenForm) i 0) (getD (T ∷ tableSpace t .metric ∷ writtenForm ∷ tableSpace t .weights .each) i 0))
   unfolding header headerBytesOf headerFields startFields weightFields writtenForm
   head-at i l =
-      field-at bytes [] (headerFields writtenForm) (T ∷ tableSpace t .metric ∷ writtenForm ∷ tableSpace t .weights .each) (pairs ++ (tags ++ (records ++ rest))) i _ bytes-are l (omega arith)
+      field-at bytes [] (headerFields writtenForm) (T ∷ tableSpace t .metric ∷ writtenForm ∷ tableSpace t .weights .each)
+      (pairs ++ (tags ++ (records ++ rest))) i _ bytes-are l (omega arith)
 
-  order-at : numberAt bytes 0 1 ≡ wordIn t 0 0
-  unfolding headerFields startFields weightFields writtenForm total T orderOf word rowAt headerRow wordIn
+  order-at : numberFrom bytes 0 1 ≡ wordIn t 0 0
+  unfolding headerFields startFields weightFields writtenForm total T orderOf word rowAt headerRow
   order-at = head-at 0 (omega arith) ∙ number-bytes 1 (orderOf t) (omega (arith, passed .framed .order))
 
-  metric-at : numberAt bytes 1 1 ≡ wordIn t 0 1
-  unfolding headerFields startFields weightFields writtenForm total tableSpace spaceOf metricAt word rowAt headerRow wordIn
+  metric-at : numberFrom bytes 1 1 ≡ wordIn t 0 1
+  unfolding headerFields startFields weightFields writtenForm total tableSpace spaceOf metricAt word rowAt headerRow
   metric-at = head-at 1 (omega arith) ∙ number-bytes 1 (tableSpace t .metric) (omega (arith, metric-byte (tableSpace t) (passed .framed .space)))
 
-  form-at : numberAt bytes 2 2 ≡ 2
+  form-at : numberFrom bytes 2 2 ≡ 2
   unfolding headerFields startFields weightFields writtenForm total
   form-at = head-at 2 (omega arith) ∙ number-bytes 2 2 (omega arith)
 
-  weight-at : (i : ℕ) → i < 4 → numberAt bytes (4 + i) 1 ≡ weight (tableSpace t .weights) i
+  weight-at : (i : ℕ) → i < 4 → numberFrom bytes (4 + i) 1 ≡ weight (tableSpace t .weights) i
   unfolding headerFields startFields weightFields writtenForm total weight
   weight-at zero l = head-at 3 (omega arith) ∙ number-bytes 1 _ (omega (arith, weight-byte (tableSpace t .weights) weights-pass 0))
   weight-at (suc zero) l = head-at 4 (omega arith) ∙ number-bytes 1 _ (omega (arith, weight-byte (tableSpace t .weights) weights-pass 1))
@@ -236,13 +240,13 @@ module _ (t : Table) (words : All IsRow t) (ok : readRefusal t ≡ 0) (rest : Li
       let most : 2 ^ k ≤ 2 ^ 12 = pow-mono few in
       (omega (arith, within .0, within .1, most), omega (arith, within .1, most))
 
-  built-at : (k : ℕ) → k ≤ T → numberAt bytes (8 + 4 * k) 2 ≡ builtOf t k
+  built-at : (k : ℕ) → k ≤ T → numberFrom bytes (8 + 4 * k) 2 ≡ builtOf t k
   built-at k h =
       rw (pair-split k h)
       (number-in (header ++ pair-at k h .front) (bytesOf 2 (builtOf t k)) _ (8 + 4 * k) 2 (before-pair k h) (length-bytes 2 (builtOf t k))
       ∙ number-bytes 2 (builtOf t k) (size-most k h .1))
 
-  live-at : (k : ℕ) → k ≤ T → numberAt bytes (8 + 4 * k + 2) 2 ≡ liveOf t k
+  live-at : (k : ℕ) → k ≤ T → numberFrom bytes (8 + 4 * k + 2) 2 ≡ liveOf t k
   live-at k h =
       let before = header ++ pair-at k h .front in
       let size = bytesOf 2 (builtOf t k) in
@@ -277,10 +281,11 @@ module _ (t : Table) (words : All IsRow t) (ok : readRefusal t ≡ 0) (rest : Li
         omega (arith, length-append header (pairs ++ tag-block .front), length-append pairs (tag-block .front), length-header, length-pairs, tag-block .long)
 
     tag-number : (j place : ℕ) → j < 2 → 8 + 4 * (T + 1) + 8 * i + total (take j tagFields) ≡ place
-        → numberAt bytes place (getD tagFields j 0) ≡ numberOf (bytesOf (getD tagFields j 0) (getD (take 2 row) j 0))
+        → numberFrom bytes place (getD tagFields j 0) ≡ numberOf (bytesOf (getD tagFields j 0) (getD (take 2 row) j 0))
     unfolding tagFields
     tag-number j place h e =
-        field-at bytes (header ++ (pairs ++ tag-block .front)) tagFields (take 2 row) (tag-block .back ++ (records ++ rest)) j place tag-place h (omega (arith, before-tag, e))
+        field-at bytes (header ++ (pairs ++ tag-block .front)) tagFields (take 2 row) (tag-block .back ++ (records ++ rest)) j place tag-place h
+        (omega (arith, before-tag, e))
 
     record-place :
         bytes
@@ -303,14 +308,15 @@ module _ (t : Table) (words : All IsRow t) (ok : readRefusal t ≡ 0) (rest : Li
         )
 
     record-number : (j place : ℕ) → j < 11 → 8 + 4 * (T + 1) + 8 * length rows + 42 * i + total (take j (recordFields writtenForm)) ≡ place
-        → numberAt bytes place (getD (recordFields writtenForm) j 0) ≡ numberOf (bytesOf (getD (recordFields writtenForm) j 0) (getD row (2 + j) 0))
+        → numberFrom bytes place (getD (recordFields writtenForm) j 0) ≡ numberOf (bytesOf (getD (recordFields writtenForm) j 0) (getD row (2 + j) 0))
     unfolding recordFields dayFields writtenForm
     record-number j place h e =
-        field-at bytes (header ++ (pairs ++ (tags ++ record-block .front))) (recordFields writtenForm) (drop 2 row) (record-block .back ++ rest) j place record-place h (omega (arith, before-record, e))
+        field-at bytes (header ++ (pairs ++ (tags ++ record-block .front))) (recordFields writtenForm) (drop 2 row) (record-block .back ++ rest) j place
+        record-place h (omega (arith, before-record, e))
         ∙ ap (λ (n : ℕ). numberOf (bytesOf (getD (recordFields writtenForm) j 0) n)) (getD-drop 2 row j 0)
 
     -- the tag's two words, and the ten of a record that have four bytes
-    tag-at : (j place : ℕ) → j < 2 → 8 + 4 * (T + 1) + 8 * i + 4 * j ≡ place → numberAt bytes place 4 ≡ getD row j 0
+    tag-at : (j place : ℕ) → j < 2 → 8 + 4 * (T + 1) + 8 * i + 4 * j ≡ place → numberFrom bytes place 4 ≡ getD row j 0
     unfolding tagFields total
     tag-at zero place h e = tag-number 0 place h (omega arith) ∙ ap (λ (n : ℕ). numberOf (bytesOf 4 n)) (getD-take 2 row 0 0 h) ∙ number-bytes 4 _ (word-fits 0)
     tag-at (suc zero) place h e =
@@ -331,26 +337,30 @@ module _ (t : Table) (words : All IsRow t) (ok : readRefusal t ≡ 0) (rest : Li
     four (suc (suc (suc (suc (suc (suc (suc (suc (suc zero))))))))) h = (refl, refl)
     four (suc (suc (suc (suc (suc (suc (suc (suc (suc (suc j)))))))))) h = absurd (omega arith)
 
-    record-at : (j place : ℕ) → j < 10 → 8 + 4 * (T + 1) + 8 * length rows + 42 * i + 4 * j ≡ place → numberAt bytes place 4 ≡ getD row (2 + j) 0
+    record-at : (j place : ℕ) → j < 10 → 8 + 4 * (T + 1) + 8 * length rows + 42 * i + 4 * j ≡ place → numberFrom bytes place 4 ≡ getD row (2 + j) 0
     record-at j place h e =
-        subst (λ (w : ℕ). numberAt bytes place w ≡ numberOf (bytesOf w (getD row (2 + j) 0))) (four j h .0)
+        subst (λ (w : ℕ). numberFrom bytes place w ≡ numberOf (bytesOf w (getD row (2 + j) 0))) (four j h .0)
         (record-number j place (omega arith) (omega (arith, four j h .1, e)))
         ∙ number-bytes 4 (getD row (2 + j) 0) (word-fits (2 + j))
 
-    day-at : (place : ℕ) → 8 + 4 * (T + 1) + 8 * length rows + 42 * i + 40 ≡ place → numberAt bytes place 2 ≡ getD row 12 0 % 65536
+    day-at : (place : ℕ) → 8 + 4 * (T + 1) + 8 * length rows + 42 * i + 40 ≡ place → numberFrom bytes place 2 ≡ getD row 12 0 % 65536
     unfolding recordFields dayFields writtenForm total
     day-at place e = record-number 10 place (omega arith) e ∙ number-low (getD row 12 0)
 
-    slot-bytes : (tagPlace place : ℕ) → 8 + 4 * (T + 1) + 8 * i ≡ tagPlace → 8 + 4 * (T + 1) + 8 * length rows + 42 * i ≡ place → SlotBytes bytes tagPlace place row
-    unfolding wideIn
+    slot-bytes : (tagPlace place : ℕ) → 8 + 4 * (T + 1) + 8 * i ≡ tagPlace → 8 + 4 * (T + 1) + 8 * length rows + 42 * i ≡ place
+        → SlotBytes bytes tagPlace place row
     slot-bytes tagPlace place e f =
         record {
-          tag = number-wide bytes tagPlace (getD row 0 0) (getD row 1 0) (tag-at 0 tagPlace (omega arith) (omega arith)) (tag-at 1 (tagPlace + 4) (omega arith) (omega arith));
+          tag =
+              number-wide bytes tagPlace (getD row 0 0) (getD row 1 0)
+              (tag-at 0 tagPlace (omega arith) (omega arith)) (tag-at 1 (tagPlace + 4) (omega arith) (omega arith));
           measures = λ j h. record-at j (place + 4 * j) (omega arith) (omega arith);
           firstWord =
-              number-wide bytes (place + 16) (getD row 6 0) (getD row 7 0) (record-at 4 (place + 16) (omega arith) (omega arith)) (record-at 5 (place + 16 + 4) (omega arith) (omega arith));
+              number-wide bytes (place + 16) (getD row 6 0) (getD row 7 0)
+              (record-at 4 (place + 16) (omega arith) (omega arith)) (record-at 5 (place + 16 + 4) (omega arith) (omega arith));
           secondWord =
-              number-wide bytes (place + 24) (getD row 8 0) (getD row 9 0) (record-at 6 (place + 24) (omega arith) (omega arith)) (record-at 7 (place + 24 + 4) (omega arith) (omega arith));
+              number-wide bytes (place + 24) (getD row 8 0) (getD row 9 0)
+              (record-at 6 (place + 24) (omega arith) (omega arith)) (record-at 7 (place + 24 + 4) (omega arith) (omega arith));
           threshold = record-at 8 (place + 32) (omega arith) (omega arith);
           mark = record-at 9 (place + 36) (omega arith) (omega arith);
           day = day-at (place + 40) (omega arith);
@@ -403,7 +413,7 @@ module _ (t : Table) (words : All IsRow t) (ok : readRefusal t ≡ 0) (rest : Li
       (slot-bytes i inside fits (tagsPlace + 8 * i) (recordsPlace + 42 * i) (omega (arith, f)) (omega (arith, f, g, all)))
 
   table-bytes : TableBytes t (imageOf t ++ rest)
-  unfolding bytes T orderOf builtOf liveOf word rowAt headerRow sizesRow wordIn
+  unfolding bytes T orderOf builtOf liveOf word rowAt headerRow sizesRow
   table-bytes =
       record {
         order = order-at;
@@ -421,7 +431,8 @@ write-number : (n length : ℕ)
 write-number zero length = refl
 write-number (suc n) length = refl
 
-written-bytes : (t : Table) (area : List ℕ) → All IsRow t → replyTo (write Write.image) t area .refusal ≡ 0 → TableBytes t (areasAfter (write Write.image) t area)
+written-bytes : (t : Table) (area : List ℕ) → All IsRow t → replyTo (write Write.image) t area .refusal ≡ 0
+    → TableBytes t (areasAfter (write Write.image) t area)
 unfolding writeReply writeRefusal imageAfterWrite
 written-bytes t area words e =
     let zeroed : writeRefusal t area ≡ 0 = sym (write-number (writeRefusal t area) (length (imageOf t))) ∙ e in
@@ -430,7 +441,7 @@ written-bytes t area words e =
     subst (TableBytes t) (sym left) (table-bytes t words (or-zero (readRefusal t) _ zeroed .0) (drop (length (imageOf t)) area))
 
 row-words : (row : Row) → RowWords row
-unfolding tagOf profileOf thresholdOf markOf dayOf measure codeWord wideIn word wide tagAt measuresAt codeAt thresholdAt markAt dayAt
+unfolding tagOf profileOf thresholdOf markOf dayOf measure codeWord word wide tagAt measuresAt codeAt thresholdAt markAt dayAt
 row-words row =
     record {
       tag = refl;
@@ -450,7 +461,7 @@ row-words row =
     four-measures (suc (suc (suc (suc i)))) h = absurd (omega arith)
 
 table-words : (t : Table) → TableWords t
-unfolding orderOf tableSpace spaceOf metricAt builtOf liveOf word rowAt headerRow sizesRow firstSlot room wordIn
+unfolding orderOf tableSpace spaceOf metricAt builtOf liveOf word rowAt headerRow sizesRow firstSlot room
 table-words t =
     record {
       order = refl;

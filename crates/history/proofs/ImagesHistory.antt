@@ -22,5 +22,5 @@ module _ (matches : (h : History) → Matches (finalState h .table) (finalModel 
 
   -- and so is its snapshot saved, and restored
   pub saved-restores-where : SavedRestores
-  saved-restores-where h area states name named rows long =
-      restores-back (matches h .invariant) area states name named (long-enough h (length area) rows) long
+  saved-restores-where h area states name least most rows long =
+      restores-back (matches h .invariant) area states name least most (long-enough h (length area) rows) long

@@ -1,5 +1,5 @@
--- Searches of two tables with the same metric, weights and live items: both tables' items are those of one model, whose scan does not depend on their order, so the
--- entries are the same. Up to the fit of the result area the searches are refused alike, and areas that hold the reply fit alike.
+-- Searches of two tables with the same metric, weights and live items: both tables' items are those of one model, whose scan does not depend on their order, so
+-- the entries are the same. Up to the fit of the result area the searches are refused alike, and areas that hold the reply fit alike.
 use Prim.Native.Nat.{ℕ, zero, suc, _-_, _≤_}
 use native.Mathlib.Omega.{arith}
 use mathlib.Core.Path.{_≡_, refl, sym, _∙_, ap, subst}
@@ -11,14 +11,15 @@ use lib.ListN.{length, replicate}
 use lib.Seq.{take-append-seam}
 use borrow.Author.Tests.{le-leb}
 use Rattle.metric_rules.specs.declared.Profile.{Profile}
-use Rattle.metric_rules.specs.Validity.{validMeasures}
 use Rattle.search_rules.specs.Range.{Entry}
 use Rattle.table_rules.specs.Refusals.{badMeasure, noCount, noRoom, shortArea, unless, when}
 use Rattle.table_rules.specs.Geometry.{tableRows}
 use Rattle.table_rules.specs.Table.{Table, orderOf}
-use Rattle.table_rules.specs.Search.{Answer, rangeAnswer, nearestAnswer, rangeRefusal, nearestRefusal, searchReply, zeroEntry, resultAfter, rangeReply, resultAfterRange, nearestReply, resultAfterNearest}
+use Rattle.table_rules.specs.Search.{Answer, rangeAnswer, nearestAnswer, rangeRefusal, nearestRefusal, searchReply, zeroEntry, resultAfter, rangeReply}
+use Rattle.table_rules.specs.Search.{resultAfterRange, nearestReply, resultAfterNearest}
 use Rattle.call_rules.specs.Calls.Ask.{range, nearest}
 use Rattle.history.specs.Trace.{overlaid}
+use Rattle.history.specs.Figures.{measuresWithin}
 use Rattle.history.specs.Model.{Model, scanned, modelRange, modelNearest, fits, questionRefusal, askRefusal}
 use Rattle.history.specs.Agreement.{Agree, AreasHold, SameAnswers}
 use Rattle.history.specs.Demands.{IndependentOfHistory}
@@ -34,14 +35,16 @@ abbrev asked : Bool → Bool → List Entry → ℕ → ℕ
 asked valid none es area = unless valid badMeasure (when none noCount (fits area es))
 
 -- an area that holds the reply, and another of as many entries
-asked-alike : (valid none : Bool) (es : List Entry) (area other : ℕ) → (asked valid none es area ≡ noRoom → ⊥) → (asked valid none es area ≡ 0 → length es ≤ other)
+asked-alike : (valid none : Bool) (es : List Entry) (area other : ℕ) → (asked valid none es area ≡ noRoom → ⊥)
+    → (asked valid none es area ≡ 0 → length es ≤ other)
     → asked valid none es area ≡ asked valid none es other
 unfolding fits
 asked-alike false none es area other here there = refl
 asked-alike true true es area other here there = refl
 asked-alike true false es area other here there = go (leb (length es) area) here there
   where
-    go : (b : Bool) → (unless b noRoom 0 ≡ noRoom → ⊥) → (unless b noRoom 0 ≡ 0 → length es ≤ other) → unless b noRoom 0 ≡ unless (leb (length es) other) noRoom 0
+    go : (b : Bool) → (unless b noRoom 0 ≡ noRoom → ⊥) → (unless b noRoom 0 ≡ 0 → length es ≤ other)
+        → unless b noRoom 0 ≡ unless (leb (length es) other) noRoom 0
     go true here there = sym (ap (λ (b : Bool). unless b noRoom 0) (le-leb (length es) other (there refl)))
     go false here there = absurd (here refl)
 
@@ -67,7 +70,8 @@ module _ (a b : Answer) (es : List Entry) (first : a .entries ≡ es) (second : 
       go (suc n) = record { refusal = refl; found = refl; entries = refl }
 
   -- where the areas hold the reply
-  held-agree : (valid none : Bool) (n k : ℕ) → n ≡ asked valid none es (length area) → k ≡ asked valid none es (length other) → AreasHold (searchReply n a) other
+  held-agree : (valid none : Bool) (n k : ℕ) → n ≡ asked valid none es (length area) → k ≡ asked valid none es (length other)
+      → AreasHold (searchReply n a) other
       → Agree (searchReply n a) (resultAfter n area a) (searchReply k b) (resultAfter k other b)
   unfolding searchReply
   held-agree valid none n k e f h = agree n k (e ∙ asked-alike valid none es (length area) (length other) (here n e h) (there n e h) ∙ sym f)
@@ -76,20 +80,21 @@ module _ (a b : Answer) (es : List Entry) (first : a .entries ≡ es) (second : 
       here zero e h g = absurd (omega (arith, e ∙ g))
       here (suc n) e h g = h .here (e ∙ g)
 
-      there : (n : ℕ) → n ≡ asked valid none es (length area) → AreasHold (searchReply n a) other → asked valid none es (length area) ≡ 0 → length es ≤ length other
+      there : (n : ℕ) → n ≡ asked valid none es (length area) → AreasHold (searchReply n a) other → asked valid none es (length area) ≡ 0
+          → length es ≤ length other
       there zero e h g = subst (λ (l : List Entry). length l ≤ length other) first (h .there)
       there (suc n) e h g = absurd (omega (arith, e ∙ g))
 
 -- each search's refusal in an area of the table that is long enough, so behind 23
 range-asked : {t : Table} {m : Model} → Matches t m → (q : Profile) (r firstDay : ℕ) (area : List Entry)
-    → rangeRefusal t area q r firstDay ≡ asked (validMeasures q) false (modelRange m q r firstDay) (length area)
+    → rangeRefusal t area q r firstDay ≡ asked (measuresWithin q) false (modelRange m q r firstDay) (length area)
 unfolding askRefusal questionRefusal
 range-asked {t} {m} ok q r firstDay area =
     range-refusal m t (inl ok) q r firstDay area
     ∙ ap (λ (b : Bool). unless b shortArea (questionRefusal m (range q r firstDay) (length area))) (can-read m t ok)
 
 nearest-asked : {t : Table} {m : Model} → Matches t m → (q : Profile) (k firstDay : ℕ) (area : List Entry)
-    → nearestRefusal t area q k firstDay ≡ asked (validMeasures q) (eqb k 0) (modelNearest m q k firstDay) (length area)
+    → nearestRefusal t area q k firstDay ≡ asked (measuresWithin q) (eqb k 0) (modelNearest m q k firstDay) (length area)
 unfolding askRefusal questionRefusal
 nearest-asked {t} {m} ok q k firstDay area =
     nearest-refusal m t (inl ok) q k firstDay area
@@ -111,11 +116,12 @@ module _ {t u : Table} {m n : Model} (ok : Matches t m) (there : Matches u n) (s
       record {
         ranges = λ q r firstDay area other.
             held-agree (rangeAnswer t q r firstDay) (rangeAnswer u q r firstDay) (modelRange n q r firstDay) (range-alike here q r firstDay)
-            (range-alike there q r firstDay) area other (validMeasures q) false (rangeRefusal t area q r firstDay) (rangeRefusal u other q r firstDay)
+            (range-alike there q r firstDay) area other (measuresWithin q) false (rangeRefusal t area q r firstDay) (rangeRefusal u other q r firstDay)
             (range-asked here q r firstDay area) (range-asked there q r firstDay other);
         nearests = λ q k firstDay area other.
             held-agree (nearestAnswer t q k firstDay) (nearestAnswer u q k firstDay) (modelNearest n q k firstDay) (nearest-alike here q k firstDay)
-            (nearest-alike there q k firstDay) area other (validMeasures q) (eqb k 0) (nearestRefusal t area q k firstDay) (nearestRefusal u other q k firstDay)
+            (nearest-alike there q k firstDay) area other (measuresWithin q) (eqb k 0) (nearestRefusal t area q k firstDay)
+            (nearestRefusal u other q k firstDay)
             (nearest-asked here q k firstDay area) (nearest-asked there q k firstDay other);
         batches =
             batches-agree t u (invariant-reads t (ok .invariant)) (invariant-reads u (there .invariant))

@@ -1,18 +1,6 @@
--- The theorems of `specs/Demands`, the laws of calls that the claims on conversations rest on (`LongAreas`), and the definitions of the rules run on small herds.
+-- The theorems of `specs/Demands`, the laws of calls that the claims on conversations rest on (`LongAreas`).
 pub mod Theorems
 pub mod LongAreas
-pub mod Computing
-pub mod Running
-pub mod Starred
-pub mod Removals
-pub mod Searches
-pub mod Refused
-pub mod Imaged
-pub mod FirstFaults
-pub mod Nationals
-pub mod Alike
-pub mod EndsAlike
-pub mod ShutOut
 mod Invariant
 mod Amortized
 mod AmortizedMoved
@@ -36,9 +24,11 @@ mod StatesBack
 mod ImageBytes
 mod LoadTests
 mod LoadItems
+mod TreeTests
+mod Figured
 mod Ordering
 mod AnyDistance
-mod Batches
+mod TreeForm
 mod RefinesLists
 mod RefinesSearch
 mod RefinesTable
@@ -73,11 +63,16 @@ mod Independence
 mod IndependenceBatch
 mod Naming
 mod Visiting
-mod Weighing
+pub mod Weighing
+mod Nearing
+mod DistancesTop
+mod Earlier
 mod ListPrinted
-mod ListBack
-pub mod PlainUses
+pub mod ListBack
 mod FindsFirst
+mod ItemsStay
 mod Framing
+mod SearchBounds
+mod BuildBounds
 mod Entered
 mod FoundThere

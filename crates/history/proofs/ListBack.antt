@@ -19,7 +19,7 @@ use Rattle.text_rules.proofs.Digits.{high-value, digit-below, digit-from, lette
 use Rattle.text_rules.proofs.Digits.{numeral-digits, numeral-longest, numeral-shortest}
 use Rattle.text_rules.proofs.Signs.{unsigned-minus, unsigned-plain}
 use Rattle.list_rules.specs.Lines.{ListLine, lineOf, linesFrom, linesOf, listHeader, hasHeader, itemLines}
-use Rattle.list_rules.specs.Lines.ListLine.{anItem, malformed}
+use Rattle.list_rules.specs.Lines.ListLine.{malformed}
 use Rattle.history.specs.ListForm.{headerText, digitsText, Value, IsValue, minusText, valueText}
 use Rattle.history.specs.ListForm.{Line, IsLine, lineText, itemIn, linesText, ReadsTo, ReadsPrinted}
 use Rattle.history.specs.Demands.{ListForm}

@@ -2,7 +2,7 @@
 use Prim.Native.Nat.{ℕ, zero, suc, _+_, _*_}
 use mathlib.Core.Path.{_≡_, refl, sym, ap, ap₂, _∙_}
 use mathlib.Core.Bool.{Bool, true, false}
-use mathlib.Core.List.{List, [], _∷_, _++_, map}
+use mathlib.Core.List.{List, [], _∷_, map}
 use native.Mathlib.Omega.{arith}
 use lib.IntN.{ℤ}
 use lib.Dec.{eqb}
@@ -20,11 +20,12 @@ use Rattle.image_rules.specs.Read as reader
 use Rattle.image_rules.specs.Read.{fieldsAt, orderIn, weightsAs, spaceIn, slotsIn, rowIn, bucketIn}
 use Rattle.image_rules.specs.Load.{liveRows}
 use Rattle.image_rules.proofs.EachBucket.{rows-in-buckets}
-use Rattle.history.specs.ImageForm.{numberAt}
-use Rattle.history.specs.LoadTests.{metricByte, formBytes, slotsInAll, recordFrom, markIn}
-use Rattle.history.specs.Model.{itemOf, Model, weightsRead, profileRead, itemRead, imageModel}
+use Rattle.history.specs.Places.{numberFrom}
+use Rattle.history.specs.LoadTests.{formBytes, slotsInAll, recordFrom, markIn, weightsRead, spaceRead}
+use Rattle.history.specs.Model.{itemOf, Model, profileRead, itemRead, imageModel}
 use Rattle.history.proofs.ImageBytes.{number-wide}
-use Rattle.history.proofs.LoadTests.{number-read, order-read, metric-read, form-read, slots-read, record-place, record-from, number-from, tag-read, live-mark, day-read}
+use Rattle.history.proofs.LoadTests.{number-read, order-read, metric-read, form-read, slots-read, record-place, record-from, number-from, tag-read}
+use Rattle.history.proofs.LoadTests.{live-mark, day-read}
 use Rattle.history.proofs.RefinesLists.{select-flatten}
 
 -- what is made of those that pass, of a list and of what it was made of
@@ -53,8 +54,8 @@ module _ (image : List ℕ) where
   weights-by (suc form) =
       λ i. record { each = number-read image 1 4 i ∷ number-read image 1 5 i ∷ number-read image 1 6 i ∷ number-read image 1 7 i ∷ [] }
 
-  space-read : spaceIn image ≡ record { metric = metricByte image; weights = record { each = weightsRead (formBytes image) image } }
-  unfolding spaceIn
+  pub space-read : spaceIn image ≡ spaceRead image
+  unfolding spaceIn spaceRead
   space-read =
       ap₂ {C = Space} (λ (m : ℕ) (w : Weights). record { metric = m; weights = w }) (metric-read image)
       (ap (λ (form : ℕ). weightsAs form image) (form-read image) ∙ weights-by (formBytes image))
@@ -65,20 +66,21 @@ module _ (image : List ℕ) where
       let here = record-place image i in
       let there = recordFrom image i in
       let e = record-from image i in
-      let at : (place n : ℕ) → place ≡ here + n → reader.numberAt image 4 place ≡ numberAt image (there + n) 4 =
+      let at : (place n : ℕ) → place ≡ here + n → reader.numberAt image 4 place ≡ numberFrom image (there + n) 4 =
       λ place n f. number-from image 4 place (there + n) (f ∙ ap (λ (p : ℕ). p + n) e) in
-      let m0 : reader.numberAt image 4 here ≡ numberAt image (there + 4 * 0) 4 = at here 0 (omega arith) in
-      let m1 : reader.numberAt image 4 (here + 4) ≡ numberAt image (there + 4 * 1) 4 = at (here + 4) 4 (omega arith) in
-      let m2 : reader.numberAt image 4 (here + 4 + 4) ≡ numberAt image (there + 4 * 2) 4 = at (here + 4 + 4) 8 (omega arith) in
-      let m3 : reader.numberAt image 4 (here + 4 + 4 + 4) ≡ numberAt image (there + 4 * 3) 4 = at (here + 4 + 4 + 4) 12 (omega arith) in
+      let m0 : reader.numberAt image 4 here ≡ numberFrom image (there + 4 * 0) 4 = at here 0 (omega arith) in
+      let m1 : reader.numberAt image 4 (here + 4) ≡ numberFrom image (there + 4 * 1) 4 = at (here + 4) 4 (omega arith) in
+      let m2 : reader.numberAt image 4 (here + 4 + 4) ≡ numberFrom image (there + 4 * 2) 4 = at (here + 4 + 4) 8 (omega arith) in
+      let m3 : reader.numberAt image 4 (here + 4 + 4 + 4) ≡ numberFrom image (there + 4 * 3) 4 = at (here + 4 + 4 + 4) 12 (omega arith) in
       let far : there + 16 + 4 ≡ there + 20 = omega arith in
       let further : there + 24 + 4 ≡ there + 28 = omega arith in
-      let first : numberAt image (there + 16) 8 ≡ wide (reader.numberAt image 4 (here + 4 + 4 + 4 + 4)) (reader.numberAt image 4 (here + 4 + 4 + 4 + 4 + 4)) =
+      let first : numberFrom image (there + 16) 8 ≡ wide (reader.numberAt image 4 (here + 4 + 4 + 4 + 4)) (reader.numberAt image 4 (here + 4 + 4 + 4 + 4 + 4)) =
       number-wide image (there + 16) _ _ (sym (at (here + 4 + 4 + 4 + 4) 16 (omega arith)))
-      (ap (λ (p : ℕ). numberAt image p 4) far ∙ sym (at (here + 4 + 4 + 4 + 4 + 4) 20 (omega arith))) in
-      let second : numberAt image (there + 24) 8 ≡ wide (reader.numberAt image 4 (here + 4 + 4 + 4 + 4 + 4 + 4)) (reader.numberAt image 4 (here + 4 + 4 + 4 + 4 + 4 + 4 + 4)) =
+      (ap (λ (p : ℕ). numberFrom image p 4) far ∙ sym (at (here + 4 + 4 + 4 + 4 + 4) 20 (omega arith))) in
+      let second : numberFrom image (there + 24) 8 ≡ wide (reader.numberAt image 4 (here + 4 + 4 + 4 + 4 + 4 + 4))
+      (reader.numberAt image 4 (here + 4 + 4 + 4 + 4 + 4 + 4 + 4)) =
       number-wide image (there + 24) _ _ (sym (at (here + 4 + 4 + 4 + 4 + 4 + 4) 24 (omega arith)))
-      (ap (λ (p : ℕ). numberAt image p 4) further ∙ sym (at (here + 4 + 4 + 4 + 4 + 4 + 4 + 4) 28 (omega arith))) in
+      (ap (λ (p : ℕ). numberFrom image p 4) further ∙ sym (at (here + 4 + 4 + 4 + 4 + 4 + 4 + 4) 28 (omega arith))) in
       ap₂ {C = Profile} (λ (ms : List ℤ) (code : List ℕ). record { measures = ms; code = code })
       (λ j. toZ w32 (m0 j) ∷ toZ w32 (m1 j) ∷ toZ w32 (m2 j) ∷ toZ w32 (m3 j) ∷ [])
       (λ j. sym first j ∷ sym second j ∷ [])
@@ -87,7 +89,7 @@ module _ (image : List ℕ) where
   unfolding itemOf itemRead
   item-is i = λ j. record { tag = tag-read image i j; profile = profile-is i j; day = day-read image i j }
 
-  items-read : map itemOf (liveRows image) ≡ map (itemRead image) (select (λ i. eqb (markIn image i) 0) (countFrom 0 (slotsInAll image)))
+  pub items-read : map itemOf (liveRows image) ≡ map (itemRead image) (select (λ i. eqb (markIn image i) 0) (countFrom 0 (slotsInAll image)))
   unfolding liveRows
   items-read =
       ap (map itemOf) (select-flatten isLive (bucketIn image) (bucketsOf (orderIn image)) ∙ ap (select isLive) (rows-in-buckets image))

@@ -17,39 +17,40 @@ use borrow.Author.Tests.{ltb-true, ltb-false, leb-true, le-leb, lt-leb, lt-ltb, 
 use Rattle.lists.specs.Lists.{total, every, any, select, countFrom}
 use Rattle.lists.proofs.Tests.{pass-alike, every-map}
 use Rattle.metric_rules.specs.Row.{word, wide, tagAt, measuresAt, codeAt, markAt, dayAt, tagOf, profileOf, markOf, dayOf, isLive}
-use Rattle.metric_rules.specs.Validity.{nationals, countryOf, nationalOf, lastCountry, lastNational, validTag, measureLimit, validMeasure, validMeasures, validDay}
+use Rattle.metric_rules.specs.Validity.{nationals, countryOf, nationalOf, lastCountry, lastNational, validTag, measureLimit, validMeasure, validMeasures}
+use Rattle.metric_rules.specs.Validity.{validDay}
 use Rattle.metric_rules.specs.Distance.{weightsOne, lastMetric, validMetric, mostWeight, validWeights}
 use Rattle.table_rules.specs.Refusals.{badOrder, badMetric, badLength, badImage, shortArea, badTable, badWeight, badDay, unless, when}
 use Rattle.table_rules.specs.Geometry.{validOrder, room, bucketsOf, firstSlot, tableRows}
 use Rattle.table_rules.specs.Checks.{sizePasses, sizesPass}
-use Rattle.image_rules.specs.Bytes.{lastForm, validForm, startBytes, imageLength, numberOf, startFields, weightFields, headerFields, tagFields, dayFields, recordFields, headerBytes, tagBytes, recordBytes, sizeBytes, pairBytes, sizesEnd}
+use Rattle.image_rules.specs.Bytes.{lastForm, validForm, startBytes, imageLength, numberOf, startFields, weightFields, headerFields, tagFields, dayFields}
+use Rattle.image_rules.specs.Bytes.{recordFields, headerBytes, tagBytes, recordBytes, sizeBytes, pairBytes, sizesEnd}
 use Rattle.image_rules.specs.Read as reader
 use Rattle.image_rules.specs.Read.{fieldsAt, startNumbers, weightsAs, dayAs, orderIn, formIn, spaceIn, builtIn, liveIn, slotsBefore, slotsIn, rowIn, bucketIn}
-use Rattle.image_rules.specs.declared.Loaded.{Loaded}
-use Rattle.image_rules.specs.Load.{fieldsPass, bucketFieldsPass, allFieldsPass, daysPass, fieldsRefusal, orLoaded, treesIn, loadReply}
+use Rattle.image_rules.specs.Load.{fieldsPass, bucketFieldsPass, allFieldsPass, daysPass, fieldsRefusal}
 use Rattle.image_rules.proofs.Blocks.{map-count}
 use Rattle.image_rules.proofs.EachBucket.{test-buckets}
 use Rattle.state_rules.specs.Parts.{badName, notSaved, validName, partBytes, partStart, partOf, behindLength, savedLength, savedImage}
-use Rattle.state_rules.specs.Restore.{holdsSnapshot, partRefusal, nameRefusal, restoreReply}
+use Rattle.state_rules.specs.Restore.{holdsSnapshot, partRefusal, nameRefusal}
 use Rattle.state_rules.proofs.Parts.{part-length}
 use Rattle.table_rules.proofs.Chains.{when-zero}
-use Rattle.history.specs.ImageForm.{numberAt}
-use Rattle.history.specs.Trace.{Shown, shows}
-use Rattle.history.specs.Trace.Payload.{aSlot}
-use Rattle.history.specs.Model.{dayRead, orShown, treesShown, loadShown}
-use Rattle.history.specs.LoadTests.{orderByte, metricByte, formBytes, pairsFrom, recordSize, builtAt, liveAt, slotsUpTo, tagsFrom, slotsInAll, recordFrom, weightTooLarge, sizesSound, allSizesSound, dayMissing, tagSound, measureSound, markIn, slotSound, slotsAt, bucketSound, allFieldsSound, loadRefusalOf, partFrom, lengthIn, imageIn, restoreRefusalOf}
+use Rattle.history.specs.Places.{numberFrom}
+use Rattle.history.specs.Figures.{tagSound}
+use Rattle.history.specs.LoadTests.{orderByte, metricByte, formBytes, pairsFrom, recordSize, builtAt, liveAt, slotsUpTo, tagsFrom, slotsInAll, recordFrom}
+use Rattle.history.specs.LoadTests.{weightTooLarge, sizesSound, allSizesSound, dayRead, dayMissing, measureSound, tagIn, markIn, slotSound, slotsAt}
+use Rattle.history.specs.LoadTests.{bucketSound, allFieldsSound, loadRefusalOf, partFrom, lengthIn, imageIn, restoreRefusalOf}
 use Rattle.history.proofs.ImageBytes.{number-wide}
 
 -- a number past the end is 0
-number-past : (bytes : List ℕ) (place w : ℕ) → length bytes ≤ place → numberAt bytes place w ≡ 0
-unfolding numberAt
+number-past : (bytes : List ℕ) (place w : ℕ) → length bytes ≤ place → numberFrom bytes place w ≡ 0
+unfolding numberFrom
 number-past bytes place zero h = refl
 number-past bytes place (suc w) h =
     ap₂ (λ (x y : ℕ). x + 256 * y) (List·getD-eq-default bytes 0 {n = place} h) (number-past bytes (place + 1) w (omega arith))
 
 -- the number that the reader has from a place
-pub number-read : (bytes : List ℕ) (w place : ℕ) → reader.numberAt bytes w place ≡ numberAt bytes place w
-unfolding reader.numberAt numberAt numberOf
+pub number-read : (bytes : List ℕ) (w place : ℕ) → reader.numberAt bytes w place ≡ numberFrom bytes place w
+unfolding reader.numberAt numberFrom numberOf
 number-read bytes zero place = refl
 number-read bytes (suc w) place =
     elim (decLe (length bytes) place) [
@@ -68,7 +69,7 @@ most-above n most = go (ltb most n) refl
     go true e = lt-leb n most (ltb-true most n e)
     go false e = le-leb n most (ltb-false most n e)
 
-not-any : (p q : Bool) → (not p && not q) ≡ not (p || q)
+pub not-any : (p q : Bool) → (not p && not q) ≡ not (p || q)
 not-any true q = refl
 not-any false q = refl
 
@@ -80,15 +81,17 @@ every-not-any passes stops h (x ∷ xs) = ap₂ _&&_ (h x) (every-not-any passes
 pub all-any : (most : ℕ) (ns : List ℕ) → every (λ n. leb n most) ns ≡ not (any (λ n. ltb most n) ns)
 all-any most ns = every-not-any (λ n. leb n most) (λ n. ltb most n) (λ n. most-above n most) ns
 
-pub stops-alike : {passes : Bool} (met : Bool) (number : ℕ) {rest after : ℕ} → passes ≡ not met → rest ≡ after → unless passes number rest ≡ when met number after
+pub stops-alike : {passes : Bool} (met : Bool) (number : ℕ) {rest after : ℕ} → passes ≡ not met → rest ≡ after
+    → unless passes number rest ≡ when met number after
 stops-alike true number {rest} e f = ap (λ (b : Bool). unless b number rest) e
 stops-alike false number {rest} e f = ap (λ (b : Bool). unless b number rest) e ∙ f
 
 -- two tests that say the same
-passes-alike : {passes : Bool} (met : Bool) (number : ℕ) {rest after : ℕ} → passes ≡ met → rest ≡ after → unless passes number rest ≡ unless met number after
+pub passes-alike : {passes : Bool} (met : Bool) (number : ℕ) {rest after : ℕ} → passes ≡ met → rest ≡ after
+    → unless passes number rest ≡ unless met number after
 passes-alike met number {rest} e f = ap (λ (b : Bool). unless b number rest) e ∙ ap (λ (r : ℕ). unless met number r) f
 
-when-alike : {stops : Bool} (met : Bool) (number : ℕ) {rest after : ℕ} → stops ≡ met → rest ≡ after → when stops number rest ≡ when met number after
+pub when-alike : {stops : Bool} (met : Bool) (number : ℕ) {rest after : ℕ} → stops ≡ met → rest ≡ after → when stops number rest ≡ when met number after
 when-alike met number {rest} e f = ap (λ (b : Bool). when b number rest) e ∙ ap (λ (r : ℕ). when met number r) f
 
 -- comparisons that mean the same
@@ -113,7 +116,7 @@ measure-sound n = go (ltb n (2 ^ 31)) refl
         leb-alike (suc (2 ^ 32 - suc n)) 1_000_000 4_293_967_296 n (λ h. omega arith) (λ h. omega arith)
         ∙ sym (ap (λ (b : Bool). b || leb 4_293_967_296 n) (lt-leb n 1_000_000 (omega arith)))
 
-tag-sound : (tag : ℕ) → validTag tag ≡ tagSound tag
+pub tag-sound : (tag : ℕ) → validTag tag ≡ tagSound tag
 unfolding validTag countryOf nationalOf nationals lastCountry lastNational tagSound
 tag-sound tag = refl
 
@@ -123,7 +126,8 @@ count-map : {A B : Type 0} (f : A → B) (test : B → Bool) (before : A → Boo
 unfolding select
 count-map f test before h [] = refl
 count-map {A} {B} f test before h (x ∷ xs) =
-    ap (λ (b : Bool). length {A = B} (elim b [ true ↦ f x ∷ select test (map f xs) | false ↦ select test (map f xs) ])) (h x) ∙ go (before x) (count-map f test before h xs)
+    ap (λ (b : Bool). length {A = B} (elim b [ true ↦ f x ∷ select test (map f xs) | false ↦ select test (map f xs) ])) (h x)
+    ∙ go (before x) (count-map f test before h xs)
   where
     go : (b : Bool) → length (select test (map f xs)) ≡ length (select before xs)
         → length {A = B} (elim b [ true ↦ f x ∷ select test (map f xs) | false ↦ select test (map f xs) ])
@@ -151,12 +155,12 @@ unfolding every
 every-true [] = refl
 every-true (x ∷ xs) = every-true xs
 
-test-all : {A : Type 0} (f g : A → Bool) → ((x : A) → f x ≡ g x) → (xs : List A) → every f xs ≡ every g xs
+pub test-all : {A : Type 0} (f g : A → Bool) → ((x : A) → f x ≡ g x) → (xs : List A) → every f xs ≡ every g xs
 unfolding every
 test-all f g h [] = refl
 test-all f g h (x ∷ xs) = ap₂ _&&_ (h x) (test-all f g h xs)
 
-some-not-none : (n : ℕ) → leb 1 n ≡ not (eqb n 0)
+pub some-not-none : (n : ℕ) → leb 1 n ≡ not (eqb n 0)
 some-not-none zero = refl
 some-not-none (suc n) = le-leb 1 (suc n) (omega arith) ∙ ap not (sym (ne-eqb (suc n) 0 (λ e. omega arith)))
 
@@ -176,18 +180,18 @@ module _ (image : List ℕ) where
   head-read : headerBytes (formIn image) ≡ pairsFrom (formBytes image)
   head-read = pairs-from (formIn image) ∙ ap pairsFrom form-read
 
-  next-read : suc (orderIn image) ≡ orderByte image + 1
+  pub next-read : suc (orderIn image) ≡ orderByte image + 1
   next-read = omega (arith, order-read)
 
-  built-read : (k : ℕ) → builtIn image k ≡ builtAt image k
+  pub built-read : (k : ℕ) → builtIn image k ≡ builtAt image k
   unfolding builtIn sizeBytes pairBytes builtAt
-  built-read k = number-read image 2 _ ∙ ap (λ (p : ℕ). numberAt image (p + 4 * k) 2) head-read
+  built-read k = number-read image 2 _ ∙ ap (λ (p : ℕ). numberFrom image (p + 4 * k) 2) head-read
 
   live-read : (k : ℕ) → liveIn image k ≡ liveAt image k
   unfolding liveIn sizeBytes pairBytes liveAt
-  live-read k = number-read image 2 _ ∙ ap (λ (p : ℕ). numberAt image (p + 4 * k + 2) 2) head-read
+  live-read k = number-read image 2 _ ∙ ap (λ (p : ℕ). numberFrom image (p + 4 * k + 2) 2) head-read
 
-  before-read : (k : ℕ) → slotsBefore image k ≡ slotsUpTo image k
+  pub before-read : (k : ℕ) → slotsBefore image k ≡ slotsUpTo image k
   unfolding slotsBefore slotsUpTo
   before-read k = ap total (map-count (builtIn image) (builtAt image) 0 k (λ j l m. built-read j))
 
@@ -214,23 +218,25 @@ module _ (image : List ℕ) where
   record-from i =
       ap₂ _+_ (ap₂ (λ (p n : ℕ). p + 8 * n) tags-read slots-read) (ap (λ (w : ℕ). w * i) (record-size (formIn image) ∙ ap recordSize form-read))
 
-  pub number-from : (w place there : ℕ) → place ≡ there → reader.numberAt image w place ≡ numberAt image there w
-  number-from w place there e = number-read image w place ∙ ap (λ (p : ℕ). numberAt image p w) e
+  pub number-from : (w place there : ℕ) → place ≡ there → reader.numberAt image w place ≡ numberFrom image there w
+  number-from w place there e = number-read image w place ∙ ap (λ (p : ℕ). numberFrom image p w) e
 
   -- the words of a row that is read
-  pub tag-read : (i : ℕ) → tagOf (rowIn image i) ≡ numberAt image (tagsFrom image + 8 * i) 8
-  unfolding rowIn tagOf word wide tagAt fieldsAt tagFields
+  pub tag-read : (i : ℕ) → tagOf (rowIn image i) ≡ tagIn image i
+  unfolding rowIn tagOf word wide tagAt fieldsAt tagFields tagIn
   tag-read i =
       sym
       (number-wide image (tagsFrom image + 8 * i) _ _ (sym (number-from 4 (tag-place i) (tagsFrom image + 8 * i) (tag-from i)))
       (sym (number-from 4 (tag-place i + 4) (tagsFrom image + 8 * i + 4) (ap (λ (p : ℕ). p + 4) (tag-from i)))))
 
-  measures-read : (i : ℕ) → validMeasures (profileOf (rowIn image i)) ≡ every (λ j. measureSound (numberAt image (recordFrom image i + 4 * j) 4)) (0 ∷ 1 ∷ 2 ∷ 3 ∷ [])
+  measures-read : (i : ℕ)
+      → validMeasures (profileOf (rowIn image i)) ≡ every (λ j. measureSound (numberFrom image (recordFrom image i + 4 * j) 4)) (0 ∷ 1 ∷ 2 ∷ 3 ∷ [])
   unfolding validMeasures every profileOf measuresAt codeAt rowIn word fieldsAt tagFields recordFields
   measures-read i =
       let here = record-place i in
       let e = record-from i in
-      let one : (place j : ℕ) → place ≡ here + 4 * j → validMeasure (toZ w32 (reader.numberAt image 4 place)) ≡ measureSound (numberAt image (recordFrom image i + 4 * j) 4) =
+      let one : (place j : ℕ) → place ≡ here + 4 * j → validMeasure (toZ w32 (reader.numberAt image 4 place)) ≡ measureSound
+      (numberFrom image (recordFrom image i + 4 * j) 4) =
       λ place j f.
       measure-sound (reader.numberAt image 4 place) ∙ ap measureSound (number-from 4 place (recordFrom image i + 4 * j) (f ∙ ap (λ (p : ℕ). p + 4 * j) e)) in
       ap₂ _&&_ (one here 0 (omega arith))
@@ -260,7 +266,8 @@ module _ (image : List ℕ) where
       let from : countFrom (slotsBefore image k) (builtIn image k) ≡ countFrom (slotsUpTo image k) (builtAt image k) =
       ap₂ countFrom (before-read k) (built-read k) in
       ap₂ _&&_ (every-map (rowIn image) fieldsPass (slotSound image) slot-sound _ ∙ ap (every (slotSound image)) from)
-      (ap₂ eqb (count-map (rowIn image) isLive (λ i. eqb (markIn image i) 0) live-mark _ ∙ ap (λ (is : List ℕ). length (select (λ i. eqb (markIn image i) 0) is)) from) (live-read k))
+      (ap₂ eqb (count-map (rowIn image) isLive (λ i. eqb (markIn image i) 0) live-mark _
+      ∙ ap (λ (is : List ℕ). length (select (λ i. eqb (markIn image i) 0) is)) from) (live-read k))
 
   all-sound : allFieldsPass image ≡ allFieldsSound image
   unfolding allFieldsPass allFieldsSound bucketsOf
@@ -276,14 +283,16 @@ module _ (image : List ℕ) where
       (test-buckets (λ k. sizePasses k (builtIn image k) (liveIn image k)) (sizesSound image) (orderIn image) (λ k h. size-sound k)
       ∙ ap (λ (n : ℕ). every (sizesSound image) (countFrom 0 n)) next-read)
       (ap₂ leb
-      (ap total (map-count (liveIn image) (liveAt image) 0 (suc (orderIn image)) (λ j l m. live-read j)) ∙ ap (λ (n : ℕ). total (map (liveAt image) (countFrom 0 n))) next-read)
+      (ap total (map-count (liveIn image) (liveAt image) 0 (suc (orderIn image)) (λ j l m. live-read j))
+      ∙ ap (λ (n : ℕ). total (map (liveAt image) (countFrom 0 n))) next-read)
       (ap (λ (n : ℕ). 2 ^ n) order-read))
     where
       size-sound : (k : ℕ) → sizePasses k (builtIn image k) (liveIn image k) ≡ sizesSound image k
       size-sound k = ap₂ (sizePasses k) (built-read k) (live-read k) ∙ size-by image k
 
   -- the days: a form below 2 has none, and what is read in their place is 1
-  day-by : (form at to place : ℕ) → to ≡ place → dayOf (fieldsAt image tagFields at ++ fieldsAt image (recordFields form) to ++ dayAs form) ≡ dayRead form image place
+  day-by : (form at to place : ℕ) → to ≡ place
+      → dayOf (fieldsAt image tagFields at ++ fieldsAt image (recordFields form) to ++ dayAs form) ≡ dayRead form image place
   unfolding fieldsAt tagFields recordFields dayFields dayAs dayOf word dayAt dayRead
   day-by zero at to place e = refl
   day-by (suc zero) at to place e = refl
@@ -293,16 +302,19 @@ module _ (image : List ℕ) where
 
   pub day-read : (i : ℕ) → dayOf (rowIn image i) ≡ dayRead (formBytes image) image (recordFrom image i)
   unfolding rowIn
-  day-read i = day-by (formIn image) (tag-place i) (record-place i) (recordFrom image i) (record-from i) ∙ ap (λ (form : ℕ). dayRead form image (recordFrom image i)) form-read
+  day-read i =
+      day-by (formIn image) (tag-place i) (record-place i) (recordFrom image i) (record-from i)
+      ∙ ap (λ (form : ℕ). dayRead form image (recordFrom image i)) form-read
 
   days-by : (form : ℕ) (is : List ℕ)
-      → every (λ i. leb 1 (dayRead form image (recordFrom image i))) is ≡ not (ltb 1 form && any (λ i. eqb (numberAt image (recordFrom image i + 40) 2) 0) is)
+      → every (λ i. leb 1 (dayRead form image (recordFrom image i))) is ≡ not (ltb 1 form && any (λ i. eqb (numberFrom image (recordFrom image i + 40) 2) 0) is)
   unfolding dayRead
   days-by zero is = every-true is
   days-by (suc zero) is = every-true is
   days-by (suc (suc form)) is =
-      every-not-any (λ i. leb 1 (numberAt image (recordFrom image i + 40) 2)) (λ i. eqb (numberAt image (recordFrom image i + 40) 2) 0) (λ i. some-not-none (numberAt image (recordFrom image i + 40) 2)) is
-      ∙ ap (λ (b : Bool). not (b && any (λ i. eqb (numberAt image (recordFrom image i + 40) 2) 0) is)) (sym (lt-ltb 1 (suc (suc form)) (omega arith)))
+      every-not-any (λ i. leb 1 (numberFrom image (recordFrom image i + 40) 2)) (λ i. eqb (numberFrom image (recordFrom image i + 40) 2) 0)
+      (λ i. some-not-none (numberFrom image (recordFrom image i + 40) 2)) is
+      ∙ ap (λ (b : Bool). not (b && any (λ i. eqb (numberFrom image (recordFrom image i + 40) 2) 0) is)) (sym (lt-ltb 1 (suc (suc form)) (omega arith)))
 
   days-sound : daysPass image ≡ not (dayMissing image)
   unfolding daysPass dayMissing
@@ -312,14 +324,14 @@ module _ (image : List ℕ) where
       ∙ days-by (formBytes image) (countFrom 0 (slotsInAll image))
 
   -- the weights, which form 0 does not have
-  weights-by : (form : ℕ) → validWeights (weightsAs form image) ≡ not (ltb 0 form && any (λ i. ltb 100 (numberAt image (4 + i) 1)) (0 ∷ 1 ∷ 2 ∷ 3 ∷ []))
+  weights-by : (form : ℕ) → validWeights (weightsAs form image) ≡ not (ltb 0 form && any (λ i. ltb 100 (numberFrom image (4 + i) 1)) (0 ∷ 1 ∷ 2 ∷ 3 ∷ []))
   unfolding weightsAs weightsOne validWeights mostWeight weightFields startBytes startFields fieldsAt total every any
   weights-by zero = refl
   weights-by (suc form) =
-      let one : (i : ℕ) → leb (reader.numberAt image 1 (4 + i)) 100 ≡ not (ltb 100 (numberAt image (4 + i) 1)) =
-      λ i. ap (λ (n : ℕ). leb n 100) (number-read image 1 (4 + i)) ∙ most-above (numberAt image (4 + i) 1) 100 in
-      every-not-any (λ i. leb (reader.numberAt image 1 (4 + i)) 100) (λ i. ltb 100 (numberAt image (4 + i) 1)) one (0 ∷ 1 ∷ 2 ∷ 3 ∷ [])
-      ∙ ap (λ (b : Bool). not (b && any (λ i. ltb 100 (numberAt image (4 + i) 1)) (0 ∷ 1 ∷ 2 ∷ 3 ∷ []))) (sym (lt-ltb 0 (suc form) (omega arith)))
+      let one : (i : ℕ) → leb (reader.numberAt image 1 (4 + i)) 100 ≡ not (ltb 100 (numberFrom image (4 + i) 1)) =
+      λ i. ap (λ (n : ℕ). leb n 100) (number-read image 1 (4 + i)) ∙ most-above (numberFrom image (4 + i) 1) 100 in
+      every-not-any (λ i. leb (reader.numberAt image 1 (4 + i)) 100) (λ i. ltb 100 (numberFrom image (4 + i) 1)) one (0 ∷ 1 ∷ 2 ∷ 3 ∷ [])
+      ∙ ap (λ (b : Bool). not (b && any (λ i. ltb 100 (numberFrom image (4 + i) 1)) (0 ∷ 1 ∷ 2 ∷ 3 ∷ []))) (sym (lt-ltb 0 (suc form) (omega arith)))
 
   weights-sound : validWeights (spaceIn image .weights) ≡ not (weightTooLarge image)
   unfolding spaceIn weightTooLarge
@@ -335,8 +347,10 @@ module _ (image : List ℕ) where
   load-refusal rows =
       let n = length image in
       let ordered : (leb 0 (orderIn image) && leb (orderIn image) 12) ≡ not (ltb 12 (orderByte image)) =
-      ap (λ (b : Bool). b && leb (orderIn image) 12) (le-leb 0 (orderIn image) (omega arith)) ∙ most-above (orderIn image) 12 ∙ ap (λ (t : ℕ). not (ltb 12 t)) order-read in
-      let measured : leb (spaceIn image .metric) 2 ≡ not (ltb 2 (metricByte image)) = most-above (spaceIn image .metric) 2 ∙ ap (λ (m : ℕ). not (ltb 2 m)) metric-read in
+      ap (λ (b : Bool). b && leb (orderIn image) 12) (le-leb 0 (orderIn image) (omega arith)) ∙ most-above (orderIn image) 12
+      ∙ ap (λ (t : ℕ). not (ltb 12 t)) order-read in
+      let measured : leb (spaceIn image .metric) 2 ≡ not (ltb 2 (metricByte image)) =
+      most-above (spaceIn image .metric) 2 ∙ ap (λ (m : ℕ). not (ltb 2 m)) metric-read in
       let formed : leb (formIn image) 2 ≡ not (ltb 2 (formBytes image)) = most-above (formIn image) 2 ∙ ap (λ (m : ℕ). not (ltb 2 m)) form-read in
       let rowsFor : orderIn image + 1 + 2 ^ suc (orderIn image) ≡ orderByte image + 1 + 2 ^ (orderByte image + 1) =
       ap₂ (λ (a b : ℕ). a + 1 + 2 ^ b) order-read next-read in
@@ -349,7 +363,8 @@ module _ (image : List ℕ) where
       (stops-alike (ltb n (tagsFrom image)) badLength (ap (λ (m : ℕ). leb m n) tags-read ∙ most-above (tagsFrom image) n)
       (passes-alike (allSizesSound image) badTable sizes-sound
       (passes-alike (eqb n (tagsFrom image + (8 + recordSize (formBytes image)) * slotsInAll image)) badLength (ap (eqb n) length-sound)
-      (stops-alike (ltb rows (orderByte image + 1 + 2 ^ (orderByte image + 1))) shortArea (ap (λ (m : ℕ). leb m rows) rowsFor ∙ most-above (orderByte image + 1 + 2 ^ (orderByte image + 1)) rows)
+      (stops-alike (ltb rows (orderByte image + 1 + 2 ^ (orderByte image + 1))) shortArea
+      (ap (λ (m : ℕ). leb m rows) rowsFor ∙ most-above (orderByte image + 1 + 2 ^ (orderByte image + 1)) rows)
       (stops-alike (dayMissing image) badDay days-sound
       (passes-alike (allFieldsSound image) badImage all-sound
       refl)))))))))))
@@ -364,7 +379,7 @@ unfolding behindLength
 behind-is states name named = omega (arith, part-length-is states name named, length-drop 4 (partOf states name))
 
 -- a test that stops, and the rest where it does not
-stops-if : {passes : Bool} (met : Bool) (number : ℕ) {rest after : ℕ} → passes ≡ not met → (met ≡ false → rest ≡ after)
+pub stops-if : {passes : Bool} (met : Bool) (number : ℕ) {rest after : ℕ} → passes ≡ not met → (met ≡ false → rest ≡ after)
     → unless passes number rest ≡ when met number after
 stops-if true number {rest} e f = ap (λ (b : Bool). unless b number rest) e
 stops-if false number {rest} e f = ap (λ (b : Bool). unless b number rest) e ∙ f refl
@@ -436,30 +451,3 @@ module _ (states : List ℕ) (name : ℕ) where
       let c = when-zero (eqb (lengthIn states name) 0) notSaved _ (omega arith) (b .1) in
       let d = when-zero (ltb (size - 4) (lengthIn states name)) badLength 0 (omega arith) (c .1) in
       image-alike (omega (arith, ltb-false size 4 (b .0), ltb-false (size - 4) (lengthIn states name) (d .0)))
-
--- what is shown of a reply
-by-slot : (n : ℕ) (reply : Loaded)
-    → shows (orLoaded n reply .refusal) (aSlot (orLoaded n reply .slot)) ≡ orShown n (shows (reply .refusal) (aSlot (reply .slot)))
-by-slot zero reply = refl
-by-slot (suc n) reply = refl
-
-abbrev shownBy : Loaded → Shown
-shownBy reply = shows (reply .refusal) (aSlot (reply .slot))
-
-pub load-shown : (rows : ℕ) (image : List ℕ) → shownBy (loadReply rows image) ≡ loadShown rows image
-unfolding loadReply loadShown treesShown
-load-shown rows image =
-    by-slot (fieldsRefusal rows image) (treesIn image) ∙ ap (λ (n : ℕ). orShown n (shownBy (treesIn image))) (load-refusal image rows)
-
-pub restore-shown : (rows : ℕ) (states : List ℕ) (name : ℕ)
-    → shownBy (restoreReply rows states name) ≡ orShown (restoreRefusalOf states name) (loadShown rows (imageIn states name))
-unfolding restoreReply
-restore-shown rows states name =
-    by-slot (nameRefusal states name) (loadReply rows (savedImage (partOf states name)))
-    ∙ ap₂ orShown (restore-refusal states name) (load-shown rows (savedImage (partOf states name)))
-    ∙ go (restoreRefusalOf states name) (restored-image states name)
-  where
-    go : (n : ℕ) → (n ≡ 0 → savedImage (partOf states name) ≡ imageIn states name)
-        → orShown n (loadShown rows (savedImage (partOf states name))) ≡ orShown n (loadShown rows (imageIn states name))
-    go zero h = ap (loadShown rows) (h refl)
-    go (suc n) h = refl

@@ -1,5 +1,5 @@
--- Calls lent the same areas one after the other, long enough for the model's order: each is refused as the model's own tests say, so never by 6, 23 or 24, and leaves
--- areas that are long enough and a table that matches the model. At most 2^T items are live, so 2^T entries hold every reply.
+-- Calls lent the same areas one after the other, long enough for the model's order: each is refused as the model's own tests say, so never by 6, 23 or 24, and
+-- leaves areas that are long enough and a table that matches the model. At most 2^T items are live, so 2^T entries hold every reply.
 use Prim.Native.Nat.{ℕ, zero, suc, _^_, _-_, _≤_, _<_}
 use native.Mathlib.Omega.{arith}
 use mathlib.Core.Path.{_≡_, refl, sym, _∙_, ap, ap₂, subst}
@@ -13,7 +13,6 @@ use Rattle.lists.specs.Lists.{select}
 use Rattle.metric_rules.specs.declared.Profile.{Profile}
 use Rattle.metric_rules.specs.declared.Space.{Space}
 use Rattle.metric_rules.specs.Row.{Row, IsProfile, zeroRow}
-use Rattle.metric_rules.specs.Validity.{validMeasures}
 use Rattle.tree_rules.proofs.Sorting.{sort-length}
 use Rattle.search_rules.specs.Range.{Entry, entryDistance, entryKey, ordered}
 use Rattle.search_rules.proofs.Selecting.{select-few}
@@ -26,7 +25,9 @@ use Rattle.table_rules.specs.Remove.{removeRefusal, removed, removeReply, table
 use Rattle.table_rules.specs.Search.{Answer, rangeRefusal, nearestRefusal, zeroEntry, resultAfter}
 use Rattle.table_rules.proofs.Sizes.{sizes-total}
 use Rattle.call_rules.specs.Calls.Begin.{fresh}
-use Rattle.history.specs.Model.{Item, Model, with, without, canChange, tagRefusal, itemRefusal, addRefusalOf, removeRefusalOf, afterUnless, scanned, modelRange, modelNearest, fits, questionRefusal, askRefusal, modelBegun}
+use Rattle.history.specs.Figures.{measuresWithin}
+use Rattle.history.specs.Model.{Item, Model, with, without, canChange, tagRefusal, itemRefusal, addRefusalOf, removeRefusalOf, afterUnless, scanned}
+use Rattle.history.specs.Model.{modelRange, modelNearest, fits, questionRefusal, askRefusal, modelBegun}
 use Rattle.history.proofs.RefinesItems.{Matches, live-total}
 pub use Rattle.history.proofs.RefinesItems.{range-alike, nearest-alike}
 pub use Rattle.history.proofs.RefinesRefusals.{begun-alike}
@@ -78,7 +79,8 @@ nearest-few m q k firstDay =
     omega (arith, length-take k (ordered scan), sort-length entryKey scan, scanned-few m q firstDay)
 
 -- an accepted fresh
-pub fresh-served : (order : ℕ) (space : Space) → length (space .weights .each) ≡ 4 → (t : Table) (work : List Row) (result : List Entry) → freshRefusal (length t) order space ≡ 0
+pub fresh-served : (order : ℕ) (space : Space) → length (space .weights .each) ≡ 4 → (t : Table) (work : List Row) (result : List Entry)
+    → freshRefusal (length t) order space ≡ 0
     → workRows order ≤ length work → room order ≤ length result → Served (tableAfterFresh order space t) work result (modelBegun (fresh order space))
 unfolding modelBegun
 fresh-served order space four t work result e enough fit = record { matches = fresh-matches order space four t e; work-long = enough; result-long = fit }
@@ -157,18 +159,18 @@ module _ {t : Table} {work : List Row} {result : List Entry} {m : Model} (s : Se
         s .result-long,
       )))
 
-  pub range-refused : (q : Profile) (r firstDay : ℕ) → rangeRefusal t result q r firstDay ≡ unless (validMeasures q) badMeasure 0
+  pub range-refused : (q : Profile) (r firstDay : ℕ) → rangeRefusal t result q r firstDay ≡ unless (measuresWithin q) badMeasure 0
   unfolding askRefusal questionRefusal
   range-refused q r firstDay =
       range-refusal m t (inl (s .matches)) q r firstDay result
-      ∙ ap₂ (λ (b : Bool) (n : ℕ). unless b shortArea (unless (validMeasures q) badMeasure n))
+      ∙ ap₂ (λ (b : Bool) (n : ℕ). unless b shortArea (unless (measuresWithin q) badMeasure n))
       (can-read m t (s .matches)) (few-fit (modelRange m q r firstDay) (range-few m q r firstDay))
 
-  pub nearest-refused : (q : Profile) (k firstDay : ℕ) → nearestRefusal t result q k firstDay ≡ unless (validMeasures q) badMeasure (when (eqb k 0) noCount 0)
+  pub nearest-refused : (q : Profile) (k firstDay : ℕ) → nearestRefusal t result q k firstDay ≡ unless (measuresWithin q) badMeasure (when (eqb k 0) noCount 0)
   unfolding askRefusal questionRefusal
   nearest-refused q k firstDay =
       nearest-refusal m t (inl (s .matches)) q k firstDay result
-      ∙ ap₂ (λ (b : Bool) (n : ℕ). unless b shortArea (unless (validMeasures q) badMeasure (when (eqb k 0) noCount n)))
+      ∙ ap₂ (λ (b : Bool) (n : ℕ). unless b shortArea (unless (measuresWithin q) badMeasure (when (eqb k 0) noCount n)))
       (can-read m t (s .matches)) (few-fit (modelNearest m q k firstDay) (nearest-few m q k firstDay))
 
   pub search-served : (n : ℕ) (a : Answer) → Served t work (resultAfter n result a) m

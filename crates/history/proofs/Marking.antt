@@ -33,7 +33,7 @@ use Rattle.history.proofs.Invariant.{Weighed}
 use Rattle.history.proofs.ByBucket.{Good, GoodBucket, ByBucket, by-bucket-roomy, by-bucket-changed}
 use Rattle.history.proofs.InvariantForms.{by-bucket-good, by-bucket-held}
 
-all-set : {A : Type 0} (P : A → Type 0) (xs : List A) (i : ℕ) (a : A) → P a → All P xs → All P (set xs i a)
+pub all-set : {A : Type 0} (P : A → Type 0) (xs : List A) (i : ℕ) (a : A) → P a → All P xs → All P (set xs i a)
 all-set P [] i a h k = tt
 all-set P (x ∷ xs) zero a h k = (h, k .1)
 all-set P (x ∷ xs) (suc i) a h k = (k .0, all-set P xs i a h (k .1))

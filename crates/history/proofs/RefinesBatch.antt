@@ -18,7 +18,8 @@ use Rattle.table_rules.specs.Table.{Table}
 use Rattle.table_rules.specs.Checks.{readRefusal}
 use Rattle.table_rules.specs.Search.{Answer, zeroEntry}
 use Rattle.table_rules.proofs.Chains.{or-zero, unless-zero}
-use Rattle.batch_rules.specs.Batch.{mostQueries, singleAnswer, singleAnswers, partSize, partWith, partsWith, queriesRefusal, partsRefusal, batchRefusal, foundBy, rangesReply, resultAfterParts, batchCount}
+use Rattle.batch_rules.specs.Batch.{mostQueries, singleAnswer, singleAnswers, partSize, partWith, partsWith, queriesRefusal, partsRefusal, batchRefusal}
+use Rattle.batch_rules.specs.Batch.{foundBy, rangesReply, resultAfterParts, batchCount}
 use Rattle.batch_rules.proofs.Lists.{result-length, part-first, part-behind}
 use Rattle.history.specs.Trace.{shows, zeroed, listedIn}
 use Rattle.history.specs.Trace.Payload.{someLists}
@@ -40,7 +41,8 @@ listed-all size (a ∷ answers) fit n behind =
     let area = append-assoc (partWith size a) (partsWith size answers) behind in
     ap (λ (xs : List Entry). take (length (a .entries)) xs ++ listedIn size (map (λ b. length (b .entries)) answers ++ replicate n 0) (drop size xs)) area
     ∙ ap₂ _++_ (part-first size a rest)
-    (ap (listedIn size (map (λ b. length (b .entries)) answers ++ replicate n 0)) (part-behind size a rest (fit .0)) ∙ listed-all size answers (fit .1) n behind)
+    (ap (listedIn size (map (λ b. length (b .entries)) answers ++ replicate n 0)) (part-behind size a rest (fit .0))
+    ∙ listed-all size answers (fit .1) n behind)
 
 all-listed : (size : ℕ) (answers : List Answer) → All (λ a. length (a .entries) ≤ size) answers → (area : List Entry)
     → listedIn size (foundBy answers) (resultAfterParts 0 area size answers) ≡ flatten (map (λ a. a .entries) answers)
@@ -48,18 +50,20 @@ unfolding foundBy resultAfterParts
 all-listed size answers fit area = listed-all size answers fit (mostQueries - length answers) (replicate (length area - length answers * size) zeroEntry)
 
 found-each : (answers : List Answer) → foundEach (map (λ a. a .entries) answers) ≡ someLists (foundBy answers) (flatten (map (λ a. a .entries) answers))
-unfolding foundEach foundBy
+unfolding foundEach foundBy mostQueries
 found-each answers =
     ap₂ (λ (numbers : List ℕ) (n : ℕ). someLists (numbers ++ replicate (mostQueries - n) 0) (flatten (map (λ a. a .entries) answers)))
     (map-map length (λ a. a .entries) answers) (length-map answers (λ a. a .entries))
 
 -- an accepted call's lists fit their parts
-accepted-fits : (t : Table) (area : List Entry) (queries : List Row) → batchRefusal t area queries ≡ 0 → All (λ a. length (a .entries) ≤ partSize area queries) (singleAnswers t queries)
+accepted-fits : (t : Table) (area : List Entry) (queries : List Row) → batchRefusal t area queries ≡ 0
+    → All (λ a. length (a .entries) ≤ partSize area queries) (singleAnswers t queries)
 unfolding batchRefusal partsRefusal
 accepted-fits t area queries e =
     let parts = or-zero (queriesRefusal queries) _ (or-zero (readRefusal t) _ e .1) .1 in
     let fits = unless-zero (every (λ a. leb (length (a .entries)) (partSize area queries)) (singleAnswers t queries)) noRoom 0 (omega arith) parts .0 in
-    all-weaken (λ a h. leb-true (length (a .entries)) (partSize area queries) h) (singleAnswers t queries) (every-all (λ a. leb (length (a .entries)) (partSize area queries)) (singleAnswers t queries) fits)
+    all-weaken (λ a h. leb-true (length (a .entries)) (partSize area queries) h) (singleAnswers t queries)
+    (every-all (λ a. leb (length (a .entries)) (partSize area queries)) (singleAnswers t queries) fits)
 
 answers-room : (t : Table) (area : List Entry) (queries : List Row) → length (singleAnswers t queries) * partSize area queries ≤ length area
 unfolding singleAnswers partSize
@@ -68,10 +72,12 @@ answers-room t area queries =
 
 pub batch-shows : (t : Table) (area : List Entry) (queries : List Row) (n : ℕ) → batchRefusal t area queries ≡ n → (lists : List (List Entry))
     → (n ≡ 0 → map (λ a. a .entries) (singleAnswers t queries) ≡ lists)
-    → let reply = rangesReply n (singleAnswers t queries) (batchCount t queries) in let after = resultAfterParts n area (partSize area queries) (singleAnswers t queries) in
+    → let reply = rangesReply n (singleAnswers t queries) (batchCount t queries) in
+    let after = resultAfterParts n area (partSize area queries) (singleAnswers t queries) in
     shows (reply .refusal) (someLists (reply .found) (listedIn (partSize after queries) (reply .found) after)) ≡ showsUnless n (foundEach lists)
 unfolding rangesReply showsUnless zeroed foundEach partSize
-batch-shows t area queries (suc n) e lists alike = ap (λ (es : List Entry). shows (suc n) (someLists (replicate mostQueries 0) es)) (listed-none mostQueries _ _)
+batch-shows t area queries (suc n) e lists alike =
+    ap (λ (es : List Entry). shows (suc n) (someLists (replicate mostQueries 0) es)) (listed-none mostQueries _ _)
 batch-shows t area queries zero e lists alike =
     let answers = singleAnswers t queries in
     let size = partSize area queries in

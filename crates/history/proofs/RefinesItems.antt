@@ -12,7 +12,7 @@ use Rattle.lists.specs.Lists.{every, select, total, All}
 use Rattle.lists.proofs.Lists.{all-weaken, perm-length, perm-map, map-where, map-alike}
 use Rattle.lists.proofs.Tests.{and-second, every-all}
 use Rattle.metric_rules.specs.declared.Profile.{Profile}
-use Rattle.metric_rules.specs.Row.{tagOf, profileOf, measure, Row, thresholdOf}
+use Rattle.metric_rules.specs.Row.{Row, word, thresholdAt, dayAt, tagOf, profileOf, thresholdOf, dayOf, measure}
 use Rattle.metric_rules.specs.declared.Space.{Space}
 use Rattle.metric_rules.specs.Distance.{distance}
 use Rattle.search_rules.specs.Range.{Entry, entry, ordered, entryOf, toQuery}
@@ -81,7 +81,7 @@ module _ {t : Table} {m : Model} (matches : Matches t m) where
 
   -- each query of a batch is answered by its scan
   pub ranges-alike : (queries : List Row) → map (λ a. a .entries) (singleAnswers t queries) ≡ modelRanges m queries
-  unfolding singleAnswers singleAnswer modelRanges
+  unfolding singleAnswers singleAnswer modelRanges thresholdOf firstDayOf dayOf word thresholdAt dayAt
   ranges-alike queries =
       map-map (λ a. a .entries) (singleAnswer t) queries
       ∙ map-alike (λ query. range-alike (profileOf query) (thresholdOf query) (firstDayOf query)) queries

@@ -1,11 +1,11 @@
--- Lots alike: the live items by tag are the model's by tag, since no live tag occurs twice, and lots go by distances and tags alone. An accepted drafting shows its summary and
--- the entries of its listing, which all have a lot's number, and no zeros behind them.
-use Prim.Native.Nat.{ℕ, zero, suc, _-_, _≤_}
+-- Lots alike: the live items by tag are the model's by tag, since no live tag occurs twice, and lots go by distances and tags alone. An accepted drafting shows
+-- its summary and the entries of its listing, which all have a lot's number, and no zeros behind them.
+use Prim.Native.Nat.{ℕ, zero, suc, _-_, _^_, _≤_}
 use native.Mathlib.Omega.{arith}
 use mathlib.Core.Path.{_≡_, refl, sym, _∙_, ap, ap₂}
-use mathlib.Core.Bool.{Bool, true, false, _&&_}
+use mathlib.Core.Bool.{Bool, true, false, not, _&&_, _||_, false≢true}
 use mathlib.Core.List.{List, [], _∷_, _++_, map}
-use lib.Dec.{leb}
+use lib.Dec.{leb, ltb}
 use lib.ListN.{length, take, replicate, length-map, getD}
 use lib.Seq.{take-at}
 use Rattle.lists.specs.Lists.{All}
@@ -15,23 +15,27 @@ use Rattle.metric_rules.specs.Row.{Row, tagOf}
 use Rattle.metric_rules.specs.declared.Space.{Space}
 use Rattle.tree_rules.proofs.Sorting.{Determined, sort-map, sort-permuted, sort-length}
 use Rattle.search_rules.specs.Range.{Entry, entry, entryDistance}
-use Rattle.table_rules.specs.Refusals.{shortArea, noRoom, unless, orElse}
-use Rattle.table_rules.specs.Geometry.{bucketsOf, workRows}
+use Rattle.table_rules.specs.Refusals.{shortArea, noRoom, unless, when, orElse}
+use Rattle.table_rules.specs.Geometry.{bucketsOf}
 use Rattle.table_rules.specs.Table.{Table, orderOf}
 use Rattle.table_rules.specs.Search.{zeroEntry}
 use Rattle.table_rules.specs.Rebuild.{liveItems}
 use Rattle.table_rules.specs.Checks.{changeRefusal}
 use Rattle.lots_rules.specs.Lots.{Summary, byTag, lots, summaryOf, listingOf}
-use Rattle.lots_rules.specs.Drafting.{badRadii, radiiPass, chosenRadius, draftedItems, betweenRows, tableLots, tableSummaries, tableListing, draftFits, lotsRefusal, answerIn, zeroSummary, summaryAfterLots, listingAfterLots}
+use Rattle.lots_rules.specs.Drafting.{badRadii, chosenRadius, draftedItems, betweenRows, tableLots, tableSummaries, tableListing, draftFits, lotsRefusal}
+use Rattle.lots_rules.specs.Drafting.{answerIn, zeroSummary, summaryAfterLots, listingAfterLots}
 use Rattle.lots_rules.proofs.Mapped.{lots-map, summary-map, listing-map}
 use Rattle.lots_rules.proofs.Listing.{numbered-from}
 use Rattle.call_rules.specs.Calls.{DraftAreas, Ask, areasAnswered}
 use Rattle.history.specs.Trace.{zeroed, shows, draftedIn, draftIn}
 use Rattle.history.specs.Trace.Payload.{aDraft}
-use Rattle.history.specs.Model.{Item, itemOf, Model, canRead, canChange, betweenItems, modelLots, modelSummaries, modelListing, askLengths, questionRefusal, askRefusal, showsUnless}
+use Rattle.history.specs.Model.{Item, itemOf, Model, canRead, canChange, betweenItems, modelLots, modelSummaries, modelListing, askLengths, lotsRefusalOf}
+use Rattle.history.specs.Model.{questionRefusal, askRefusal, showsUnless}
 use Rattle.history.specs.Represents.{itemsIn}
 use Rattle.history.proofs.RefinesItems.{Matches}
 use Rattle.history.proofs.RefinesRefusals.{Lendable, readable, change-refusal}
+use Rattle.history.proofs.LoadTests.{most-above, not-any, stops-alike}
+use Rattle.history.proofs.Figured.{radii-figured, greatest-is, listing-figured}
 
 module _ {t : Table} {m : Model} (matches : Matches t m) where
   abbrev live : List Row
@@ -61,27 +65,44 @@ module _ {t : Table} {m : Model} (matches : Matches t m) where
       ∙ ap (lots (betweenItems m) r) items-by-tag
 
   pub summaries-alike : (radii : List ℕ) → tableSummaries t radii ≡ modelSummaries m radii
-  unfolding tableSummaries modelSummaries
-  summaries-alike radii = map-alike (λ r. sym (summary-map itemOf (tableLots t r)) ∙ ap summaryOf (lots-alike r)) radii
+  unfolding tableSummaries modelSummaries summaryOf
+  summaries-alike radii =
+      map-alike (λ r. sym (summary-map itemOf (tableLots t r)) ∙ ap summaryOf (lots-alike r)
+      ∙ ap (λ (most : ℕ). length (modelLots m r) ∷ most ∷ []) (greatest-is (map length (modelLots m r)))) radii
 
   pub listing-alike : (radii : List ℕ) (chosen : ℕ) → tableListing t radii chosen ≡ modelListing m radii chosen
-  unfolding tableListing modelListing itemOf
+  unfolding tableListing modelListing chosenRadius itemOf
   listing-alike radii chosen =
-      let r = chosenRadius radii chosen in
-      sym (listing-map itemOf (λ i. i .tag) (tableLots t r)) ∙ ap (listingOf (λ i. i .tag)) (lots-alike r)
+      let r = getD radii (chosen - 1) 0 in
+      sym (listing-map itemOf (λ i. i .tag) (tableLots t r)) ∙ ap (listingOf (λ i. i .tag)) (lots-alike r) ∙ listing-figured (λ i. i .tag) (modelLots m r)
 
 -- 23 for the table, then for the work area
-stopped-by-work : (stop : ℕ) (can roomy : Bool) (rest model : ℕ) → stop ≡ unless (can && roomy) shortArea 0 → (can ≡ true → rest ≡ model) → orElse stop rest ≡ unless can shortArea (unless roomy shortArea model)
-stopped-by-work stop true true rest model e f = ap (λ (n : ℕ). orElse n rest) e ∙ f refl
-stopped-by-work stop true false rest model e f = ap (λ (n : ℕ). orElse n rest) e
-stopped-by-work stop false roomy rest model e f = ap (λ (n : ℕ). orElse n rest) e
+stopped-by-work : (stop : ℕ) (can roomy : Bool) (short : Bool) (rest model : ℕ) → stop ≡ unless (can && roomy) shortArea 0 → roomy ≡ not short
+    → (can ≡ true → rest ≡ model)
+    → orElse stop rest ≡ unless can shortArea (when short shortArea model)
+stopped-by-work stop true true true rest model e f g = absurd (false≢true (sym f))
+stopped-by-work stop true true false rest model e f g = ap (λ (n : ℕ). orElse n rest) e ∙ g refl
+stopped-by-work stop true false true rest model e f g = ap (λ (n : ℕ). orElse n rest) e
+stopped-by-work stop true false false rest model e f g = absurd (false≢true f)
+stopped-by-work stop false roomy short rest model e f g = ap (λ (n : ℕ). orElse n rest) e
 
 pub lots-refusal : (m : Model) (t : Table) → Lendable t m → (radii : List ℕ) (chosen : ℕ) (areas : DraftAreas)
-    → lotsRefusal t (areas .work) (areas .summary) (areas .listing) radii chosen ≡ askRefusal m (Ask.lots radii chosen) (length t) (askLengths (Ask.lots radii chosen) areas)
-unfolding lotsRefusal draftFits askRefusal questionRefusal canChange
+    → lotsRefusal t (areas .work) (areas .summary) (areas .listing) radii chosen
+    ≡ askRefusal m (Ask.lots radii chosen) (length t) (askLengths (Ask.lots radii chosen) areas)
+unfolding lotsRefusal draftFits askRefusal questionRefusal lotsRefusalOf canChange
 lots-refusal m t lendable radii chosen areas =
-    stopped-by-work (changeRefusal (length (areas .work)) t) (canRead m (length t)) (leb (workRows (m .order)) (length (areas .work))) _ _ (change-refusal m t (length (areas .work)) lendable)
-    (λ e. ap (λ (n : ℕ). unless (radiiPass radii chosen) badRadii (unless (leb (length radii) (length (areas .summary)) && leb n (length (areas .listing))) noRoom 0)) (items-counted (readable m t lendable e)))
+    let n = length radii in
+    let i = length (m .items) in
+    let work = length (areas .work) in
+    let summary = length (areas .summary) in
+    let listing = length (areas .listing) in
+    stopped-by-work (changeRefusal work t) (canRead m (length t)) (leb (2 ^ m .order) work) (ltb work (2 ^ m .order)) _ _ (change-refusal m t work lendable)
+    (most-above (2 ^ m .order) work)
+    (λ e. stops-alike (ltb n 1 || ltb 32 n || (ltb chosen 1 || ltb n chosen)) badRadii (radii-figured radii chosen)
+    (stops-alike (ltb summary n || ltb listing i) noRoom
+    (ap₂ _&&_ (most-above n summary) (ap (λ (k : ℕ). leb k listing) (items-counted (readable m t lendable e)) ∙ most-above i listing)
+    ∙ not-any (ltb summary n) (ltb listing i))
+    refl))
 
 -- zeros end a listing, whatever stands behind them
 listed-ends : (rest : List Entry) → draftedIn (zeroEntry ∷ rest) ≡ []
@@ -112,11 +133,14 @@ module _ (t : Table) (radii : List ℕ) (chosen : ℕ) (areas : DraftAreas) wher
   accepted-draft e =
       ap₂ aDraft
       (ap (λ (n : ℕ). take (length radii) (answerIn zeroSummary n (areas .summary) (tableSummaries t radii))) e
-      ∙ take-at (tableSummaries t radii) (replicate (length (areas .summary) - length (tableSummaries t radii)) zeroSummary) (length radii) (length-map radii (λ r. summaryOf (tableLots t r))))
+      ∙ take-at (tableSummaries t radii) (replicate (length (areas .summary) - length (tableSummaries t radii)) zeroSummary) (length radii)
+      (length-map radii (λ r. summaryOf (tableLots t r))))
       (ap (λ (n : ℕ). draftedIn (answerIn zeroEntry n (areas .listing) (tableListing t radii chosen))) e
-      ∙ listed-all (tableListing t radii chosen) (length (areas .listing) - length (tableListing t radii chosen)) (numbered-from tagOf 1 (tableLots t (chosenRadius radii chosen))))
+      ∙ listed-all (tableListing t radii chosen) (length (areas .listing) - length (tableListing t radii chosen))
+      (numbered-from tagOf 1 (tableLots t (chosenRadius radii chosen))))
 
-  pub shows-draft : (summary : List Summary) (listing : List Entry) (n : ℕ) → refusal ≡ n → (n ≡ 0 → (tableSummaries t radii ≡ summary) × (tableListing t radii chosen ≡ listing))
+  pub shows-draft : (summary : List Summary) (listing : List Entry) (n : ℕ) → refusal ≡ n
+      → (n ≡ 0 → (tableSummaries t radii ≡ summary) × (tableListing t radii chosen ≡ listing))
       → shows refusal (draftIn refusal radii (areasAnswered (Ask.lots radii chosen) t areas)) ≡ showsUnless n (aDraft summary listing)
   unfolding showsUnless zeroed draftIn
   shows-draft summary listing zero e alike =

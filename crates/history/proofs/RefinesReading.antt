@@ -14,14 +14,15 @@ use Rattle.lists.proofs.Tests.{and-pass}
 use Rattle.metric_rules.specs.declared.Profile.{Profile}
 use Rattle.metric_rules.specs.Row.{Row, zeroRow}
 use Rattle.table_rules.specs.Refusals.{shortArea, unless}
-use Rattle.table_rules.specs.Geometry.{workRows}
+use Rattle.table_rules.specs.Geometry.{room, workRows}
 use Rattle.table_rules.specs.Table.{Table, orderOf, cleared}
 use Rattle.table_rules.specs.Add.{addRefusal, addReply, added, tableAfterAdd, workAfterAdd}
 use Rattle.list_rules.specs.Lines.{ListLine, hasHeader, itemLines}
 use Rattle.list_rules.specs.Lines.ListLine.{anItem, malformed}
 use Rattle.list_rules.specs.ReadList.{Reading, badListHeader, badListLine, stopped, oneMore, reading, listReading}
 use Rattle.list_rules.proofs.Fitting.{LineFits, lines-fit}
-use Rattle.history.specs.Model.{Model, ListAnswered, with, canRead, canChange, itemRefusal, addRefusalOf, stopsAt, oneMoreAdded, linesAnswered, listAnswered}
+use Rattle.history.specs.Model.{Model, ListAnswered, with, canRead, canChange, itemRefusal, addRefusalOf, stopsAt, oneMoreAdded, linesAnswered}
+use Rattle.history.specs.Model.{listAnswered}
 use Rattle.history.proofs.RefinesItems.{Matches}
 use Rattle.history.proofs.RefinesRefusals.{Lendable, can-read, changeable, add-refusal, long-accepts}
 use Rattle.history.proofs.Changing.{matches-added}
@@ -30,7 +31,8 @@ use Rattle.history.proofs.Changing.{matches-added}
 pub data Reads : Table → List Row → Model → Reading → ListAnswered → Type 0 where
   stops : {t : Table} {work : List Row} {m : Model} (refusal line : ℕ) → Reads t work m (stopped refusal line t work) (stopsAt m refusal line)
   takesIn :
-      {t : Table} {work : List Row} {m : Model} {r : Reading} {a : ListAnswered} (tag : ℕ) (p : Profile) (day : ℕ) → Matches t m → addRefusal t work tag p day ≡ 0
+      {t : Table} {work : List Row} {m : Model} {r : Reading} {a : ListAnswered} (tag : ℕ) (p : Profile)
+      (day : ℕ) → Matches t m → addRefusal t work tag p day ≡ 0
       → Matches (tableAfterAdd t work tag p day) (with (record { tag = tag; profile = p; day = day }) m)
       → Reads (tableAfterAdd t work tag p day) (workAfterAdd t work tag p day) (with (record { tag = tag; profile = p; day = day }) m) r a
       → Reads t work m (oneMore (addReply t work tag p day .distances) r) (oneMoreAdded a)
@@ -50,7 +52,7 @@ module _ (t : Table) (work : List Row) (tag : ℕ) (p : Profile) (day : ℕ) (e 
   accepted-work = ap (λ (k : ℕ). elim k as (λ _. List Row) [ zero ↦ cleared zeroRow (workRows (orderOf t)) work | suc j ↦ work ]) e
 
 pub can-go-on : {t : Table} {m : Model} → Matches t m → (work : List Row) → workRows (orderOf t) ≤ length work → canChange m (length t) (length work) ≡ true
-unfolding canChange
+unfolding canChange workRows room
 can-go-on {t} {m} ok work roomy =
     and-pass (canRead m (length t)) (leb (workRows (m .order)) (length work)) (can-read m t ok)
     (le-leb (workRows (m .order)) (length work) (subst (λ (o : ℕ). workRows o ≤ length work) (ok .order) roomy))
@@ -86,7 +88,8 @@ reads-lines day dayFits (anItem tag p ∷ lines) fit t work m rows room i lendab
     alike = add-refusal m t work lendable tag p day ∙ ap (λ (can : Bool). unless can shortArea (itemRefusal m tag p day)) same
 
     go :
-        (Lendable u after → canChange after (length u) (length v) ≡ canChange after rows room → Reads u v after (reading day u v (suc i) lines) (linesAnswered day after rows room (suc i) lines))
+        (Lendable u after → canChange after (length u) (length v) ≡ canChange after rows room → Reads u v after (reading day u v (suc i) lines)
+        (linesAnswered day after rows room (suc i) lines))
         → (k : ℕ) → addRefusalOf m rows room tag p day ≡ k → Reads t work m (read k) (answered k)
     go others (suc r) e = stops (suc r) i
     go others zero e =
@@ -94,7 +97,8 @@ reads-lines day dayFits (anItem tag p ∷ lines) fit t work m rows room i lendab
         let here : Matches t m = changeable m t work lendable (same ∙ asked .0) in
         let accepted : addRefusal t work tag p day ≡ 0 = alike ∙ e in
         let next : Matches u after =
-        subst (λ (x : Table). Matches x after) (sym (accepted-table t work tag p day accepted)) (matches-added here tag p day (fit .0 .0) (fit .0 .1) dayFits (asked .1)) in
+        subst (λ (x : Table). Matches x after) (sym (accepted-table t work tag p day accepted))
+        (matches-added here tag p day (fit .0 .0) (fit .0 .1) dayFits (asked .1)) in
         let roomy : workRows (orderOf u) ≤ length v =
         rw (accepted-work t work tag p day accepted, next .order, sym (here .order)) (cleared-room (workRows (orderOf t)) work) in
         takesIn tag p day here accepted next (others (inl next) (can-go-on next v roomy ∙ sym (asked .0)))
@@ -126,7 +130,8 @@ reads-alike (takesIn tag p day here accepted next rest) =
     record { refusal = same .refusal; line = same .line; added = ap suc (same .added) }
 
 -- what a reading leaves matches the model again
-pub reads-matches : {t : Table} {work : List Row} {m : Model} {r : Reading} {a : ListAnswered} → Reads t work m r a → Matches t m → Matches (r .table) (a .model)
+pub reads-matches : {t : Table} {work : List Row} {m : Model} {r : Reading} {a : ListAnswered} → Reads t work m r a → Matches t m
+    → Matches (r .table) (a .model)
 unfolding stopped stopsAt oneMore oneMoreAdded
 reads-matches (stops refusal line) ok = ok
 reads-matches (takesIn tag p day here accepted next rest) ok = reads-matches rest next

@@ -1,24 +1,29 @@
 -- A sound table whose live items are the model's represents the model: every claim of demand 2 on buckets, trees and searches.
 -- Sizes that pass are more than half full, and a tag that is live once is in one bucket; the rest is the invariant and the scans.
-use Prim.Native.Nat.{ℕ, _*_, _≤_}
+use Prim.Native.Nat.{ℕ, zero, suc, _*_, _/_, _%_, _≤_, _<_}
 use mathlib.Core.Path.{_≡_, refl, sym, _∙_, ap, subst}
 use mathlib.Core.Bool.{Bool, true, false, not, _&&_, _||_}
-use mathlib.Core.List.{List, [], map, map-map, List·Permᴰ}
+use mathlib.Core.List.{List, [], _∷_, map, map-map, List·Permᴰ}
 use lib.Dec.{leb, ltb, eqb}
-use lib.ListN.{length, length-map}
+use lib.IntN.{ℤ, pos, natAbs}
+use lib.ListN.{length, getD, length-map}
 use native.Mathlib.Omega.{arith}
-use borrow.Author.Tests.{eq-eqb}
-use Rattle.lists.specs.Lists.{select, distinct}
-use Rattle.lists.proofs.Lists.{all-weaken, perm-map}
+use borrow.Author.Tests.{eq-eqb, leb-true}
+use Rattle.lists.specs.Lists.{every, select, distinct}
+use Rattle.lists.proofs.Lists.{all-weaken, all-both, perm-map}
 use Rattle.lists.proofs.Tests.{and-first, and-second, every-all, all-every}
 use Rattle.lists.proofs.Distinct.{distinct-perm}
-use Rattle.metric_rules.specs.Row.{tagOf}
+use Rattle.metric_rules.specs.Row.{Row, tagOf, profileOf, dayOf, measure}
+use Rattle.metric_rules.specs.Validity.{nationals, countryOf, nationalOf, lastCountry, lastNational, validTag, measureLimit, validMeasure, validMeasures}
+use Rattle.metric_rules.specs.Validity.{validMark}
 use Rattle.table_rules.specs.Geometry.{room, bucketsOf}
-use Rattle.table_rules.specs.Table.{Table, orderOf, builtOf, liveOf, inUse, liveSlots}
+use Rattle.table_rules.specs.Table.{Table, orderOf, builtOf, liveOf, slotsOf, inUse, liveSlots}
 use Rattle.table_rules.specs.Checks.{sizePasses, sizesPass}
 use Rattle.table_rules.specs.Rebuild.{liveItems}
 use Rattle.history.specs.Model.{Item, itemOf, Model, withTag}
-use Rattle.history.specs.Represents.{Represents, itemsIn, moreThanHalfFull, bucketsWith}
+use Rattle.image_rules.specs.Load.{fieldsPass}
+use Rattle.history.specs.Represents.{IsHead, Represents, itemsIn, moreThanHalfFull, bucketsWith}
+use Rattle.history.proofs.Invariant.{Weighed}
 use Rattle.history.proofs.RefinesLists.{select-once}
 use Rattle.history.proofs.RefinesOnce.{select-own, some-count}
 use Rattle.history.proofs.RefinesItems.{Matches, range-alike, nearest-alike, tagged-items}
@@ -31,6 +36,27 @@ size-half k built live = go (eqb built 0) (eqb live 0) (leb live built) (leb bui
     go : (a b c d x y : Bool) → ((a && b) || (c && d && x && y)) ≡ true → (not (not a) || x) ≡ true
     go true b c d x y h = refl
     go false b c d x y h = and-second (c && d) x (and-first (c && d && x) y h)
+
+-- a slot whose fields and day pass is a valid head
+measure-most : (ms : List ℤ) → every validMeasure ms ≡ true → (j : ℕ) → natAbs (getD ms j (pos 0)) ≤ 1_000_000
+unfolding validMeasure measureLimit every
+measure-most [] h j = omega arith
+measure-most (m ∷ ms) h zero = leb-true (natAbs m) 1_000_000 (and-first _ (every validMeasure ms) h)
+measure-most (m ∷ ms) h (suc j) = measure-most ms (and-second (leb (natAbs m) 1_000_000) _ h) j
+
+head-is : (row : Row) → fieldsPass row ≡ true → Weighed row → IsHead (itemOf row)
+unfolding fieldsPass validTag countryOf nationalOf nationals lastCountry lastNational validMeasures measure itemOf
+head-is row h weighed =
+    let valid = and-first _ (validMark row) h in
+    let tagged = and-first _ (validMeasures (profileOf row)) valid in
+    let countryFits = leb 1 (tagOf row / 1_000_000_000_000) && leb (tagOf row / 1_000_000_000_000) 999 in
+    let countries = and-first _ (leb (tagOf row % 1_000_000_000_000) 274_877_906_943) tagged in
+    record {
+      country = (leb-true 1 _ (and-first _ _ countries), leb-true _ 999 (and-second (leb 1 (tagOf row / 1_000_000_000_000)) _ countries));
+      national = leb-true _ 274_877_906_943 (and-second countryFits _ tagged);
+      measures = λ j l. measure-most (profileOf row .measures) (and-second (validTag (tagOf row)) _ valid) j;
+      day = (leb-true 1 (dayOf row) (weighed .valid), omega (arith, weighed .fits));
+    }
 
 module _ {t : Table} {m : Model} (ok : Matches t m) where
   half-full : moreThanHalfFull t ≡ true
@@ -72,6 +98,9 @@ module _ {t : Table} {m : Model} (ok : Matches t m) where
         header = ok .invariant .header;
         sizeRows = ok .invariant .sizeRows;
         zeros = ok .invariant .zeros;
+        head = λ k h.
+            let slots = slotsOf t k in
+            all-both (λ row a b. head-is row a b) slots (every-all fieldsPass slots (ok .invariant .fields k h)) (ok .invariant .days k h);
         order = ok .order;
         space = ok .space;
         same = ok .same;

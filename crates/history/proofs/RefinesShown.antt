@@ -1,6 +1,7 @@
--- At every call a table that matches the model, or is too short for its order, shows what the model shows: refusal, profile and day, number found, entries, a herd
--- list's line and number added, dues and their total, a drafting's summary and listing. Each call by its refusal, which is the model's; an accepted look up has found the item, an accepted search shows
--- its entries and no zeros, accepted dues are of the model's own weights, an accepted drafting tells the lots of the model's own items, and a herd list goes as the model's.
+-- At every call a table that matches the model, or is too short for its order, shows what the model shows: refusal, profile and day, number found, entries, a
+-- herd list's line and number added, dues and their total, a drafting's summary and listing. Each call by its refusal, which is the model's; an accepted look
+-- up has found the item, an accepted search shows its entries and no zeros, accepted dues are of the model's own weights, an accepted drafting tells the lots
+-- of the model's own items, and a herd list goes as the model's.
 use Prim.Native.Nat.{ℕ, zero, suc, _-_}
 use mathlib.Core.Path.{_≡_, refl, sym, _∙_, ap, ap₂}
 use mathlib.Core.Bool.{Bool, true, false}
@@ -12,7 +13,6 @@ use lib.Seq.{take-at, take-append-seam}
 use native.Mathlib.Omega.{arith}
 use Rattle.lists.specs.Lists.{total}
 use Rattle.metric_rules.specs.Row.{Row, profileOf, dayOf}
-use Rattle.metric_rules.specs.Validity.{validTag}
 use Rattle.search_rules.specs.Range.{Entry}
 use Rattle.table_rules.specs.declared.Added.{Added}
 use Rattle.table_rules.specs.declared.Removed.{Removed}
@@ -22,7 +22,8 @@ use Rattle.table_rules.specs.Table.{Table}
 use Rattle.table_rules.specs.Add.{addRefusal, addReply}
 use Rattle.table_rules.specs.Remove.{removeRefusal, removeReply}
 use Rattle.table_rules.specs.LookUp.{Place, find, noProfile, notFound, lookUpReply}
-use Rattle.table_rules.specs.Search.{Answer, rangeAnswer, nearestAnswer, rangeRefusal, nearestRefusal, searchReply, zeroEntry, resultAfter, rangeReply, resultAfterRange, nearestReply, resultAfterNearest}
+use Rattle.table_rules.specs.Search.{Answer, rangeAnswer, nearestAnswer, rangeRefusal, nearestRefusal, searchReply, zeroEntry, resultAfter, rangeReply}
+use Rattle.table_rules.specs.Search.{resultAfterRange, nearestReply, resultAfterNearest}
 use Rattle.batch_rules.specs.Batch.{batchRefusal, rangeBatchReply, resultAfterBatch}
 use Rattle.list_rules.specs.ReadList.{readListReply}
 use Rattle.dues_rules.specs.declared.Dues.{Dues}
@@ -32,15 +33,20 @@ use Rattle.call_rules.specs.Calls.{Change, changeReply, Ask, AskAreas, askReply
 use Rattle.call_rules.specs.Calls.Change.{add, remove, readList}
 use Rattle.call_rules.specs.Calls.Ask.{lookUp, range, nearest, dues, rangeBatch, lots}
 use Rattle.call_rules.specs.Calls.Call.{begin, change, ask, write}
+use Rattle.history.specs.Figures.{tagSound, paysFor}
 use Rattle.history.specs.Trace.{Shown, zeroed, shows, changeShown, duesIn, askShown, shown}
 use Rattle.history.specs.Trace.Payload.{bare, aWeighing, someEntries, aListRead, someDues}
-use Rattle.history.specs.Model.{Item, itemOf, Model, AskLengths, askLengths, lengthsOf, withTag, isIn, weighedIn, modelRange, modelNearest, weightsIn, canRead, tagRefusal, questionRefusal, askRefusal, found, paid, answerTo, showsUnless, beginAnswer, changeAnswer, answer, modelRanges, foundEach, modelSummaries, modelListing}
+use Rattle.history.specs.Model.{Item, itemOf, Model, AskLengths, askLengths, lengthsOf, withTag, isIn, weighedIn, modelRange, modelNearest, weightsIn}
+use Rattle.history.specs.Model.{canRead, tagRefusal, questionRefusal, askRefusal, found, paid, answerTo, showsUnless, beginAnswer, changeAnswer, answer}
+use Rattle.history.specs.Model.{modelRanges, foundEach, modelSummaries, modelListing}
 use Rattle.history.specs.History.{IsChange, IsCall}
 use Rattle.history.proofs.RefinesFinding.{rowFound}
 use Rattle.history.proofs.RefinesItems.{Matches, range-alike, nearest-alike, found-items, weights-alike, ranges-alike}
-use Rattle.history.proofs.RefinesRefusals.{Lendable, readable, long-accepts, add-refusal, remove-refusal, look-up-refusal, range-refusal, nearest-refusal, dues-refusal, batch-refusal, begun-alike}
+use Rattle.history.proofs.RefinesRefusals.{Lendable, readable, long-accepts, add-refusal, remove-refusal, look-up-refusal, range-refusal}
+use Rattle.history.proofs.RefinesRefusals.{nearest-refusal, dues-refusal, batch-refusal, begun-alike}
 use Rattle.history.proofs.RefinesBatch.{batch-shows}
 use Rattle.history.proofs.RefinesLots.{shows-draft, lots-refusal, summaries-alike, listing-alike}
+use Rattle.history.proofs.Figured.{dues-are}
 use Rattle.history.proofs.RefinesReading.{reads, reads-alike}
 
 -- a search shows its entries where it is accepted
@@ -48,7 +54,8 @@ shows-found : (n : ℕ) (area : List Entry) (a : Answer) (es : List Entry) → (
     → shows (searchReply n a .refusal) (someEntries (searchReply n a .found) (take (searchReply n a .found) (resultAfter n area a))) ≡ showsUnless n (found es)
 unfolding searchReply resultAfter showsUnless zeroed found
 shows-found zero area a es e =
-    ap (λ (l : List Entry). shows 0 (someEntries (length (a .entries)) l)) (take-append-seam (a .entries) (replicate (length area - length (a .entries)) zeroEntry))
+    ap (λ (l : List Entry). shows 0 (someEntries (length (a .entries)) l))
+    (take-append-seam (a .entries) (replicate (length area - length (a .entries)) zeroEntry))
     ∙ ap (λ (l : List Entry). shows 0 (someEntries (length l) l)) (e refl)
 shows-found (suc n) area a es e = refl
 
@@ -62,11 +69,21 @@ zeroed-weighing (i ∷ is) = refl
 shows-weighing : (n : ℕ) (o : Option Place) (is : List Item) → (n ≡ 0 → (map itemOf (rowFound o) ≡ is) × (is ≡ [] → ⊥)) → (reply : LookedUp)
     → reply ≡ elim n [
       | suc j ↦ notFound (suc j)
-      | zero ↦ elim o [ some place ↦ record { refusal = 0; bucket = place .bucket; profile = profileOf (place .row); day = dayOf (place .row) } | none ↦ notFound notLive ]
+      | zero ↦ elim o [
+        | some place ↦ record {
+          refusal = 0;
+          bucket = place .bucket;
+          profile = profileOf (place .row);
+          day = dayOf
+              (place .row);
+        }
+        | none ↦ notFound notLive
+      ]
     ]
     → shows (reply .refusal) (aWeighing (reply .profile) (reply .day)) ≡ showsUnless n (weighedIn is)
 unfolding notFound showsUnless weighedIn itemOf
-shows-weighing (suc n) o is e reply f = ap (λ (l : LookedUp). shows (l .refusal) (aWeighing (l .profile) (l .day))) f ∙ ap (shows (suc n)) (sym (zeroed-weighing is))
+shows-weighing (suc n) o is e reply f =
+    ap (λ (l : LookedUp). shows (l .refusal) (aWeighing (l .profile) (l .day))) f ∙ ap (shows (suc n)) (sym (zeroed-weighing is))
 shows-weighing zero none is e reply f = absurd (e refl .1 (sym (e refl .0)))
 shows-weighing zero (some place) is e reply f =
     ap (λ (l : LookedUp). shows (l .refusal) (aWeighing (l .profile) (l .day))) f ∙ ap (λ (js : List Item). shows 0 (weighedIn js)) (e refl .0)
@@ -74,7 +91,7 @@ shows-weighing zero (some place) is e reply f =
 -- an accepted tag is there
 tag-there : (m : Model) (tag : ℕ) → tagRefusal m tag ≡ 0 → withTag tag (m .items) ≡ [] → ⊥
 unfolding tagRefusal isIn
-tag-there m tag e = go (validTag tag) (withTag tag (m .items)) e
+tag-there m tag e = go (tagSound tag) (withTag tag (m .items)) e
   where
     go : (valid : Bool) (is : List Item) → unless valid badTag (unless (elim is [ [] ↦ false | i ∷ js ↦ true ]) notLive 0) ≡ 0 → is ≡ [] → ⊥
     go false is e f = omega arith
@@ -152,28 +169,43 @@ module _ (m : Model) (t : Table) (lendable : Lendable t m) where
       (lookUpReply t tag)
       (ap (λ (n : ℕ). elim n as (λ _. LookedUp) [
         | suc j ↦ notFound (suc j)
-        | zero ↦ elim (find t tag) [ some place ↦ record { refusal = 0; bucket = place .bucket; profile = profileOf (place .row); day = dayOf (place .row) } | none ↦ notFound notLive ]
+        | zero ↦ elim
+            (find t tag) [
+              | some place ↦ record {
+                refusal = 0;
+                bucket = place .bucket;
+                profile = profileOf (place .row);
+                day = dayOf
+                    (place .row);
+              }
+              | none ↦ notFound notLive
+            ]
       ]) (look-up-refusal m t lendable tag))
   ask-shown (range q r firstDay) result =
-      found-shown (range q r firstDay) (length result) (rangeRefusal t result q r firstDay) result (rangeAnswer t q r firstDay) (modelRange m q r firstDay) (range-refusal m t lendable q r firstDay result)
+      found-shown (range q r firstDay) (length result) (rangeRefusal t result q r firstDay) result (rangeAnswer t q r firstDay) (modelRange m q r firstDay)
+      (range-refusal m t lendable q r firstDay result)
       (λ ok. range-alike ok q r firstDay)
   ask-shown (nearest q k firstDay) result =
-      found-shown (nearest q k firstDay) (length result) (nearestRefusal t result q k firstDay) result (nearestAnswer t q k firstDay) (modelNearest m q k firstDay) (nearest-refusal m t lendable q k firstDay result)
+      found-shown (nearest q k firstDay) (length result) (nearestRefusal t result q k firstDay) result (nearestAnswer t q k firstDay)
+      (modelNearest m q k firstDay) (nearest-refusal m t lendable q k firstDay result)
       (λ ok. nearest-alike ok q k firstDay)
   ask-shown (dues tags) area =
-      shows-dues t tags area (duesOf (weightsIn m tags)) (askRefusal m (dues tags) (length t) (length area)) (dues-refusal m t lendable tags area)
-      (λ e. ap (λ (weights : List (Option ℤ)). duesOf weights) (weights-alike (accepted-ask (dues tags) (length area) e) tags))
+      shows-dues t tags area (map paysFor (weightsIn m tags)) (askRefusal m (dues tags) (length t) (length area)) (dues-refusal m t lendable tags area)
+      (λ e. ap (λ (weights : List (Option ℤ)). duesOf weights) (weights-alike (accepted-ask (dues tags) (length area) e) tags) ∙ dues-are (weightsIn m tags))
   ask-shown (rangeBatch queries) result =
       let same = batch-refusal m t lendable queries result in
-      batch-shows t result queries (batchRefusal t result queries) refl (modelRanges m queries) (λ z. ranges-alike (accepted-ask (rangeBatch queries) (length result) (sym same ∙ z)) queries)
+      batch-shows t result queries (batchRefusal t result queries) refl (modelRanges m queries)
+      (λ z. ranges-alike (accepted-ask (rangeBatch queries) (length result) (sym same ∙ z)) queries)
       ∙ ap (λ (n : ℕ). showsUnless n (foundEach (modelRanges m queries))) same
   ask-shown (lots radii chosen) areas =
       let lengths = askLengths (lots radii chosen) areas in
-      shows-draft t radii chosen areas (modelSummaries m radii) (modelListing m radii chosen) (askRefusal m (lots radii chosen) (length t) lengths) (lots-refusal m t lendable radii chosen areas)
+      shows-draft t radii chosen areas (modelSummaries m radii) (modelListing m radii chosen) (askRefusal m (lots radii chosen) (length t) lengths)
+      (lots-refusal m t lendable radii chosen areas)
       (λ e. let ok = accepted-ask (lots radii chosen) lengths e in (summaries-alike ok radii, listing-alike ok radii chosen))
 
   -- what each call shows; a call that begins a table reads nothing of it but its length
-  pub shown-alike : (c : Call) → IsCall c → (areas : Areas c) → shown c (replyTo c t areas) (areasAfter c t areas) ≡ answer m c (length t) (lengthsOf c areas) .shows
+  pub shown-alike : (c : Call) → IsCall c → (areas : Areas c)
+      → shown c (replyTo c t areas) (areasAfter c t areas) ≡ answer m c (length t) (lengthsOf c areas) .shows
   unfolding shown answer beginAnswer
   shown-alike (begin b) is areas = begun-alike b (length t)
   shown-alike (change c) is work = change-shown c is work

@@ -32,7 +32,7 @@ abbrev pub since : ℕ → Row → Bool
 since firstDay row = leb firstDay (dayOf row)
 
 -- what a search may report: it is live, and weighed since
-reports-both : (q : Profile) (n firstDay : ℕ) → mayReport (queryRow q n firstDay) ≡ (λ row. isLive row && since firstDay row)
+pub reports-both : (q : Profile) (n firstDay : ℕ) → mayReport (queryRow q n firstDay) ≡ (λ row. isLive row && since firstDay row)
 unfolding mayReport
 reports-both q n firstDay = λ i row. isLive row && leb (day-of-row 0 q n 0 firstDay i) (dayOf row)
 

@@ -1,7 +1,7 @@
 -- What a refused call returns and leaves. Every reply and area is given by the refusal, so each is by its cases: 0 is
 -- no refusal, and any other number has zeros behind it. A load's slot is not 0 only by a tree's test, whose numbers are
 -- 36, 37 and 38; a herd list is by its lines.
-use Prim.Native.Nat.{ℕ, zero, suc, _+_}
+use Prim.Native.Nat.{ℕ, zero, suc, _+_, _≤_}
 use mathlib.Core.Path.{_≡_, refl, sym, ap, _∙_, subst}
 use mathlib.Core.Bool.{Bool, true, false}
 use mathlib.Core.Logic.{_⊎_, inl, inr}
@@ -10,19 +10,16 @@ use lib.IntN.{ℤ}
 use mathlib.Core.List.{List, [], _∷_, _++_, flatten, map}
 use native.Mathlib.Omega.{arith}
 use lib.Dec.{eqb}
-use lib.ListN.{length, take, drop, replicate}
+use lib.ListN.{length, drop, replicate}
 use borrow.Author.Tests.{ne-eqb}
 use Rattle.lists.specs.Lists.{All, countFrom}
-use Rattle.metric_rules.specs.declared.Profile.{Profile}
 use Rattle.metric_rules.specs.Row.{Row, profileOf, thresholdOf, dayOf}
-use Rattle.metric_rules.specs.declared.Space.{Space}
 use Rattle.metric_rules.specs.Distance.{distance}
 use Rattle.search_rules.specs.Range.{Entry, entry}
 use Rattle.tree_rules.specs.Layout.{layout}
 use Rattle.table_rules.specs.declared.Added.{Added}
 use Rattle.table_rules.specs.declared.Removed.{Removed}
 use Rattle.table_rules.specs.declared.LookedUp.{LookedUp}
-use Rattle.table_rules.specs.declared.Searched.{Searched}
 use Rattle.table_rules.specs.Refusals.{noRoom, notLive, unless}
 use Rattle.table_rules.specs.Geometry.{bucketsOf, workRows}
 use Rattle.table_rules.specs.Table.{Table, orderOf, cleared}
@@ -30,14 +27,16 @@ use Rattle.table_rules.specs.Fresh.{freshRefusal, tableAfterFresh}
 use Rattle.table_rules.specs.Add.{addRefusal, addReply, tableAfterAdd, workAfterAdd}
 use Rattle.table_rules.specs.Remove.{removeRefusal, removeReply, tableAfterRemove, workAfterRemove}
 use Rattle.table_rules.specs.LookUp.{Place, find, lookUpRefusal, noProfile, notFound, lookUpReply}
-use Rattle.table_rules.specs.Search.{Answer, rangeAnswer, nearestAnswer, rangeRefusal, nearestRefusal, searchReply, zeroEntry, resultAfter, rangeReply, resultAfterRange, nearestReply, resultAfterNearest}
+use Rattle.table_rules.specs.Search.{Answer, rangeAnswer, nearestAnswer, rangeRefusal, nearestRefusal, searchReply, zeroEntry, resultAfter, rangeReply}
+use Rattle.table_rules.specs.Search.{resultAfterRange, nearestReply, resultAfterNearest}
 use Rattle.table_rules.proofs.Replies.{refused-reply, refused-area, short-area}
-use Rattle.batch_rules.specs.declared.Ranges.{Ranges}
-use Rattle.batch_rules.specs.Batch.{mostQueries, singleAnswers, batchCount, partSize, batchRefusal, rangesReply, resultAfterParts, rangeBatchReply, resultAfterBatch}
+use Rattle.batch_rules.specs.Batch.{mostQueries, singleAnswers, batchCount, partSize, batchRefusal, rangesReply, resultAfterParts, rangeBatchReply}
+use Rattle.batch_rules.specs.Batch.{resultAfterBatch}
 use Rattle.image_rules.specs.declared.Loaded.{Loaded}
 use Rattle.image_rules.specs.declared.Written.{Written}
 use Rattle.image_rules.specs.Read.{orderIn, spaceIn, bucketIn}
-use Rattle.image_rules.specs.Trees.{duplicateTag, misplacedItem, badThreshold, tagIsNew, sameItem, slotRefusal, placeRefusal, refusalsFrom, bucketRefusals, slotRefusals, firstRefused, treesReply}
+use Rattle.image_rules.specs.Trees.{duplicateTag, misplacedItem, badThreshold, tagIsNew, sameItem, slotRefusal, placeRefusal, refusalsFrom, bucketRefusals}
+use Rattle.image_rules.specs.Trees.{slotRefusals, firstRefused, treesReply}
 use Rattle.image_rules.specs.Load.{fieldsRefusal, orLoaded, treesIn, loadReply, loadRefusal, tableAfterLoad}
 use Rattle.image_rules.specs.Write.{writeRefusal, writeReply, imageAfterWrite}
 use Rattle.image_rules.proofs.Blocks.{all-flatten}
@@ -46,10 +45,10 @@ use Rattle.state_rules.specs.Save.{saveRefusal, saveReply, statesAfterSave}
 use Rattle.state_rules.specs.Restore.{nameRefusal, restoreReply, restoreRefusal, tableAfterRestore}
 use Rattle.list_rules.specs.Lines.{ListLine, hasHeader, itemLines}
 use Rattle.list_rules.specs.Lines.ListLine.{anItem, malformed}
-use Rattle.list_rules.specs.ReadList.{Reading, badListHeader, badListLine, stopped, oneMore, reading, listReading, readListReply, tableAfterReadList, workAfterReadList}
-use Rattle.dues_rules.specs.declared.Dues.{Dues}
+use Rattle.list_rules.specs.ReadList.{Reading, badListHeader, badListLine, stopped, oneMore, reading, listReading, readListReply, tableAfterReadList}
+use Rattle.list_rules.specs.ReadList.{workAfterReadList}
 use Rattle.dues_rules.specs.Listed.{weightsAt, weightsReply, areaAfter, duesRefusal, duesReply, duesAfter}
-use Rattle.lots_rules.specs.Drafting.{answerIn, zeroSummary, lotsRefusal, tableSummaries, tableListing, workAfterLots, summaryAfterLots, listingAfterLots}
+use Rattle.lots_rules.specs.Drafting.{zeroSummary, lotsRefusal, tableSummaries, tableListing, workAfterLots, summaryAfterLots, listingAfterLots}
 use Rattle.lots_rules.proofs.Answers.{answer-kept, answer-short}
 use Rattle.call_rules.specs.Calls.{Begin, Change, Ask, Write, Call, DraftAreas, draftAreas, Areas, AskAreas, areasAnswered, tableBegun}
 use Rattle.call_rules.specs.Calls.Begin.{fresh, load, restore}
@@ -58,8 +57,10 @@ use Rattle.call_rules.specs.Calls.Ask.{lookUp, range, nearest, dues, rangeBatch
 use Rattle.call_rules.specs.Calls.Write.{image, save}
 use Rattle.call_rules.specs.Calls.Call.{begin, change, ask, write}
 use Rattle.history.specs.Reports.{tableAfterAdds}
-use Rattle.history.specs.Leaves.{refusalOf, numberAndZeros, zeros, ChangesNothing, Excepted, AllAdded, workAfterAdds, KeepsLines, EndsAt, Exceptions}
+use Rattle.history.specs.Leaves.{refusalOf, numberAndZeros, zeros, HasSlot, ChangesNothing, Excepted, AllAdded, workAfterAdds, KeepsLines, EndsAt}
+use Rattle.history.specs.Leaves.{Exceptions}
 use Rattle.history.specs.Demands.{RefusalsKeep}
+use Rattle.history.proofs.TreeTests.{load-within, restore-within}
 
 -- what is given by a refusal that is not 0
 kept : {A : Type 0} (n : ℕ) (a b : A) → (n ≡ 0 → ⊥) → elim n as (λ _. A) [ zero ↦ a | suc m ↦ b ] ≡ b
@@ -246,11 +247,8 @@ lists-end t work list day = (
     Ends r = EndsAt day (r .table) (r .work) (r .reply .added + 2) (drop (r .reply .added) (itemLines list)) (r .reply)
 
 -- the trees of an image are refused by 36, 37 or 38
-abbrev Tells : ℕ → Type 0
-Tells n = (n ≡ duplicateTag) ⊎ ((n ≡ misplacedItem) ⊎ (n ≡ badThreshold))
-
 Told : ℕ → Type 0
-Told n = (n ≡ 0) ⊎ Tells n
+Told n = (n ≡ 0) ⊎ HasSlot n
 
 told-by : (a b c : Bool) → Told (unless a duplicateTag (unless b misplacedItem (unless c badThreshold 0)))
 unfolding Told
@@ -268,14 +266,14 @@ slots-told before earlier (l ∷ laid) (row ∷ rows) = (
   slots-told before (earlier ++ (row ∷ [])) laid rows,
 )
 
-first-told : (at : ℕ) (ns : List ℕ) → All Told ns → (firstRefused at ns .refusal ≡ 0 → ⊥) → Tells (firstRefused at ns .refusal)
+first-told : (at : ℕ) (ns : List ℕ) → All Told ns → (firstRefused at ns .refusal ≡ 0 → ⊥) → HasSlot (firstRefused at ns .refusal)
 unfolding firstRefused Told
 first-told at [] told refused = absurd (refused refl)
 first-told at (zero ∷ ns) told refused = first-told (suc at) ns (told .1) refused
 first-told at (suc n ∷ ns) (inl e, rest) refused = absurd (refused e)
 first-told at (suc n ∷ ns) (inr tells, rest) refused = tells
 
-trees-told : (bytes : List ℕ) → (treesIn bytes .refusal ≡ 0 → ⊥) → Tells (treesIn bytes .refusal)
+trees-told : (bytes : List ℕ) → (treesIn bytes .refusal ≡ 0 → ⊥) → HasSlot (treesIn bytes .refusal)
 unfolding treesIn treesReply slotRefusals bucketRefusals bucketsOf
 trees-told bytes =
     first-told 0 (slotRefusals (spaceIn bytes) (orderIn bytes) (bucketIn bytes))
@@ -283,12 +281,12 @@ trees-told bytes =
     (λ k h. slots-told (flatten (map (bucketIn bytes) (countFrom 0 k))) [] (layout (distance (spaceIn bytes)) (bucketIn bytes k)) (bucketIn bytes k)))
 
 -- a reply of load or restore that no tree's test gives has no slot
-unslotted : (n : ℕ) (r : Loaded) → ((r .refusal ≡ 0 → ⊥) → (Tells (r .refusal) → ⊥) → r ≡ record { refusal = r .refusal; slot = 0 })
-    → (orLoaded n r .refusal ≡ 0 → ⊥) → (Tells (orLoaded n r .refusal) → ⊥) → orLoaded n r ≡ record { refusal = orLoaded n r .refusal; slot = 0 }
+unslotted : (n : ℕ) (r : Loaded) → ((r .refusal ≡ 0 → ⊥) → (HasSlot (r .refusal) → ⊥) → r ≡ record { refusal = r .refusal; slot = 0 })
+    → (orLoaded n r .refusal ≡ 0 → ⊥) → (HasSlot (orLoaded n r .refusal) → ⊥) → orLoaded n r ≡ record { refusal = orLoaded n r .refusal; slot = 0 }
 unslotted zero r behind refused other = behind refused other
 unslotted (suc n) r behind refused other = refl
 
-load-unslotted : (rows : ℕ) (bytes : List ℕ) → (loadReply rows bytes .refusal ≡ 0 → ⊥) → (Tells (loadReply rows bytes .refusal) → ⊥)
+load-unslotted : (rows : ℕ) (bytes : List ℕ) → (loadReply rows bytes .refusal ≡ 0 → ⊥) → (HasSlot (loadReply rows bytes .refusal) → ⊥)
     → loadReply rows bytes ≡ record { refusal = loadReply rows bytes .refusal; slot = 0 }
 unfolding loadReply
 load-unslotted rows bytes =
@@ -321,7 +319,8 @@ module _ (t : Table) where
       → ChangesNothing (change c) t work
   unfolding addReply tableAfterAdd workAfterAdd removeReply tableAfterRemove workAfterRemove
   nothing-changed (add tag p day) work refused other =
-      let r = replied {A = Added} (λ a. a .refusal) (λ n. record { refusal = n; bucket = 0; distances = 0 }) (λ n. refl) (addRefusal t work tag p day) _ refl refused in
+      let r =
+      replied {A = Added} (λ a. a .refusal) (λ n. record { refusal = n; bucket = 0; distances = 0 }) (λ n. refl) (addRefusal t work tag p day) _ refl refused in
       record { replied = r .0; table = kept (addRefusal t work tag p day) _ t (r .1); lent = kept (addRefusal t work tag p day) _ work (r .1) }
   nothing-changed (remove tag) work refused other =
       let r = replied {A = Removed} (λ a. a .refusal) (λ n. record { refusal = n; distances = 0 }) (λ n. refl) (removeRefusal t work tag) _ refl refused in
@@ -339,7 +338,8 @@ module _ (t : Table) where
 
   nothing-asked : (q : Ask) (areas : AskAreas q) → (refusalOf (ask q) t areas ≡ 0 → ⊥) → (Excepted (ask q) (refusalOf (ask q) t areas) → ⊥)
       → ChangesNothing (ask q) t areas
-  unfolding lookUpReply foundBy rangeReply resultAfterRange nearestReply resultAfterNearest duesReply duesAfter rangeBatchReply resultAfterBatch summaryAfterLots listingAfterLots workAfterLots
+  unfolding lookUpReply foundBy rangeReply resultAfterRange nearestReply resultAfterNearest duesReply duesAfter rangeBatchReply resultAfterBatch
+      summaryAfterLots listingAfterLots workAfterLots
   nothing-asked (lookUp tag) lent refused other = record { replied = not-found (lookUpRefusal t tag) (find t tag) refused; table = refl; lent = refl }
   nothing-asked (range query radius firstDay) result refused other =
       let s = search-keeps result (rangeAnswer t query radius firstDay) (rangeRefusal t result query radius firstDay) refused other in
@@ -373,11 +373,18 @@ module _ (t : Table) where
       (sym (answer-short zeroSummary (areas .summary) (tableSummaries t radii) n six) i)
       (sym (answer-short zeroEntry (areas .listing) (tableListing t radii chosen) n six) i)
 
+  at-least : {n : ℕ} → HasSlot n → 36 ≤ n
+  at-least (inl e) = omega (arith, e)
+  at-least (inr (inl e)) = omega (arith, e)
+  at-least (inr (inr e)) = omega (arith, e)
+
   exceptions : Exceptions t
   unfolding rangeReply resultAfterRange nearestReply resultAfterNearest rangeBatchReply resultAfterBatch readListReply tableAfterReadList workAfterReadList
   exceptions =
       record {
         begins = begins t;
+        loads = λ bytes told. load-within (length t) bytes (at-least told);
+        restores = λ states name told. restore-within (length t) states name (at-least told);
         lists = lists-keep t;
         ends = lists-end t;
         ranges = λ query radius firstDay result. search-short result (rangeAnswer t query radius firstDay) (rangeRefusal t result query radius firstDay);

@@ -1,5 +1,6 @@
--- What add, remove and the lines of a herd list report, of whatever they are lent: c(n) for the n items that they built, the other buckets being kept or emptied, but for a slot
--- marked. By the sizes, whatever the slots hold: a row too short to be marked dead is gathered again, and a rebuild may then be of more rows than its bucket has room for.
+-- What add, remove and the lines of a herd list report, of whatever they are lent: c(n) for the n items that they
+-- built, the other buckets being kept or emptied, but for a slot marked. By the sizes, whatever the slots hold: a row
+-- too short to be marked dead is gathered again, and a rebuild may then be of more rows than its bucket has room for.
 use Prim.Native.Nat.{ℕ, zero, suc, _+_, _-_, _*_, _≤_, _<_}
 use native.Mathlib.Omega.{arith}
 use native.Mathlib.Decide.{ℕ-discrete}
@@ -94,27 +95,27 @@ module _ {work : List Row} {t : Table} (c : Changeable work t) (tag : ℕ) (plac
   long : tableRows (orderOf t) ≤ length t
   long = c .passed .framed .long
 
-  within : (j : ℕ) → j ≤ orderOf t → (liveOf t j ≤ builtOf t j) × (builtOf t j ≤ room j)
+  pub within : (j : ℕ) → j ≤ orderOf t → (liveOf t j ≤ builtOf t j) × (builtOf t j ≤ room j)
   within = bucket-within (c .passed)
 
-  slot-built : place .slot < builtOf t k
+  pub slot-built : place .slot < builtOf t k
   slot-built = omega (arith, at .within, slots-length (passed-roomy (c .passed)) k (at .inOrder))
 
-  slot-room : place .slot < room k
+  pub slot-room : place .slot < room k
   slot-room = omega (arith, slot-built, within k (at .inOrder) .1)
 
-  used : Used k (builtOf t k) (liveOf t k)
+  pub used : Used k (builtOf t k) (liveOf t k)
   used =
       size-in-use k (builtOf t k) (liveOf t k) (sizes-at (orderOf t) (builtOf t) (liveOf t) (c .passed .sizes) k (at .inOrder))
       (λ e. absurd (omega (arith, e, slot-built)))
 
-  only : Only (λ j. j ≡ k → ⊥) t v
+  pub only : Only (λ j. j ≡ k → ⊥) t v
   only = marked-only t place (at .inOrder) long slot-room
 
-  built-same : builtOf v k ≡ builtOf t k
+  pub built-same : builtOf v k ≡ builtOf t k
   built-same = marked-built t place (at .inOrder) long slot-room
 
-  one-less : liveOf t k ≡ suc (liveOf v k)
+  pub one-less : liveOf t k ≡ suc (liveOf v k)
   one-less = omega (arith, marked-live t place (at .inOrder) long slot-room, used .quarter)
 
   -- the bucket still has as many live slots as its live size says, and more only where a row is too short to be marked

@@ -1,19 +1,19 @@
 -- The rows past a table, under every change and of any table: a bucket that is put writes its sizes row and exactly its
 -- room, whatever slots it is given, so header, length and the rows past the table are kept; so they are by a rebuild, a
 -- removal, an add and a herd list.
-use Prim.Native.Nat.{ℕ, zero, suc, _+_, _-_, _≤_, _<_}
-use mathlib.Core.Path.{_≡_, refl, sym, ap, _∙_, subst}
+use Prim.Native.Nat.{ℕ, zero, suc, _+_, _-_, _≤_}
+use mathlib.Core.Path.{_≡_, refl, ap, subst}
 use mathlib.Core.Bool.{Bool, true, false}
 use mathlib.Core.List.{List, [], _∷_, _++_}
 use mathlib.Core.Option.{Option, none, some}
 use native.Mathlib.Omega.{arith}
-use lib.ListN.{length, take, drop, replicate, length-append, length-replicate, length-take}
+use lib.ListN.{length, take, drop, replicate, length-append, length-replicate}
 use lib.Seq.{paste, take-all, length-take-le}
 use Rattle.lists.specs.Lists.{All, countFrom}
 use Rattle.metric_rules.specs.declared.Profile.{Profile}
 use Rattle.metric_rules.specs.Row.{Row, zeroRow}
 use Rattle.table_rules.specs.Geometry.{room, firstSlot, tableRows}
-use Rattle.table_rules.specs.Table.{Table, orderOf, builtOf, putSizes, putBucket, emptied}
+use Rattle.table_rules.specs.Table.{Table, orderOf, putBucket, emptied}
 use Rattle.table_rules.specs.Checks.{changeRefusal}
 use Rattle.table_rules.specs.Rebuild.{Rebuilt, rebuilt}
 use Rattle.table_rules.specs.LookUp.{Place, find}
@@ -21,7 +21,7 @@ use Rattle.table_rules.specs.Add.{addRefusal, addReply, lowestEmpty, gathered, 
 use Rattle.table_rules.specs.Remove.{marked, united, moved, afterDeletion, removeRefusal, removed, tableAfterRemove}
 use Rattle.table_rules.proofs.Geometry.{room-ends}
 use Rattle.table_rules.proofs.Windows.{before-paste, after-paste, paste-length}
-use Rattle.table_rules.proofs.Views.{Between, Only, same-order, only-own, only-twice, only-fewer, only-slots}
+use Rattle.table_rules.proofs.Views.{Only, same-order, only-own, only-twice, only-fewer, only-slots}
 use Rattle.table_rules.proofs.Puts.{put-sizes-only, emptied-only}
 use Rattle.table_rules.proofs.Passing.{bucket-within}
 use Rattle.table_rules.proofs.Changes.{marked-only}
@@ -133,7 +133,10 @@ unfolding removed removeRefusal
 removed-past t work tag accepted = go (find t tag) refl
   where
     go : (o : Option Place) → find t tag ≡ o
-        → Past t ((elim o as (λ _. Rebuilt) [ some place ↦ afterDeletion (marked t place) (place .bucket) | none ↦ record { table = t; distances = 0 } ]) .table)
+        → Past t ((elim o as (λ _. Rebuilt) [
+          | some place ↦ afterDeletion (marked t place) (place .bucket)
+          | none ↦ record { table = t; distances = 0 }
+        ]) .table)
     go none e = only-own
     go (some place) e =
         let c = changeable work t (or-zero (changeRefusal (length work) t) _ accepted .0) in
@@ -174,7 +177,10 @@ lines-past day (anItem tag p ∷ lines) t work i = go (addRefusal t work tag p d
     v = workAfterAdd t work tag p day
 
     go : (n : ℕ) → Past u (reading day u v (suc i) lines .table)
-        → Past t ((elim n as (λ _. Reading) [ suc r ↦ stopped (suc r) i t work | zero ↦ oneMore (addReply t work tag p day .distances) (reading day u v (suc i) lines) ]) .table)
+        → Past t ((elim n as (λ _. Reading) [
+          | suc r ↦ stopped (suc r) i t work
+          | zero ↦ oneMore (addReply t work tag p day .distances) (reading day u v (suc i) lines)
+        ]) .table)
     go zero e = only-twice (add-past t work tag p day) e
     go (suc n) e = only-own
 

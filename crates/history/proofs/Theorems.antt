@@ -10,10 +10,11 @@ use Rattle.table_rules.proofs.Keeping.{nearest-size}
 use Rattle.table_rules.specs.Search.{bucketsDown}
 use Rattle.image_rules.proofs.Accepting.{trees-decide}
 use Rattle.image_rules.proofs.Translating.{translates}
-use Rattle.batch_rules.proofs.Counts.{batch-count-sum, batch-count-one}
+use Rattle.dues_rules.proofs.Replies.{total-of-area}
 use Rattle.lots_rules.proofs.Claims.{lots-of, drafts-lots, one-lot-each, one-lot-of-all}
 use Rattle.history.specs.Model.{betweenItems, modelLots}
-use Rattle.history.specs.Demands.{CountsTogether, KeepsEnough, AnswersAscend, AnyDistance, EachMetric, WeightsOne, LotsHold, RadiiExtreme, EveryList, EveryReport, WrittenLoads, SavedRestores, OlderTranslates, AcceptsTrees}
+use Rattle.history.specs.Demands.{KeepsEnough, AnswersAscend, AnyDistance, EachMetric, WeightsOne, LotsHold, RadiiExtreme, EveryList, EveryReport}
+use Rattle.history.specs.Demands.{DuesAddUp, WrittenLoads, SavedRestores, OlderTranslates, AcceptsTrees}
 use Rattle.history.proofs.AnyDistance.{tree-facts}
 use Rattle.history.proofs.RefinesTable.{reported-slots}
 use Rattle.history.proofs.RefinesHistory.{history-traces, history-matches, history-represents}
@@ -26,21 +27,25 @@ pub use Rattle.history.proofs.AcceptedLeaves.{accepted-leaves}
 pub use Rattle.history.proofs.WritesRefused.{writes-refuse}
 pub use Rattle.history.proofs.RefinesStep.{any-area}
 pub use Rattle.history.proofs.BuildsKeep.{builds-keep-items}
+pub use Rattle.history.proofs.TreeForm.{lays-out}
 pub use Rattle.history.proofs.ImageBytes.{image-bytes}
 pub use Rattle.history.proofs.ImagesBack.{accepted-gives-back}
 pub use Rattle.history.proofs.StatesBack.{save-keeps, restore-loads}
 pub use Rattle.history.proofs.Independence.{independent-of-history}
 pub use Rattle.history.proofs.CountingHistory.{binary-counter}
 pub use Rattle.history.proofs.Naming.{replies-bucket}
-pub use Rattle.history.proofs.Visiting.{counts-visits}
+pub use Rattle.history.proofs.Visiting.{counts-together}
+pub use Rattle.history.proofs.Nearing.{counts-visits}
 pub use Rattle.history.proofs.Weighing.{weighs-each, one-bit}
+pub use Rattle.history.proofs.DistancesTop.{distances-top}
+pub use Rattle.history.proofs.Earlier.{removes-as-before, two-weights-changed}
 pub use Rattle.history.proofs.ListBack.{list-form}
+pub use Rattle.history.proofs.SearchBounds.{searches-bounded}
+pub use Rattle.history.proofs.BuildBounds.{builds-bounded}
 pub use Rattle.history.proofs.FindsFirst.{finds-first}
+pub use Rattle.history.proofs.ItemsStay.{items-stay}
 pub use Rattle.history.proofs.Framing.{frame}
 pub use Rattle.history.proofs.FoundThere.{found-are-there}
-
-pub counts-together : CountsTogether
-counts-together t = (batch-count-sum t, batch-count-one t)
 
 pub keeps-enough : KeepsEnough
 keeps-enough t query k firstDay =
@@ -61,6 +66,9 @@ each-metric = distance-metric
 pub weights-one : WeightsOne
 unfolding distance
 weights-one p q = (ones-sum p q, ones-worst p q, worst-exact p q, λ weights. refl)
+
+pub dues-add-up : DuesAddUp
+dues-add-up = total-of-area
 
 pub lots-hold : LotsHold
 unfolding modelLots

@@ -2,7 +2,7 @@
 -- the same in both words is one more place in which they differ, by the width.
 use Prim.Native.Nat.{ℕ, zero, suc, _+_, _*_, _/_, _%_, _^_, _≤_, _<_, max}
 use mathlib.Core.Path.{_≡_, refl, sym, ap, _∙_}
-use mathlib.Core.Logic.{_⊎_, inl, inr}
+use mathlib.Core.Logic.{inl, inr}
 use native.Mathlib.Omega.{arith}
 use native.Mathlib.Nat.{mul-zero, pow-zero, pow-succ', div-div-eq-div-mul}
 use lib.Bits.{differ}

@@ -1,7 +1,7 @@
 -- What the calls that write a table are refused by. The tests of a lent table say 0, 23 or 24, and what is tested
 -- behind them says neither of these two in a look up or a write; a write reads of its area but the length, so a save is
 -- a write into any area as long as its part's rest.
-use Prim.Native.Nat.{ℕ, zero, suc, _+_, _-_, _*_, _/_, _≤_, _<_}
+use Prim.Native.Nat.{ℕ, zero, suc, _+_, _-_, _*_, _/_, _<_}
 use mathlib.Core.Path.{_≡_, refl, sym, ap, _∙_}
 use mathlib.Core.Bool.{Bool, true, false, _&&_}
 use mathlib.Core.Logic.{_⊎_, inl, inr, ⊎-elim}
@@ -26,7 +26,8 @@ use Rattle.table_rules.proofs.Passing.{read-passed}
 use Rattle.table_rules.proofs.Live.{slots-length}
 use Rattle.table_rules.proofs.Fill.{passed-roomy}
 use Rattle.image_rules.specs.declared.Written.{Written}
-use Rattle.image_rules.specs.Bytes.{writtenForm, startFields, weightFields, headerFields, tagFields, dayFields, recordFields, headerBytes, tagBytes, recordBytes, sizeBytes, pairBytes, sizesEnd, imageLength}
+use Rattle.image_rules.specs.Bytes.{writtenForm, startFields, weightFields, headerFields, tagFields, dayFields, recordFields, headerBytes, tagBytes}
+use Rattle.image_rules.specs.Bytes.{recordBytes, sizeBytes, pairBytes, sizesEnd, imageLength}
 use Rattle.image_rules.specs.Write.{imageOf, writeRefusal, writeReply}
 use Rattle.image_rules.proofs.Lengths.{length-image-built}
 use Rattle.state_rules.specs.Parts.{badName, validName, partBytes, partOf, behindLength}
@@ -67,7 +68,8 @@ or-first zero rest n other e = absurd (other e)
 or-first (suc m) rest n other e = e
 
 -- the number in a reply, of a write, a save and a look up
-write-number : (n length : ℕ) → (elim n as (λ _. Written) [ zero ↦ record { refusal = 0; length = length } | suc m ↦ record { refusal = suc m; length = 0 } ]) .refusal ≡ n
+write-number : (n length : ℕ)
+    → (elim n as (λ _. Written) [ zero ↦ record { refusal = 0; length = length } | suc m ↦ record { refusal = suc m; length = 0 } ]) .refusal ≡ n
 write-number zero length = refl
 write-number (suc n) length = refl
 
@@ -112,7 +114,8 @@ module _ (n : ℕ) (above : 22 < n) where
 
 -- where neither is said, the length decides
 form-length : (order n : ℕ) → imageLength writtenForm order n ≡ 8 + 4 * (order + 1) + 50 * n
-unfolding imageLength sizesEnd headerBytes headerFields startFields weightFields writtenForm total pairBytes sizeBytes tagBytes recordBytes tagFields recordFields dayFields
+unfolding imageLength sizesEnd headerBytes headerFields startFields weightFields writtenForm total pairBytes sizeBytes tagBytes recordBytes tagFields
+    recordFields dayFields
 form-length order n = omega arith
 
 image-number : (t : Table) → readRefusal t ≡ 0 → length (imageOf t) ≡ 8 + 4 * (orderOf t + 1) + 50 * total (map (builtOf t) (bucketsOf (orderOf t)))

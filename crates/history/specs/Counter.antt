@@ -19,14 +19,15 @@ pub record Highest (place n : ℕ) : Type 0 where
   pub one : bit place n ≡ 1
   pub above : (k : ℕ) → place < k → bit k n ≡ 0
 
--- bucket k of a table that counts n: it is in use exactly if bit k of n is one, and then 2^k of its built slots are live, which are all that it has
+-- bucket k of a table that counts n: it is in use exactly if bit k of n is one, and then 2^k of its built slots are
+-- live, which are all that it has
 pub record BucketCounts (t : Table) (n k : ℕ) : Type 0 where
   pub used : inUse t k ≡ eqb (bit k n) 1
   pub live : bit k n ≡ 1 → length (liveSlots t k) ≡ 2 ^ k
   pub built : bit k n ≡ 1 → length (slotsOf t k) ≡ 2 ^ k
 
--- a table between calls with its sums (RULES 17.7), n items added and the distances of all builds together: each bucket counts n, and with L the place of the
--- highest one bit of n the distances are at most n·L·(L+1)/2
+-- a table between calls with its sums (RULES 17.7), n items added and the distances of all builds together: each bucket
+-- counts n, and with L the place of the highest one bit of n the distances are at most n·L·(L+1)/2
 pub record CountsAdds (state : State) : Type 0 where
   pub buckets : (k : ℕ) → k ≤ orderOf (state .table) → BucketCounts (state .table) (state .sums .adds) k
   pub place : ℕ

@@ -1,6 +1,6 @@
 -- RULES 11.2, 11.5, 11.9, 11.10 by rows and words alone: what stands behind the entries of an answer, and how many
 -- there are. Of any table, foreign ones too.
-use Prim.Native.Nat.{ℕ, suc, _+_, _*_, _^_, _≤_, _<_, min}
+use Prim.Native.Nat.{ℕ, suc, _^_, _≤_, _<_, min}
 use mathlib.Core.Path.{_≡_}
 use mathlib.Core.Bool.{Bool, _&&_}
 use mathlib.Core.List.{[], _∷_, map}
@@ -13,11 +13,11 @@ use Rattle.search_rules.specs.Range.{Entry}
 use Rattle.table_rules.specs.Table.{Table, tableSpace}
 use Rattle.table_rules.specs.Checks.{readRefusal}
 use Rattle.table_rules.specs.Search.{rangeAnswer, nearestAnswer}
-use Rattle.history.specs.Slots.{wordIn, orderIn, builtSize, slotRow, profileIn}
+use Rattle.history.specs.Places.{nthRow, wordIn, wideIn, orderWord, builtSize, slotRow, profileIn}
 
 -- RULES 11.2: at place i of bucket b a slot is built, its mark is 0, and its day is not before the first day
 pub record DatedAt (t : Table) (firstDay b i : ℕ) : Type 0 where
-  pub inOrder : b ≤ orderIn t
+  pub inOrder : b ≤ orderWord t
   pub within : i < builtSize t b
   pub mark : wordIn t (slotRow t b i) 11 ≡ 0
   pub day : firstDay ≤ wordIn t (slotRow t b i) 12
@@ -29,7 +29,7 @@ isDated t firstDay b i = eqb (wordIn t (slotRow t b i) 11) 0 && leb firstDay (wo
 abbrev pub entryAt : Table → Profile → ℕ → ℕ → Entry
 entryAt t query b i =
     let r = slotRow t b i in
-    (wordIn t r 0 + wordIn t r 1 * 2 ^ 32) ∷ distance (tableSpace t) (profileIn t r) query ∷ []
+    wideIn (nthRow t r) 0 ∷ distance (tableSpace t) (profileIn t r) query ∷ []
 
 -- an entry is that of such a slot
 pub record EntryThere (t : Table) (query : Profile) (firstDay : ℕ) (e : Entry) : Type 0 where
@@ -41,7 +41,7 @@ pub record EntryThere (t : Table) (query : Profile) (firstDay : ℕ) (e : Entry)
 -- how many places of a table pass a test, of those below the built size of each bucket 0 to T
 abbrev pub placesWith : Table → (ℕ → ℕ → Bool) → ℕ
 placesWith t test =
-    total (map (λ b. length (select (test b) (countFrom 0 (builtSize t b)))) (countFrom 0 (suc (orderIn t))))
+    total (map (λ b. length (select (test b) (countFrom 0 (builtSize t b)))) (countFrom 0 (suc (orderWord t))))
 
 -- RULES 4.1: every word of a table is one of 32 bits
 abbrev pub Words : Table → Type 0

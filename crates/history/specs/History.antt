@@ -1,4 +1,5 @@
--- RULES 17.2: the lists of calls that demands 2 and 3 speak of, on a table that fresh, load or restore began and these calls alone changed since.
+-- RULES 17.2: the lists of calls that demands 2 and 3 speak of, on a table that fresh, load or restore began and these
+-- calls alone changed since.
 use Prim.Native.Nat.{_^_, _<_}
 use mathlib.Core.Path.{_≡_}
 use mathlib.Core.List.{List, [], _∷_}
@@ -43,7 +44,8 @@ IsCall (change c) = IsChange c
 IsCall (ask q) = IsAsk q
 IsCall (write w) = IsWrite w
 
--- whatever lay there before, with nothing added up yet; and a model with nothing in it, whose order, metric and weights the first call sets
+-- whatever lay there before, with nothing added up yet; and a model with nothing in it, whose order, metric and weights
+-- the first call sets
 unfoldable pub before : Table → State
 before t = record { table = t; sums = noSums }
 
@@ -54,7 +56,8 @@ blankModel = record { order = 0; space = record { metric = 0; weights = weightsO
 unfoldable pub opening : Begin → Table → Step
 opening b area = record { call = begin b; table = area; areas = tt }
 
--- RULES 17.2, a list of calls on one table: an accepted fresh, load or restore on an area that may hold anything, then any calls, refused ones too
+-- RULES 17.2, a list of calls on one table: an accepted fresh, load or restore on an area that may hold anything, then
+-- any calls, refused ones too
 pub record History : Type 0 where
   pub initial : Table
   pub first : Begin

@@ -33,6 +33,7 @@ use Rattle.call_rules.specs.Calls.Change.{add, remove, readList}
 use Rattle.call_rules.specs.Calls.Ask.{lookUp, range, nearest, dues, rangeBatch, lots}
 use Rattle.call_rules.specs.Calls.Write.{image, save}
 use Rattle.call_rules.specs.Calls.Call.{begin, change, ask, write}
+use Rattle.history.specs.LoadTests.{slotsInAll, imageIn}
 use Rattle.history.specs.Reports.{tableAfterAdds}
 
 -- RULES 14.1: the refusal in a reply, 0 where the call is accepted; of fresh and lots it is the whole reply
@@ -51,9 +52,12 @@ refusalIn (ask (rangeBatch queries)) r = r .refusal
 refusalIn (ask (lots radii chosen)) r = r
 refusalIn (write w) r = r .refusal
 
--- what a call is refused by
+-- what a call is refused by, and that it is refused
 abbrev pub refusalOf : (c : Call) → Table → Areas c → ℕ
 refusalOf c t areas = refusalIn c (replyTo c t areas)
+
+abbrev pub Refused : (c : Call) → Table → Areas c → Type 0
+Refused c t areas = refusalOf c t areas ≡ 0 → ⊥
 
 -- RULES 14.2: the reply that is a number and zeros
 abbrev pub numberAndZeros : (c : Call) → ℕ → Reply c
@@ -83,12 +87,16 @@ pub record ChangesNothing (c : Call) (t : Table) (areas : Areas c) : Type 0 wher
   pub table : tableAfter c t areas ≡ t
   pub lent : areasAfter c t areas ≡ areas
 
+-- RULES 12.8: the refusals of an image's trees, 36, 37 and 38, which return a slot
+abbrev pub HasSlot : ℕ → Type 0
+HasSlot n = (n ≡ duplicateTag) ⊎ ((n ≡ misplacedItem) ⊎ (n ≡ badThreshold))
+
 -- RULES 14.2, the exceptions, by the call and its number: 36, 37 and 38 of load and restore; every refusal of a herd
 -- list, which returns its line; 6 on range, nearest, a batch and lots. No other
 abbrev pub Excepted : Call → ℕ → Type 0
 Excepted (begin (fresh order space)) n = ⊥
-Excepted (begin (load bytes)) n = (n ≡ duplicateTag) ⊎ ((n ≡ misplacedItem) ⊎ (n ≡ badThreshold))
-Excepted (begin (restore states name)) n = (n ≡ duplicateTag) ⊎ ((n ≡ misplacedItem) ⊎ (n ≡ badThreshold))
+Excepted (begin (load bytes)) n = HasSlot n
+Excepted (begin (restore states name)) n = HasSlot n
 Excepted (change (add tag profile day)) n = ⊥
 Excepted (change (remove tag)) n = ⊥
 Excepted (change (readList list day)) n = Unit {0}
@@ -100,9 +108,18 @@ Excepted (ask (rangeBatch queries)) n = n ≡ noRoom
 Excepted (ask (lots radii chosen)) n = n ≡ noRoom
 Excepted (write w) n = ⊥
 
--- as many entries of two words as an area has, all zero
+abbrev pub NotExcepted : (c : Call) → Table → Areas c → Type 0
+NotExcepted c t areas = Excepted c (refusalOf c t areas) → ⊥
+
+-- RULES 4.1: a row of zeros, and an entry of two; as many entries as an area has, all zero
+abbrev pub noRow : Row
+noRow = replicate 13 0
+
+abbrev pub noEntry : List ℕ
+noEntry = 0 ∷ 0 ∷ []
+
 abbrev pub zeros : List (List ℕ) → List (List ℕ)
-zeros area = replicate (length area) (0 ∷ 0 ∷ [])
+zeros area = replicate (length area) noEntry
 
 -- RULES 13.4: some lines of a herd list, of one day, are all accepted as adds, each on what the adds before it left
 unfoldable pub AllAdded : ℕ → Table → List Row → List ListLine → Type 0
@@ -143,8 +160,15 @@ EndsAt day u left at (anItem tag p ∷ lines) r =
 
 -- RULES 14.2, what the exceptions return and leave
 pub record Exceptions (t : Table) : Type 0 where
-  -- 36, 37 and 38 return a slot; like every refusal of a load or a restore they leave the table as it was
-  pub begins : (b : Begin) → (refusalOf (begin b) t tt ≡ 0 → ⊥) → tableAfter (begin b) t tt ≡ t
+  -- every refusal of a load or a restore leaves the table as it was; 36, 37 and 38 return a slot, one of those that the
+  -- image has
+  pub begins : (b : Begin) → Refused (begin b) t tt → tableAfter (begin b) t tt ≡ t
+  pub loads : (bytes : List ℕ)
+      → let c = begin (load bytes) in
+      Excepted c (refusalOf c t tt) → replyTo c t tt .slot < slotsInAll bytes
+  pub restores : (states : List ℕ) (name : ℕ)
+      → let c = begin (restore states name) in
+      Excepted c (refusalOf c t tt) → replyTo c t tt .slot < slotsInAll (imageIn states name)
   -- a herd list keeps what the lines before the refused one added, and returns its line, their number and their
   -- distances
   pub lists : (work : List Row) (list : List ℕ) (day : ℕ)
@@ -189,13 +213,6 @@ pub record Fills {A : Type 0} (zero : A) (n : ℕ) (answer before after : List A
   pub long : length after ≡ length before
   pub front : take n after ≡ answer
   pub past : drop n after ≡ replicate (length before - n) zero
-
--- RULES 4.1: a row of zeros, and an entry of two
-abbrev pub noRow : Row
-noRow = replicate 13 0
-
-abbrev pub noEntry : List ℕ
-noEntry = 0 ∷ 0 ∷ []
 
 -- RULES 4.7: a table area keeps its length, and the rows past a table of this order
 pub record KeepsRows (order : ℕ) (before after : Table) : Type 0 where

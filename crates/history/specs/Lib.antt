@@ -1,5 +1,8 @@
+pub mod Places
+pub mod Figures
 pub mod ImageForm
 pub mod LoadTests
+pub mod TreeTests
 pub mod Trace
 pub mod Model
 pub mod History
@@ -7,13 +10,17 @@ pub mod Images
 pub mod Represents
 pub mod Reports
 pub mod Trees
+pub mod TreeForm
 pub mod Agreement
 pub mod Counter
 pub mod Leaves
 pub mod Visits
 pub mod Weighing
+pub mod Earlier
 pub mod ListForm
 pub mod Slots
+pub mod Items
 pub mod Frame
+pub mod Bounds
 pub mod Entries
 pub mod Demands

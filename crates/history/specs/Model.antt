@@ -1,42 +1,44 @@
--- RULES 16, the reference model: an order, a metric, four weights and a list of items. It is fed the calls' arguments, a load's image, a restore's states and a herd list
--- too, and the lengths of the lent areas, but never an answer or what the table holds.
-use Prim.Native.Nat.{ℕ, zero, suc, _+_, _-_, _*_, _/_, _^_}
-use mathlib.Core.Bool.{Bool, true, false, not, _&&_}
+-- RULES 16, the reference model: an order, a metric, four weights and a list of items. It is fed the calls' arguments,
+-- a load's image, a restore's states and a herd list too, and the lengths of the lent areas, but never an answer or
+-- what the table holds. What it shares with the calls is listed in RULES 16.8.
+use Prim.Native.Nat.{ℕ, zero, suc, _+_, _-_, _*_, _/_, _%_, _^_}
+use mathlib.Core.Bool.{Bool, true, false, not, _&&_, _||_}
 use mathlib.Core.List.{List, [], _∷_, map, _++_, flatten}
 use mathlib.Core.Option.{Option}
 use lib.IntN.{ℤ}
-use lib.ListN.{length, take, replicate}
+use lib.ListN.{length, take, getD, replicate}
 use lib.Dec.{leb, ltb, eqb}
 use mir.Syntax.{w32}
 use mir.Val.{toZ}
 use Rattle.lists.specs.Lists.{select, total, every, any, countFrom}
 use Rattle.metric_rules.specs.declared.Profile.{Profile}
-use Rattle.metric_rules.specs.Row.{Row, tagOf, profileOf, dayOf, measure, thresholdOf}
-use Rattle.metric_rules.specs.Validity.{validTag, validMeasures, validDay}
+use Rattle.metric_rules.specs.Row.{Row, tagOf, profileOf, dayOf, measure}
 use Rattle.metric_rules.specs.declared.Space.{Space}
 use Rattle.metric_rules.specs.Distance.{distance}
 use Rattle.search_rules.specs.Range.{Entry, entry, entryDistance, ordered}
-use Rattle.table_rules.specs.Refusals.{badTag, badMeasure, badOrder, badMetric, noCount, noRoom, alreadyLive, notLive, full, shortArea, badWeight, badDay, unless, when, orElse}
-use Rattle.table_rules.specs.Geometry.{room, tableRows, workRows}
+use Rattle.table_rules.specs.Refusals.{badTag, badMeasure, badOrder, badMetric, noCount, noRoom, alreadyLive, notLive}
+use Rattle.table_rules.specs.Refusals.{full, shortArea, badWeight, badDay, unless, when}
 use Rattle.table_rules.specs.LookUp.{noProfile}
-use Rattle.image_rules.specs.Load.{treesIn}
 use Rattle.list_rules.specs.Lines.{ListLine, hasHeader, itemLines}
 use Rattle.list_rules.specs.Lines.ListLine.{anItem, malformed}
 use Rattle.list_rules.specs.ReadList.{badListHeader, badListLine}
-use Rattle.dues_rules.specs.Listed.{weightsRefusal, duesOf}
-use Rattle.batch_rules.specs.Batch.{mostQueries, firstDayOf, queriesRefusal}
-use Rattle.lots_rules.specs.Lots.{Summary, byTag, lots, summaryOf, listingOf}
-use Rattle.lots_rules.specs.Drafting.{badRadii, radiiPass, chosenRadius}
+use Rattle.dues_rules.specs.Listed.{noDues}
+use Rattle.batch_rules.specs.Batch.{badBatch}
+use Rattle.lots_rules.specs.Lots.{Summary, byTag, lots}
+use Rattle.lots_rules.specs.Drafting.{badRadii}
 use Rattle.call_rules.specs.Calls.{Begin, Change, Ask, AskAreas, Call, Areas}
 use Rattle.call_rules.specs.Calls.Begin.{fresh, load, restore}
 use Rattle.call_rules.specs.Calls.Change.{add, remove, readList}
 use Rattle.call_rules.specs.Calls.Ask.{lookUp, range, nearest, dues, rangeBatch}
 use Rattle.call_rules.specs.Calls.Call.{begin, change, ask, write}
-use Rattle.history.specs.ImageForm.{numberAt}
-use Rattle.history.specs.LoadTests.{orderByte, metricByte, formBytes, tagsFrom, slotsInAll, recordFrom, markIn}
-use Rattle.history.specs.LoadTests.{loadRefusalOf, imageIn, restoreRefusalOf}
+use Rattle.history.specs.Places.{numberFrom}
+use Rattle.history.specs.Figures.{tagSound, measuresWithin, isMissing, isBelowZero, paysFor, greatest}
+use Rattle.history.specs.LoadTests.{orderByte, formBytes, slotsInAll, recordFrom, tagIn, markIn, dayRead}
+use Rattle.history.specs.LoadTests.{spaceRead, loadRefusalOf, imageIn, restoreRefusalOf}
+use Rattle.history.specs.TreeTests.{slotRefusalsOf}
 use Rattle.history.specs.Trace.{Step, Payload, Shown, zeroed, shows}
-use Rattle.history.specs.Trace.Payload.{bare, aSlot, aWeighing, someEntries, aListRead, someDues, someLists, aDraft}
+use Rattle.history.specs.Trace.Payload.{bare, aSlot, aWeighing, someEntries, aListRead, someDues, someLists}
+use Rattle.history.specs.Trace.Payload.{aDraft}
 
 -- RULES 2.7: an item as handed over; and the item of a slot's row
 pub record Item : Type 0 where
@@ -53,7 +55,8 @@ pub record Model : Type 0 where
   pub space : Space
   pub items : List Item
 
--- of the areas lent to a call it is told the lengths alone; of a drafting those of the work area, of the summary and of the listing
+-- of the areas lent to a call it is told the lengths alone; of a drafting those of the work area, of the summary and of
+-- the listing
 pub record DraftLengths : Type 0 where
   pub work : ℕ
   pub summary : ℕ
@@ -73,7 +76,12 @@ askLengths (range q r firstDay) result = length result
 askLengths (nearest q k firstDay) result = length result
 askLengths (dues tags) area = length area
 askLengths (rangeBatch queries) result = length result
-askLengths (Ask.lots radii chosen) areas = record { work = length (areas .work); summary = length (areas .summary); listing = length (areas .listing) }
+askLengths (Ask.lots radii chosen) areas =
+    record {
+      work = length (areas .work);
+      summary = length (areas .summary);
+      listing = length (areas .listing);
+    }
 
 abbrev pub Lengths : Call → Type 0
 Lengths (begin b) = Unit {0}
@@ -105,9 +113,11 @@ unfoldable pub weighedIn : List Item → Payload
 weighedIn [] = aWeighing noProfile 0
 weighedIn (i ∷ is) = aWeighing (i .profile) (i .day)
 
--- RULES 16.5, the scan: the entry of every item weighed on the first day or later; all with d ≤ r; the first k of all, or all if fewer; by distance, then tag
+-- RULES 16.5, the scan: the entry of every item weighed on the first day or later; all with d ≤ r; the first k of all,
+-- or all if fewer; by distance, then tag
 unfoldable pub scanned : Model → Profile → ℕ → List Entry
-scanned m q firstDay = map (λ i. entry (i .tag) (distance (m .space) (i .profile) q)) (select (λ i. leb firstDay (i .day)) (m .items))
+scanned m q firstDay =
+    map (λ i. entry (i .tag) (distance (m .space) (i .profile) q)) (select (λ i. leb firstDay (i .day)) (m .items))
 
 unfoldable pub modelRange : Model → Profile → ℕ → ℕ → List Entry
 modelRange m q r firstDay = ordered (select (λ e. leb (entryDistance e) r) (scanned m q firstDay))
@@ -115,7 +125,8 @@ modelRange m q r firstDay = ordered (select (λ e. leb (entryDistance e) r) (sca
 unfoldable pub modelNearest : Model → Profile → ℕ → ℕ → List Entry
 modelNearest m q k firstDay = take k (ordered (scanned m q firstDay))
 
--- RULES 16.6: what the item with a tag weighs, its first measure, and the same of a list of tags; none where no item has the tag
+-- RULES 16.6: what the item with a tag weighs, its first measure, and the same of a list of tags; none where no item
+-- has the tag
 unfoldable pub weightOf : List Item → Option ℤ
 weightOf [] = Option.none
 weightOf (i ∷ is) = Option.some (measure (i .profile) 0)
@@ -123,42 +134,50 @@ weightOf (i ∷ is) = Option.some (measure (i .profile) 0)
 unfoldable pub weightsIn : Model → List ℕ → List (Option ℤ)
 weightsIn m tags = map (λ tag. weightOf (withTag tag (m .items))) tags
 
--- the scan for each of several queries, each with its own radius and first day
+-- RULES 11.12, the scan for each of several queries: a query is a row, its radius the word 10 and its first day the
+-- lowest 16 bits of the word 12
 unfoldable pub modelRanges : Model → List Row → List (List Entry)
-modelRanges m queries = map (λ query. modelRange m (profileOf query) (thresholdOf query) (firstDayOf query)) queries
+modelRanges m queries =
+    map (λ query. modelRange m (profileOf query) (getD query 10 0) (getD query 12 0 % 65_536)) queries
 
--- RULES 16.7: its own items by tag, drafted by the distance of its metric and weights; the summary of each radius, and the listing of the chosen one
+-- RULES 16.7: its own items by tag, drafted by the distance of its metric and weights
 abbrev pub betweenItems : Model → Item → Item → ℕ
 betweenItems m a b = distance (m .space) (a .profile) (b .profile)
 
 unfoldable pub modelLots : Model → ℕ → List (List Item)
 modelLots m radius = lots (betweenItems m) radius (byTag (λ i. i .tag) (m .items))
 
+-- RULES 21.5: of each radius the number of lots and the size of the largest
 unfoldable pub modelSummaries : Model → List ℕ → List Summary
-modelSummaries m radii = map (λ r. summaryOf (modelLots m r)) radii
+modelSummaries m radii =
+    map (λ r. length (modelLots m r) ∷ greatest (map length (modelLots m r)) ∷ []) radii
 
+-- RULES 21.4, 21.6: by the chosen radius, whose place in the list is counted from 1, each item's tag with the number of
+-- its lot, lots being numbered from 1
 unfoldable pub modelListing : Model → List ℕ → ℕ → List Entry
-modelListing m radii chosen = listingOf (λ i. i .tag) (modelLots m (chosenRadius radii chosen))
+modelListing m radii chosen =
+    let drafted = modelLots m (getD radii (chosen - 1) 0) in
+    flatten (map (λ n. map (λ i. i .tag ∷ suc n ∷ []) (getD drafted n [])) (countFrom 0 (length drafted)))
 
--- a table area of so many rows, and in add and remove a work area, are long enough; else 23
+-- RULES 4.3, 4.5: a table area has T + 1 + 2^(T+1) rows, and in add and remove a work area has 2^T; else 23
 unfoldable pub canRead : Model → ℕ → Bool
-canRead m rows = leb (tableRows (m .order)) rows
+canRead m rows = leb (m .order + 1 + 2 ^ suc (m .order)) rows
 
 unfoldable pub canChange : Model → ℕ → ℕ → Bool
-canChange m rows work = canRead m rows && leb (workRows (m .order)) work
+canChange m rows work = canRead m rows && leb (2 ^ m .order) work
 
 -- RULES 14.4, remove and look up: 1, then 21
 unfoldable pub tagRefusal : Model → ℕ → ℕ
-tagRefusal m tag = unless (validTag tag) badTag (unless (isIn m tag) notLive 0)
+tagRefusal m tag = unless (tagSound tag) badTag (unless (isIn m tag) notLive 0)
 
 -- RULES 14.4, add: 1, 2, 33, 20, 22
 unfoldable pub itemRefusal : Model → ℕ → Profile → ℕ → ℕ
 itemRefusal m tag p day =
-    unless (validTag tag) badTag
-    (unless (validMeasures p) badMeasure
-    (unless (validDay day) badDay
+    unless (tagSound tag) badTag
+    (unless (measuresWithin p) badMeasure
+    (when (eqb day 0) badDay
     (when (isIn m tag) alreadyLive
-    (when (leb (room (m .order)) (length (m .items))) full
+    (when (leb (2 ^ m .order) (length (m .items))) full
     0))))
 
 -- add and remove: 23 first
@@ -172,26 +191,46 @@ removeRefusalOf m rows work tag = unless (canChange m rows work) shortArea (tagR
 unfoldable pub fits : ℕ → List Entry → ℕ
 fits area entries = unless (leb (length entries) area) noRoom 0
 
--- the questions, after 23: look up 1, 21; range 2, 6; nearest 2, 5, 6; dues 21, 39, 6, by the weights of its own items; a batch 40, 2, 6; lots 23 for the
--- work area, 41, 6
+-- RULES 20.6, of the weights of a list's tags, each test over the whole list before the next: 21 where a tag has no
+-- item; 39 for more than 4,096 tags or a weight below 0; 6 for an area of fewer numbers than tags
+unfoldable pub duesRefusalOf : List (Option ℤ) → ℕ → ℕ
+duesRefusalOf weights area =
+    when (any isMissing weights) notLive
+    (when (ltb 4_096 (length weights) || any isBelowZero weights) noDues
+    (when (ltb area (length weights)) noRoom
+    0))
+
+-- RULES 14.4, a batch: 40 for no query or more than 16, 2 for the measures of any, 6 for a part of the area, one for
+-- each query, that is shorter than its query's list
+unfoldable pub batchRefusalOf : Model → List Row → ℕ → ℕ
+batchRefusalOf m queries area =
+    when (ltb (length queries) 1 || ltb 16 (length queries)) badBatch
+    (unless (every (λ query. measuresWithin (profileOf query)) queries) badMeasure
+    (when (any (λ entries. ltb (area / length queries) (length entries)) (modelRanges m queries)) noRoom
+    0))
+
+-- RULES 14.4, 21.4, 21.7, lots: 23 for the work area; 41 for no radius, more than 32, or a chosen place outside the
+-- list, counted from 1; 6 for a summary shorter than the radii or a listing shorter than the items
+unfoldable pub lotsRefusalOf : Model → List ℕ → ℕ → DraftLengths → ℕ
+lotsRefusalOf m radii chosen n =
+    when (ltb (n .work) (2 ^ m .order)) shortArea
+    (when (ltb (length radii) 1 || ltb 32 (length radii) || (ltb chosen 1 || ltb (length radii) chosen)) badRadii
+    (when (ltb (n .summary) (length radii) || ltb (n .listing) (length (m .items))) noRoom
+    0))
+
+-- the questions, after 23: look up 1, 21; range 2, 6; nearest 2, 5, 6; dues, a batch and lots as above
 unfoldable pub questionRefusal : Model → (q : Ask) → AskLengths q → ℕ
 questionRefusal m (lookUp tag) none = tagRefusal m tag
 questionRefusal m (range q r firstDay) area =
-    unless (validMeasures q) badMeasure
+    unless (measuresWithin q) badMeasure
     (fits area (modelRange m q r firstDay))
 questionRefusal m (nearest q k firstDay) area =
-    unless (validMeasures q) badMeasure
+    unless (measuresWithin q) badMeasure
     (when (eqb k 0) noCount
     (fits area (modelNearest m q k firstDay)))
-questionRefusal m (dues tags) area = weightsRefusal (weightsIn m tags) area
-questionRefusal m (rangeBatch queries) area =
-    orElse (queriesRefusal queries)
-    (unless (every (λ entries. leb (length entries) (area / length queries)) (modelRanges m queries)) noRoom 0)
-questionRefusal m (Ask.lots radii chosen) n =
-    unless (leb (workRows (m .order)) (n .work)) shortArea
-    (unless (radiiPass radii chosen) badRadii
-    (unless (leb (length radii) (n .summary) && leb (length (m .items)) (n .listing)) noRoom
-    0))
+questionRefusal m (dues tags) area = duesRefusalOf (weightsIn m tags) area
+questionRefusal m (rangeBatch queries) area = batchRefusalOf m queries area
+questionRefusal m (Ask.lots radii chosen) n = lotsRefusalOf m radii chosen n
 
 unfoldable pub askRefusal : Model → (q : Ask) → ℕ → AskLengths q → ℕ
 askRefusal m q rows n = unless (canRead m rows) shortArea (questionRefusal m q n)
@@ -205,13 +244,13 @@ paid each = someDues (total each) each
 
 -- the numbers of several lists, with zeros to 16, and the lists one after the other
 unfoldable pub foundEach : List (List Entry) → Payload
-foundEach lists = someLists (map length lists ++ replicate (mostQueries - length lists) 0) (flatten lists)
+foundEach lists = someLists (map length lists ++ replicate (16 - length lists) 0) (flatten lists)
 
 unfoldable pub answerTo : Model → Ask → Payload
 answerTo m (lookUp tag) = weighedIn (withTag tag (m .items))
 answerTo m (range q r firstDay) = found (modelRange m q r firstDay)
 answerTo m (nearest q k firstDay) = found (modelNearest m q k firstDay)
-answerTo m (dues tags) = paid (duesOf (weightsIn m tags))
+answerTo m (dues tags) = paid (map paysFor (weightsIn m tags))
 answerTo m (rangeBatch queries) = foundEach (modelRanges m queries)
 answerTo m (Ask.lots radii chosen) = aDraft (modelSummaries m radii) (modelListing m radii chosen)
 
@@ -249,48 +288,42 @@ linesAnswered day m rows work i (malformed ∷ lines) = stopsAt m badListLine i
 linesAnswered day m rows work i (anItem tag p ∷ lines) =
     elim (addRefusalOf m rows work tag p day) [
       | suc r ↦ stopsAt m (suc r) i
-      | zero ↦ oneMoreAdded (linesAnswered day (with (record { tag = tag; profile = p; day = day }) m) rows work (suc i) lines)
+      | zero ↦
+          (let item : Item = record { tag = tag; profile = p; day = day } in
+          oneMoreAdded (linesAnswered day (with item m) rows work (suc i) lines))
     ]
 
 unfoldable pub listAnswered : Model → ℕ → ℕ → List ℕ → ℕ → ListAnswered
 listAnswered m rows work list day =
-    elim (hasHeader list) [ false ↦ stopsAt m badListHeader 1 | true ↦ linesAnswered day m rows work 2 (itemLines list) ]
+    elim (hasHeader list) [
+      | false ↦ stopsAt m badListHeader 1
+      | true ↦ linesAnswered day m rows work 2 (itemLines list)
+    ]
 
--- RULES 12.1, 12.3, an image as the model reads it, at places of its own (LoadTests). The weights are bytes 4 to 7, and 1
--- in form 0; the day is 1 in forms 0 and 1
-unfoldable pub weightsRead : ℕ → List ℕ → List ℕ
-weightsRead zero bytes = 1 ∷ 1 ∷ 1 ∷ 1 ∷ []
-weightsRead (suc form) bytes = map (λ i. numberAt bytes (4 + i) 1) (0 ∷ 1 ∷ 2 ∷ 3 ∷ [])
-
-unfoldable pub dayRead : ℕ → List ℕ → ℕ → ℕ
-dayRead zero bytes place = 1
-dayRead (suc zero) bytes place = 1
-dayRead (suc (suc form)) bytes place = numberAt bytes (place + 40) 2
-
--- slot i: its tag among the tags; in its record four measures in two's complement, two code words, and the day at the
--- end
+-- RULES 12.1, 12.3, slot i of an image as the model reads it, at places of its own (LoadTests): its tag among the tags;
+-- in its record four measures in two's complement, two code words, and the day at the end
 unfoldable pub profileRead : List ℕ → ℕ → Profile
 profileRead bytes place =
     record {
-      measures = map (λ j. toZ w32 (numberAt bytes (place + 4 * j) 4)) (0 ∷ 1 ∷ 2 ∷ 3 ∷ []);
-      code = numberAt bytes (place + 16) 8 ∷ numberAt bytes (place + 24) 8 ∷ [];
+      measures = map (λ j. toZ w32 (numberFrom bytes (place + 4 * j) 4)) (0 ∷ 1 ∷ 2 ∷ 3 ∷ []);
+      code = numberFrom bytes (place + 16) 8 ∷ numberFrom bytes (place + 24) 8 ∷ [];
     }
 
 unfoldable pub itemRead : List ℕ → ℕ → Item
 itemRead bytes i =
     record {
-      tag = numberAt bytes (tagsFrom bytes + 8 * i) 8;
+      tag = tagIn bytes i;
       profile = profileRead bytes (recordFrom bytes i);
       day = dayRead (formBytes bytes) bytes (recordFrom bytes i);
     }
 
--- RULES 16.4, fresh: order, metric and weights as given and no item; load: those of the image, with its items of mark 0;
--- restore: a load of the image in the part
+-- RULES 16.4, fresh: order, metric and weights as given and no item; load: those of the image, with its items of mark
+-- 0; restore: a load of the image in the part
 unfoldable pub imageModel : List ℕ → Model
 imageModel bytes =
     record {
       order = orderByte bytes;
-      space = record { metric = metricByte bytes; weights = record { each = weightsRead (formBytes bytes) bytes } };
+      space = spaceRead bytes;
       items = map (itemRead bytes) (select (λ i. eqb (markIn bytes i) 0) (countFrom 0 (slotsInAll bytes)));
     }
 
@@ -299,7 +332,8 @@ modelBegun (fresh order space) = record { order = order; space = space; items = 
 modelBegun (load image) = imageModel image
 modelBegun (restore states name) = imageModel (imageIn states name)
 
--- RULES 7.2, 14.4, fresh, by figures of the model's own: 3 for an order above 12, 4 for a metric above 2, 32 for a weight above 100, 23 for fewer rows than T + 1 + 2^(T+1)
+-- RULES 7.2, 14.4, fresh, by figures of the model's own: 3 for an order above 12, 4 for a metric above 2, 32 for a
+-- weight above 100, 23 for fewer rows than T + 1 + 2^(T+1)
 unfoldable pub freshRefusalOf : ℕ → ℕ → Space → ℕ
 freshRefusalOf rows order space =
     when (ltb 12 order) badOrder
@@ -312,16 +346,20 @@ freshRefusalOf rows order space =
 abbrev pub orShown : ℕ → Shown → Shown
 orShown n shown = elim n [ zero ↦ shown | suc m ↦ shows (suc m) (aSlot 0) ]
 
--- RULES 12.8, the trees of an image, by the definitions of the call: what more is claimed of them stands in Demands,
--- `AcceptsTrees`
+-- RULES 12.8, the trees of an image: of the slots' refusals from slot `at` on the first that is one, and its slot
+unfoldable pub firstShown : ℕ → List ℕ → Shown
+firstShown at [] = shows 0 (aSlot 0)
+firstShown at (zero ∷ ns) = firstShown (suc at) ns
+firstShown at (suc n ∷ ns) = shows (suc n) (aSlot at)
+
 unfoldable pub treesShown : List ℕ → Shown
-treesShown image = shows (treesIn image .refusal) (aSlot (treesIn image .slot))
+treesShown image = firstShown 0 (slotRefusalsOf image)
 
 unfoldable pub loadShown : ℕ → List ℕ → Shown
 loadShown rows image = orShown (loadRefusalOf rows image) (treesShown image)
 
--- RULES 16.3, what a call that begins a table shows. Fresh, load and restore read nothing of the table but its length.
--- The model refuses them by figures of its own, of an image up to its trees; a restore is a load of the image in the part
+-- RULES 16.3, what a call that begins a table shows. Fresh, load and restore read nothing of the table but its length;
+-- a restore is a load of the image in the part
 unfoldable pub begunShown : Begin → ℕ → Shown
 begunShown (fresh order space) rows = shows (freshRefusalOf rows order space) bare
 begunShown (load image) rows = loadShown rows image

@@ -3,7 +3,7 @@
 use Prim.Native.Nat.{ℕ, _+_, _-_, _*_, _^_, _≤_, _<_}
 use mathlib.Core.Path.{_≡_}
 use mathlib.Core.Logic.{_⊎_}
-use mathlib.Core.List.{List, [], _∷_}
+use mathlib.Core.List.{List, _∷_}
 use lib.IntN.{pos}
 use lib.ListN.{length, getD, set, replicate}
 use mir.Syntax.{w32}
@@ -16,51 +16,22 @@ use Rattle.table_rules.specs.LookUp.{lookUpReply}
 use Rattle.table_rules.specs.Refusals.{notLive}
 use Rattle.table_rules.specs.Add.{addReply}
 use Rattle.table_rules.specs.Remove.{afterDeletion, removeReply, tableAfterRemove}
-use Rattle.dues_rules.specs.Board.{board, duesBy}
 use Rattle.dues_rules.specs.Listed.{duesReply, duesAfter}
-
--- row r, and word w of it, as they stand
-abbrev pub rowIn : Table → ℕ → Row
-rowIn t r = getD t r []
-
-abbrev pub wordIn : Table → ℕ → ℕ → ℕ
-wordIn t r w = getD (getD t r []) w 0
-
--- RULES 4.3: the order T, word 0 of row 0; the built size and the live size of bucket b, words 0 and 1 of row 1 + b;
--- and the row of place i of bucket b, T + 1 + 2^b + i
-abbrev pub orderIn : Table → ℕ
-orderIn t = wordIn t 0 0
-
-abbrev pub builtSize : Table → ℕ → ℕ
-builtSize t b = wordIn t (1 + b) 0
-
-abbrev pub liveSize : Table → ℕ → ℕ
-liveSize t b = wordIn t (1 + b) 1
-
-abbrev pub slotRow : Table → ℕ → ℕ → ℕ
-slotRow t b i = orderIn t + 1 + 2 ^ b + i
+use Rattle.history.specs.Figures.{centsAKilo, inCents}
+use Rattle.history.specs.Places.{nthRow, wordIn, wideIn, orderWord, builtSize, liveSize, slotRow, profileIn}
 
 -- RULES 4.2, 5.5: at place i of bucket b a slot is built, its mark is 0, and its tag's words, the low one first, are
 -- those of the tag
 pub record TagAt (t : Table) (tag b i : ℕ) : Type 0 where
-  pub inOrder : b ≤ orderIn t
+  pub inOrder : b ≤ orderWord t
   pub within : i < builtSize t b
   pub mark : wordIn t (slotRow t b i) 11 ≡ 0
-  pub tagged : wordIn t (slotRow t b i) 0 + wordIn t (slotRow t b i) 1 * 2 ^ 32 ≡ tag
+  pub tagged : wideIn (nthRow t (slotRow t b i)) 0 ≡ tag
 
 -- RULES 9.1: and every such slot is in a higher bucket, or in that bucket at this place or a higher one
 pub record FirstAt (t : Table) (tag b i : ℕ) : Type 0 where
   pub here : TagAt t tag b i
   pub first : (c j : ℕ) → TagAt t tag c j → (b < c) ⊎ ((b ≡ c) × (i ≤ j))
-
--- RULES 4.2, the profile that a row's words hold: four measures in two's complement, and two numbers of two words each
-abbrev pub profileIn : Table → ℕ → Profile
-profileIn t r =
-    record {
-      measures =
-          toZ w32 (wordIn t r 2) ∷ toZ w32 (wordIn t r 3) ∷ toZ w32 (wordIn t r 4) ∷ toZ w32 (wordIn t r 5) ∷ [];
-      code = (wordIn t r 6 + wordIn t r 7 * 2 ^ 32) ∷ (wordIn t r 8 + wordIn t r 9 * 2 ^ 32) ∷ [];
-    }
 
 -- RULES 10.2: a look up replies the bucket of the first slot, and its profile and day as they stand
 pub record RepliesFirst (t : Table) (tag : ℕ) (r : LookedUp) : Type 0 where
@@ -73,9 +44,9 @@ pub record RepliesFirst (t : Table) (tag : ℕ) (r : LookedUp) : Type 0 where
 -- row written whole, and every other row is as it was
 pub record Struck (t u : Table) (b i : ℕ) : Type 0 where
   pub long : length u ≡ length t
-  pub slot : rowIn u (slotRow t b i) ≡ set (rowIn t (slotRow t b i)) 11 1
-  pub sizes : rowIn u (1 + b) ≡ builtSize t b ∷ (liveSize t b - 1) ∷ replicate 11 0
-  pub others : (r : ℕ) → (r ≡ slotRow t b i → ⊥) → (r ≡ 1 + b → ⊥) → rowIn u r ≡ rowIn t r
+  pub slot : nthRow u (slotRow t b i) ≡ set (nthRow t (slotRow t b i)) 11 1
+  pub sizes : nthRow u (1 + b) ≡ builtSize t b ∷ (liveSize t b - 1) ∷ replicate 11 0
+  pub others : (r : ℕ) → (r ≡ slotRow t b i → ⊥) → (r ≡ 1 + b → ⊥) → nthRow u r ≡ nthRow t r
 
 -- RULES 9.2 to 9.4: a removal strikes the first slot. Where more than a quarter of its bucket's room stays live, that
 -- is all; else the steps after a deletion begin at the table struck
@@ -95,7 +66,7 @@ pub record PaysFirst (t : Table) (tag paid : ℕ) : Type 0 where
   pub weight : ℕ
   pub first : FirstAt t tag bucket slot
   pub weighs : toZ w32 (wordIn t (slotRow t bucket slot) 2) ≡ pos weight
-  pub pays : paid ≡ duesBy board weight
+  pub pays : paid ≡ inCents (weight * centsAKilo weight)
 
 -- no slot has the tag and mark 0
 abbrev pub NoneAt : Table → ℕ → Type 0

@@ -1,22 +1,23 @@
 -- RULES 17.2, 17.6, 17.7, a list of calls on one table: what each shows, and the table with its sums between calls.
 use Prim.Native.Nat.{ℕ, zero, suc, _+_, _-_}
 use mathlib.Core.List.{List, [], _∷_, _++_}
+use lib.Dec.{eqb}
 use lib.ListN.{length, take, drop, replicate}
+use Rattle.lists.specs.Lists.{select, countFrom}
 use Rattle.metric_rules.specs.declared.Profile.{Profile}
 use Rattle.search_rules.specs.Range.{Entry, entryDistance}
 use Rattle.table_rules.specs.Geometry.{tableRows}
 use Rattle.table_rules.specs.Table.{Table, orderOf}
 use Rattle.table_rules.specs.LookUp.{noProfile}
-use Rattle.image_rules.specs.Read.{slotsIn}
-use Rattle.image_rules.specs.Load.{liveRows}
-use Rattle.state_rules.specs.Parts.{partOf, savedImage}
 use Rattle.batch_rules.specs.Batch.{mostQueries, partSize}
 use Rattle.lots_rules.specs.Lots.{Summary}
-use Rattle.call_rules.specs.Calls.{Begin, BeginReply, Change, ChangeReply, DraftAreas, Ask, AskAreas, AskReply, Call, Areas, Reply, replyTo, tableAfter, areasAfter}
+use Rattle.call_rules.specs.Calls.{Begin, BeginReply, Change, ChangeReply, DraftAreas, Ask, AskAreas, AskReply, Call}
+use Rattle.call_rules.specs.Calls.{Areas, Reply, replyTo, tableAfter, areasAfter}
 use Rattle.call_rules.specs.Calls.Begin.{fresh, load, restore}
 use Rattle.call_rules.specs.Calls.Change.{add, remove, readList}
 use Rattle.call_rules.specs.Calls.Ask.{lookUp, range, nearest, dues, rangeBatch, lots}
 use Rattle.call_rules.specs.Calls.Call.{begin, change, ask, write}
+use Rattle.history.specs.LoadTests.{slotsInAll, markIn, imageIn}
 
 -- RULES 17.2, one call of a list: each may be lent other areas of any length and content
 pub record Step : Type 0 where
@@ -28,8 +29,9 @@ pub record Step : Type 0 where
 unfoldable pub ownRows : Table → Table
 ownRows t = take (tableRows (orderOf t)) t
 
--- RULES 17.2, the table as a call is lent it: its own rows as the call before left them, as far as the lent area reaches, and behind them whatever the area holds.
--- What lay there before the first call need be no table: that call, a fresh, a load or a restore, reads none of it
+-- RULES 17.2, the table as a call is lent it: its own rows as the call before left them, as far as the lent area
+-- reaches, and behind them whatever the area holds. What lay there before the first call need be no table: that call, a
+-- fresh, a load or a restore, reads none of it
 unfoldable pub overlaid : Table → Table → Table
 overlaid left area = take (length area) (ownRows left) ++ drop (length (ownRows left)) area
 
@@ -37,8 +39,9 @@ overlaid left area = take (length area) (ownRows left) ++ drop (length (ownRows 
 unfoldable pub leftBy : Table → Table → Table
 leftBy left area = area ++ drop (length area) left
 
--- RULES 17.6: what a call shows besides its refusal, by kind: a load's slot, look up's profile and day, the number found and the entries, a herd list's line and the
--- number added, the total of some dues and what each tag pays, a drafting's summary and its listing
+-- RULES 17.6: what a call shows besides its refusal, by kind: a load's slot, look up's profile and day, the number
+-- found and the entries, a herd list's line and the number added, the total of some dues and what each tag pays, a
+-- drafting's summary and its listing
 pub data Payload : Type 0 where
   bare : Payload
   aSlot : (slot : ℕ) → Payload
@@ -89,8 +92,8 @@ unfoldable pub duesIn : ℕ → List ℕ → List ℕ → List ℕ
 duesIn zero tags area = take (length tags) area
 duesIn (suc n) tags area = []
 
--- RULES 21.5 to 21.7: the summary of each radius, and the listing up to its first entry without a lot's number, as an accepted call wrote them: zeros follow both.
--- A refused one tells nothing
+-- RULES 21.5 to 21.7: the summary of each radius, and the listing up to its first entry without a lot's number, as an
+-- accepted call wrote them: zeros follow both. A refused one tells nothing
 unfoldable pub draftedIn : List Entry → List Entry
 draftedIn [] = []
 draftedIn (e ∷ listing) = elim (entryDistance e) [ zero ↦ [] | suc n ↦ e ∷ draftedIn listing ]
@@ -104,7 +107,8 @@ askShown (lookUp tag) l none = shows (l .refusal) (aWeighing (l .profile) (l .da
 askShown (range q r firstDay) s result = shows (s .refusal) (someEntries (s .found) (take (s .found) result))
 askShown (nearest q k firstDay) s result = shows (s .refusal) (someEntries (s .found) (take (s .found) result))
 askShown (dues tags) d area = shows (d .refusal) (someDues (d .total) (duesIn (d .refusal) tags area))
-askShown (rangeBatch queries) r result = shows (r .refusal) (someLists (r .found) (listedIn (partSize result queries) (r .found) result))
+askShown (rangeBatch queries) r result =
+    shows (r .refusal) (someLists (r .found) (listedIn (partSize result queries) (r .found) result))
 askShown (lots radii chosen) n areas = shows n (draftIn n radii areas)
 
 -- RULES 17.6: the refusal of a call that writes is excepted
@@ -114,7 +118,8 @@ shown (change c) reply work = changeShown c reply
 shown (ask q) reply areas = askShown q reply areas
 shown (write w) reply bytes = shows 0 bare
 
--- RULES 17.7: A, R, and the distances that add, remove and the reading of a herd list report, since the last fresh, load or restore
+-- RULES 17.7: A, R, and the distances that add, remove and the reading of a herd list report, since the last fresh,
+-- load or restore
 pub record Sums : Type 0 where
   pub adds : ℕ
   pub removals : ℕ
@@ -131,20 +136,24 @@ plus sums more =
       distances = sums .distances + more .distances;
     }
 
--- RULES 17.7: fresh, load and restore start the sums afresh, the latter two with the image's live items as adds and its dead ones as removals
+-- RULES 17.7: fresh, load and restore start the sums afresh, the latter two with the image's live items as adds and its
+-- dead ones as removals
 unfoldable pub imageSums : List ℕ → Sums
-imageSums image = let live = length (liveRows image) in record { adds = live; removals = slotsIn image - live; distances = 0 }
+imageSums image =
+    let live = length (select (λ i. eqb (markIn image i) 0) (countFrom 0 (slotsInAll image))) in
+    record { adds = live; removals = slotsInAll image - live; distances = 0 }
 
 unfoldable pub starting : Begin → Sums
 starting (fresh order space) = noSums
 starting (load image) = imageSums image
-starting (restore states name) = imageSums (savedImage (partOf states name))
+starting (restore states name) = imageSums (imageIn states name)
 
 unfoldable pub begunSums : ℕ → Begin → Sums → Sums
 begunSums zero b sums = starting b
 begunSums (suc n) b sums = sums
 
--- what a change adds to the sums: a refused one nothing; a herd list its accepted lines, also where a later line is refused
+-- what a change adds to the sums: a refused one nothing; a herd list its accepted lines, also where a later line is
+-- refused
 unfoldable pub ifAccepted : ℕ → Sums → Sums
 ifAccepted zero more = more
 ifAccepted (suc n) more = noSums

@@ -1,35 +1,27 @@
--- A number of four bytes is read byte by byte. A slot's numbers stand at its places.
+-- A slot's numbers stand at its places.
 use Prim.Native.Nat.{ℕ, zero, suc, _+_, _*_, _≤_, _<_}
 use mathlib.Core.Path.{_≡_, refl}
 use mathlib.Core.List.{List, [], _∷_, _++_}
 use native.Mathlib.Nat.{add-assoc}
 use native.Mathlib.Omega.{arith}
-use lib.ListN.{length, getD}
+use lib.ListN.{length}
 use Rattle.lists.specs.Lists.{total}
 use Rattle.image_rules.specs.Bytes.{tagFields, dayFields, recordFields, tagBytes, recordBytes}
 use Rattle.image_rules.specs.Read.{numberAt, fieldsAt, formIn, orderIn, slotsIn, dayAs}
 use Rattle.image_rules.proofs.Counting.{piece-within}
 use Rattle.image_form.proofs.Forms.{length-by-parts}
-use Rattle.image_reader.proofs.Numbers.{number-more, two-at}
 use Rattle.image_read.specs.declared.Slots.{Slots}
 use Rattle.image_read.specs.InImage.{InImage}
-
-pub four-at : (l : List ℕ) (at : ℕ) → at + 4 ≤ length l
-    → numberAt l 4 at ≡ getD l at 0 + 256 * (getD l (at + 1) 0 + 256 * (getD l (at + 2) 0 + 256 * getD l (at + 3) 0))
-four-at l at h =
-    let first = number-more l 3 at (at + 1) (omega arith) (omega arith) in
-    let second = number-more l 2 (at + 1) (at + 2) (omega arith) (omega arith) in
-    let rest = two-at l (at + 2) (at + 3) (omega arith) (omega arith) in
-    omega arith
 
 -- the fields of a slot, each by its place from the first on
 pub tag-fields : (l : List ℕ) (t : ℕ) → fieldsAt l tagFields t ≡ numberAt l 4 t ∷ numberAt l 4 (t + 4) ∷ []
 unfolding fieldsAt tagFields
 tag-fields l t = refl
 
+-- and two by two, as they are read
 pub record-fields : (l : List ℕ) (form r : ℕ)
     → fieldsAt l (recordFields form) r
-    ≡ numberAt l 4 r ∷ numberAt l 4 (r + 4) ∷ numberAt l 4 (r + 8) ∷ numberAt l 4 (r + 12) ∷ numberAt l 4 (r + 16) ∷ numberAt l 4 (r + 20) ∷ numberAt l 4 (r + 24) ∷ numberAt l 4 (r + 28) ∷ numberAt l 4 (r + 32) ∷ numberAt l 4 (r + 36) ∷ fieldsAt l (dayFields form) (r + 40)
+    ≡ numberAt l 4 r ∷ numberAt l 4 (r + 4) ∷ numberAt l 4 (r + 8) ∷ numberAt l 4 (r + 8 + 4) ∷ numberAt l 4 (r + 16) ∷ numberAt l 4 (r + 16 + 4) ∷ numberAt l 4 (r + 24) ∷ numberAt l 4 (r + 24 + 4) ∷ numberAt l 4 (r + 32) ∷ numberAt l 4 (r + 32 + 4) ∷ fieldsAt l (dayFields form) (r + 40)
 unfolding fieldsAt recordFields
 record-fields l form r = simp add-assoc
 

@@ -1,28 +1,30 @@
--- The claims about lots. Each is an induction over the lots: the first leader's lot and those left make up the items, and what holds of those left holds of every later lot.
-use Prim.Native.Nat.{ℕ, suc, _+_, _≤_, _<_, max}
+-- The claims about lots. Each is an induction over the lots: the first leader's lot and those left make up the items, and what holds of those left holds of
+-- every later lot.
+use Prim.Native.Nat.{ℕ, zero, suc, _+_, _≤_, _<_, max}
 use native.Mathlib.Omega.{arith}
 use mathlib.Core.Path.{_≡_, refl, sym, ap, ap₂, subst, _∙_}
 use mathlib.Core.Logic.{inl, inr}
 use mathlib.Core.Bool.{Bool, true, false, not}
-use mathlib.Core.List.{List, [], _∷_, map, flatten, List·Permᴰ, List·Permᴰ·nil, List·Permᴰ·cons, List·Permᴰ·trans, Permᴰ·symm, Permᴰ·append-left}
-use borrow.Author.Tests.{leb-true, leb-false, le-leb, lt-leb, not-true}
-use lib.Dec.{leb}
-use lib.ListN.{length, length-append, length-map}
+use mathlib.Core.List.{List, [], _∷_, _++_, map, append-nil, flatten, List·Permᴰ, List·Permᴰ·nil, List·Permᴰ·cons, List·Permᴰ·trans, Permᴰ·symm}
+use mathlib.Core.List.{Permᴰ·append-left}
+use borrow.Author.Tests.{leb-true, leb-false, le-leb, lt-leb, eq-eqb, ne-eqb, not-true}
+use lib.Dec.{leb, eqb}
+use lib.ListN.{length, getD, length-append, length-map}
 use Rattle.lists.specs.Lists.{total, select, All}
-use Rattle.lists.proofs.Lists.{Pairs, all-weaken, all-both, all-always, all-append-left, all-append-right, all-perm, pairs-perm, perm-length}
+use Rattle.lists.proofs.Lists.{Pairs, all-weaken, all-both, all-always, all-map, all-append-left, all-append-right, all-perm, pairs-perm, perm-length}
 use Rattle.metric_rules.specs.Row.{Row, tagOf, profileOf}
 use Rattle.metric_rules.specs.Distance.{mostDistance}
 use Rattle.metric_rules.proofs.Laws.{distance-metric}
 use Rattle.tree_rules.proofs.Sorting.{sort-perm, sort-length}
-use Rattle.search_rules.specs.Range.{entry}
+use Rattle.search_rules.specs.Range.{Entry, entry, entryDistance}
 use Rattle.search_rules.proofs.Ascending.{sorted-ascends}
-use Rattle.search_rules.proofs.Selecting.{select-none, select-all, all-selected, pairs-selected, selected-pass, parted}
+use Rattle.search_rules.proofs.Selecting.{select-append, select-none, select-all, all-selected, pairs-selected, selected-pass, parted}
 use Rattle.table_rules.specs.Table.{Table, tableSpace}
-use Rattle.lots_rules.specs.Lots.{largestOf, byTag, near, lots, numbered, listingOf}
+use Rattle.lots_rules.specs.Lots.{largestOf, byTag, near, lots, summaryOf, numbered, listingOf}
 use Rattle.lots_rules.specs.Drafting.{betweenRows, draftedItems, tableLots}
 use Rattle.lots_rules.specs.Claims.{Before, OneOf, Attained, Led, LedApart, Lots, liveRows, DraftsLots, OneEach, OneLot}
 use Rattle.lots_rules.proofs.Steps.{far, lots-none, lots-first, lots-ind}
-use Rattle.lots_rules.proofs.Listing.{Tagged, by-tag-tagged, numbered-sorted}
+use Rattle.lots_rules.proofs.Listing.{Tagged, by-tag-tagged, numbered-from, numbered-sorted}
 
 -- the largest of some numbers
 largest-most : (ns : List ℕ) → All (λ n. n ≤ largestOf ns) ns
@@ -55,10 +57,13 @@ module _ {A : Type 0} (dist : A → A → ℕ) (radius : ℕ) (tag : A → ℕ) 
 
   beyond : (x : A) (xs : List A) → All (λ y. radius < dist x y) (select (far dist radius x) xs)
   unfolding near
-  beyond x xs = all-weaken (λ y h. leb-false (dist x y) radius (not-true (leb (dist x y) radius) h)) (select (far dist radius x) xs) (selected-pass (far dist radius x) xs)
+  beyond x xs =
+      all-weaken (λ y h. leb-false (dist x y) radius (not-true (leb (dist x y) radius) h)) (select (far dist radius x) xs)
+      (selected-pass (far dist radius x) xs)
 
   -- the first lot and those left, permuted, are the items
-  lot-and-left : (x : A) (xs : List A) (ls : List (List A)) → List·Permᴰ (flatten ls) (select (far dist radius x) xs) → List·Permᴰ (flatten ((x ∷ select (near dist radius x) xs) ∷ ls)) (x ∷ xs)
+  lot-and-left : (x : A) (xs : List A) (ls : List (List A)) → List·Permᴰ (flatten ls) (select (far dist radius x) xs)
+      → List·Permᴰ (flatten ((x ∷ select (near dist radius x) xs) ∷ ls)) (x ∷ xs)
   unfolding flatten
   lot-and-left x xs ls p = List·Permᴰ·cons refl (List·Permᴰ·trans (Permᴰ·append-left (select (near dist radius x) xs) p) (parted (near dist radius x) xs))
 
@@ -75,12 +80,36 @@ module _ {A : Type 0} (dist : A → A → ℕ) (radius : ℕ) (tag : A → ℕ) 
   unfolding numbered total
   numbered-length n [] = refl
   numbered-length n (l ∷ ls) =
-      length-append (map (λ item. entry (tag item) n) l) (numbered tag (suc n) ls) ∙ ap₂ _+_ (length-map l (λ item. entry (tag item) n)) (numbered-length (suc n) ls)
+      length-append (map (λ item. entry (tag item) n) l) (numbered tag (suc n) ls)
+      ∙ ap₂ _+_ (length-map l (λ item. entry (tag item) n)) (numbered-length (suc n) ls)
 
   -- the listing has an entry for each item
   pub listing-length : (items : List A) → length (listingOf tag (lots dist radius items)) ≡ length items
   unfolding listingOf
   listing-length items = numbered-length 1 (lots dist radius items) ∙ sizes-flat (lots dist radius items) ∙ perm-length (once items)
+
+  -- and those with a lot's number are the lot's, the first lot having number a
+  numbered-in : (a n k : ℕ) (ls : List (List A)) → k ≡ a + n
+      → select (λ e. eqb (getD e 1 0) k) (numbered tag a ls) ≡ map (λ item. tag item ∷ k ∷ []) (getD ls n [])
+  unfolding numbered entry entryDistance select
+  numbered-in a n k [] e = refl
+  numbered-in a zero k (l ∷ ls) e =
+      let test : Entry → Bool = λ e. eqb (getD e 1 0) k in
+      let own : List Entry = map (λ item. tag item ∷ a ∷ []) l in
+      let same : a ≡ k = omega (arith, e) in
+      select-append test own (numbered tag (suc a) ls)
+      ∙ ap₂ _++_ (select-all test own (all-map (λ item. tag item ∷ a ∷ []) (λ e. test e ≡ true) l (all-always (λ item. eq-eqb a k same) l)))
+      (select-none test (numbered tag (suc a) ls)
+      (all-weaken (λ e h. ne-eqb (getD e 1 0) k (λ q. omega (arith, h, q, same))) (numbered tag (suc a) ls) (numbered-from tag (suc a) ls)))
+      ∙ append-nil own
+      ∙ ap (λ (n : ℕ). map (λ item. tag item ∷ n ∷ []) l) same
+  numbered-in a (suc n) k (l ∷ ls) e =
+      let test : Entry → Bool = λ e. eqb (getD e 1 0) k in
+      let own : List Entry = map (λ item. tag item ∷ a ∷ []) l in
+      select-append test own (numbered tag (suc a) ls)
+      ∙ ap₂ _++_
+      (select-none test own (all-map (λ item. tag item ∷ a ∷ []) (λ e. test e ≡ false) l (all-always (λ item. ne-eqb a k (λ q. omega (arith, e, q))) l)))
+      (numbered-in (suc a) n k ls (omega (arith, e)))
 
   led : (items : List A) → Tagged tag items → All (Led dist radius tag) (lots dist radius items)
   led = lots-ind dist radius (λ items ls. Tagged tag items → All (Led dist radius tag) ls) (λ h. tt)
@@ -93,7 +122,8 @@ module _ {A : Type 0} (dist : A → A → ℕ) (radius : ℕ) (tag : A → ℕ) 
   apart : (items : List A) → Tagged tag items → Before (LedApart dist radius tag) (lots dist radius items)
   unfolding flatten
   apart items =
-      lots-ind dist radius (λ items ls. List·Permᴰ (flatten ls) items × (Tagged tag items → Before (LedApart dist radius tag) ls)) (List·Permᴰ·nil, λ h. tt) first items .1
+      lots-ind dist radius (λ items ls. List·Permᴰ (flatten ls) items × (Tagged tag items → Before (LedApart dist radius tag) ls))
+      (List·Permᴰ·nil, λ h. tt) first items .1
     where
       first :
           (x : A) (xs : List A) (ls : List (List A))
@@ -112,7 +142,7 @@ module _ {A : Type 0} (dist : A → A → ℕ) (radius : ℕ) (tag : A → ℕ) 
 
   -- the lots of any items, put by tag
   pub lots-of : (items : List A) → Lots dist radius tag items (lots dist radius (byTag tag items))
-  unfolding byTag listingOf
+  unfolding byTag summaryOf listingOf
   lots-of items =
       let drafted = lots dist radius (byTag tag items) in
       let all = List·Permᴰ·trans (once (byTag tag items)) (sort-perm (λ i. tag i ∷ []) items) in
@@ -121,8 +151,12 @@ module _ {A : Type 0} (dist : A → A → ℕ) (radius : ℕ) (tag : A → ℕ) 
         sizes = sizes-flat drafted ∙ perm-length all;
         led = led (byTag tag items) (by-tag-tagged tag items);
         apart = apart (byTag tag items) (by-tag-tagged tag items);
+        largest = largestOf (map length drafted);
+        summary = refl;
         most = largest-most (map length drafted);
         attained = largest-attained (map length drafted);
+        counted = numbered-length 1 drafted ∙ sizes-flat drafted ∙ perm-length all;
+        inLots = λ n. numbered-in 1 n (suc n) drafted (omega arith);
         listed = sorted-ascends (listingOf tag drafted) (numbered-sorted tag dist radius (byTag tag items) (by-tag-tagged tag items) 1);
       }
 
@@ -164,7 +198,8 @@ pub one-lot-each : (t : Table) → OneEach t
 unfolding tableLots draftedItems byTag
 one-lot-each t h =
     one-each (betweenRows (tableSpace t)) 0 tagOf (draftedItems t)
-    (pairs-perm (PositivelyApart t) (between-flips t) (Permᴰ·symm (sort-perm (λ r. tagOf r ∷ []) (liveRows t))) (before-pairs (PositivelyApart t) (liveRows t) h))
+    (pairs-perm (PositivelyApart t) (between-flips t) (Permᴰ·symm (sort-perm (λ r. tagOf r ∷ []) (liveRows t)))
+    (before-pairs (PositivelyApart t) (liveRows t) h))
 
 within-most : (t : Table) (x y : Row) → betweenRows (tableSpace t) x y ≤ mostDistance
 unfolding betweenRows mostDistance

@@ -5,7 +5,7 @@ ghost use lib.ListN.{length};
 ghost use Rattle.state_rules.specs.Parts.{validName, partOf, savedImage};
 ghost use Rattle.state_rules.specs.Restore.{partRefusal, restoreReply, tableAfterRestore};
 use image_load::load;
-use image_read::number32;
+use image_reader::number_at;
 use image_rules::Loaded;
 use metric_rules::Row;
 use state_part::Name;
@@ -32,7 +32,7 @@ fn part_refusal(part: &[u8]) -> u32
     if part.len() < LENGTH_BYTES {
         return NOT_SAVED;
     }
-    let length = number32(part, 0) as usize;
+    let length = number_at(part, 0, LENGTH_BYTES) as usize;
     if length == 0 {
         return NOT_SAVED;
     }
@@ -47,7 +47,7 @@ fn saved_image(part: &[u8]) -> &[u8]
     requires { ⌜ partRefusal (now part) ≡ 0 ⌝ }
     ensures { λ r. ⌜ now r ≡ savedImage (now (part .entry)) ⌝ }
 {
-    let end = LENGTH_BYTES + number32(part, 0) as usize;
+    let end = LENGTH_BYTES + number_at(part, 0, LENGTH_BYTES) as usize;
     &part[LENGTH_BYTES..end]
 }
 

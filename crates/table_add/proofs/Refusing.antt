@@ -39,11 +39,6 @@ module _ (t : Table) (work : List Row) (tag : ℕ) (p : Profile) (day : ℕ) whe
       → leb (room (orderOf t)) (liveTotal t) ≡ e → refusalBy n a b c d e ≡ addRefusal t work tag p day
   by-tests n a b c d e f g h i j k = sym (refusal-tests ∙ (rw (f, g, h, i, j, k)))
 
-  pub refused-first : (n : ℕ) → changeRefusal (length work) t ≡ n → (n ≡ 0 → ⊥) → n ≡ addRefusal t work tag p day
-  unfolding refusalBy
-  refused-first zero e some = absurd (some refl)
-  refused-first (suc n) e some = by-tests (suc n) _ _ _ _ _ e refl refl refl refl refl
-
   module _ (passes : changeRefusal (length work) t ≡ 0) where
     pub refused-tag : validTag tag ≡ false → badTag ≡ addRefusal t work tag p day
     unfolding refusalBy

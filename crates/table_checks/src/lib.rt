@@ -2,12 +2,12 @@
 ghost use mathlib.Core.Path.{_≡_};
 ghost use Prim.Native.Nat.{_<_};
 ghost use lib.ListN.{length};
-ghost use Rattle.lists.specs.Lists.{every};
-ghost use Rattle.table_rules.specs.Geometry.{bucketsOf, sizesRow};
+ghost use Rattle.table_rules.specs.Geometry.{sizesRow};
 ghost use Rattle.table_rules.specs.Table.{orderOf, builtOf, liveOf};
-ghost use Rattle.table_rules.specs.Checks.{sizePasses, sizesPass, headerPasses, slotsMarked, marksPass, frameRefusal, readRefusal, changeRefusal};
+ghost use Rattle.table_rules.specs.Checks.{sizePasses, sizesPass, headerPasses, slotsMarked, marksPass, frameRefusal};
+ghost use Rattle.table_rules.specs.Checks.{readRefusal, changeRefusal};
 ghost use Rattle.table_rules.specs.Passed.{Passed};
-use metric::valid_weights;
+ghost use Rattle.table_checks.specs.Answers.{checked};
 use metric_rules::Row;
 use rows::mark_of;
 use table_order::Order;
@@ -18,11 +18,16 @@ use table_views::HEADER_ROW;
 use table_views::built_of;
 use table_views::has_metric;
 use table_views::live_of;
-use table_views::live_total;
-use table_views::order_in;
 use table_views::order_of;
 use table_views::slots_of;
 use table_views::weights_of;
+use validity::valid_weights;
+
+// What testing a lent table answers: its order, which the call goes on with, or the refusal.
+pub enum Checked {
+    Passes(Order),
+    Refused(u32),
+}
 
 // A bucket's sizes are words of any value, and four times a word fits 64 bits.
 pub fn size_passes(k: u32, built: u32, live: u32) -> bool
@@ -35,29 +40,23 @@ pub fn size_passes(k: u32, built: u32, live: u32) -> bool
     ((b == 0) & (l == 0)) | ((l <= b) & (b <= room) & (room < 2 * b) & (room < 4 * l))
 }
 
-fn each_size_passes(table: &[Row], order: Order) -> bool
-    requires { ⌜ (order .t < 31) × (sizesRow (order .t) < length (now table)) ⌝ }
-    ensures { λ r. ⌜ r ≡ every (λ k. sizePasses k (builtOf (now (table .entry)) k) (liveOf (now (table .entry)) k)) (bucketsOf (order .t)) ⌝ }
-{
-    let t = order.t;
-    let mut k = 0;
-    while k <= t {
-        if !size_passes(k, built_of(table, k), live_of(table, k)) {
-            return false;
-        }
-        k += 1;
-    }
-    true
-}
-
+// Every bucket's sizes, and the live items in all, in one pass.
 fn sizes_pass(table: &[Row], order: Order) -> bool
     requires { ⌜ (order .t < 31) × (sizesRow (order .t) < length (now table)) ⌝ }
     ensures { λ r. ⌜ r ≡ sizesPass (order .t) (builtOf (now (table .entry))) (liveOf (now (table .entry))) ⌝ }
 {
-    if !each_size_passes(table, order) {
-        return false;
+    let t = order.t;
+    let mut sum: u64 = 0;
+    let mut k = 0;
+    while k <= t {
+        let live = live_of(table, k);
+        if !size_passes(k, built_of(table, k), live) {
+            return false;
+        }
+        sum += live as u64;
+        k += 1;
     }
-    live_total(table, order) <= Order::room(order.t) as u64
+    sum <= Order::room(t) as u64
 }
 
 // The weights, whatever the metric, and the sizes.
@@ -104,58 +103,57 @@ fn marks_pass(table: &[Row], order: Order) -> bool
 }
 
 // No rows 23, order or metric 24, a short table 23.
-fn frame_refusal(table: &[Row]) -> u32
-    ensures { λ r. ⌜ r ≡ frameRefusal (now (table .entry)) ⌝ }
+fn frame_check(table: &[Row]) -> Checked
+    ensures { λ r. ⌜ r ≡ checked (frameRefusal (now (table .entry))) (now (table .entry)) ⌝ }
 {
     if table.len() == 0 {
-        return SHORT_AREA;
+        return Checked::Refused(SHORT_AREA);
     }
     if !has_metric(table[HEADER_ROW]) {
-        return BAD_TABLE;
+        return Checked::Refused(BAD_TABLE);
     }
     match Order::new(order_of(table)) {
-        Ordered::TooLarge => BAD_TABLE,
+        Ordered::TooLarge => Checked::Refused(BAD_TABLE),
         Ordered::Is(order) => {
             if table.len() < order.table_rows() {
-                SHORT_AREA
+                Checked::Refused(SHORT_AREA)
             } else {
-                0
+                Checked::Passes(order)
             }
         }
     }
 }
 
-// What stops a call that only reads the table.
-pub fn read_refusal(table: &[Row]) -> u32
-    ensures { λ r. ⌜ r ≡ readRefusal (now (table .entry)) ⌝ }
+// What a call that only reads the table goes on with.
+pub fn read_check(table: &[Row]) -> Checked
+    ensures { λ r. ⌜ r ≡ checked (readRefusal (now (table .entry))) (now (table .entry)) ⌝ }
 {
-    let refusal = frame_refusal(table);
-    if refusal != 0 {
-        return refusal;
+    let frame = frame_check(table);
+    let Checked::Passes(order) = frame else {
+        return frame;
+    };
+    if !header_passes(table, order) {
+        return Checked::Refused(BAD_TABLE);
     }
-    if !header_passes(table, order_in(table)) {
-        return BAD_TABLE;
-    }
-    0
+    Checked::Passes(order)
 }
 
-// What stops add and remove, which are lent a work area of so many rows and go by the marks.
-pub fn change_refusal(table: &[Row], rows: usize) -> u32
-    ensures { λ r. ⌜ r ≡ changeRefusal rows (now (table .entry)) ⌝ }
+// What add and remove go on with, which are lent a work area of so many rows and go by the marks.
+pub fn change_check(table: &[Row], rows: usize) -> Checked
+    ensures { λ r. ⌜ r ≡ checked (changeRefusal rows (now (table .entry))) (now (table .entry)) ⌝ }
 {
-    let refusal = frame_refusal(table);
-    if refusal != 0 {
-        return refusal;
-    }
-    let order = order_in(table);
+    let frame = frame_check(table);
+    let Checked::Passes(order) = frame else {
+        return frame;
+    };
     if rows < order.work_rows() {
-        return SHORT_AREA;
+        return Checked::Refused(SHORT_AREA);
     }
     if !header_passes(table, order) {
-        return BAD_TABLE;
+        return Checked::Refused(BAD_TABLE);
     }
     if !marks_pass(table, order) {
-        return BAD_TABLE;
+        return Checked::Refused(BAD_TABLE);
     }
-    0
+    Checked::Passes(order)
 }

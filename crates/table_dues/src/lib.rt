@@ -1,4 +1,5 @@
-// RULES 20: the dues of a list of tags. What each pays is kept apart until the whole list is known to pay, so that a tag is looked up once.
+// RULES 20: the dues of a list of tags. What each pays is kept apart until the whole list is known to pay, so that a
+// tag is looked up once.
 ghost use mathlib.Core.Path.{_≡_};
 ghost use mathlib.Core.Bool.{true, _&&_};
 ghost use mathlib.Core.Option.{some};
@@ -8,19 +9,22 @@ ghost use lib.ListN.{length, set};
 ghost use lib.Seq.{sets};
 ghost use Rattle.lists.specs.Lists.{every, total};
 ghost use Rattle.table_rules.specs.Refusals.{noRoom, notLive, unless};
+ghost use Rattle.table_rules.specs.Table.{orderOf};
 ghost use Rattle.table_rules.specs.Passed.{Passed};
 ghost use Rattle.dues_rules.specs.Board.{board, rateBy, duesBy};
-ghost use Rattle.dues_rules.specs.Listed.{noDues, mostListed, weightAt, weightsAt, isFound, isWeight, pays, duesOf, duesReply, duesAfter};
+ghost use Rattle.dues_rules.specs.Listed.{noDues, mostListed, weightAt, weightsAt, isFound, isWeight, pays, duesOf};
+ghost use Rattle.dues_rules.specs.Listed.{duesReply, duesAfter};
 use dues_rules::Dues;
 use dues_rules::NO_DUES;
 use metric_rules::Row;
 use rows::profile_of;
-use table_checks::read_refusal;
+use table_checks::Checked;
+use table_checks::read_check;
 use table_look_up::Spot;
 use table_look_up::find;
+use table_order::Order;
 use table_rules::NO_ROOM;
 use table_rules::NOT_LIVE;
-use table_views::order_in;
 use table_views::slots_of;
 
 // The most tags of a list, and so the room for what each pays.
@@ -69,18 +73,18 @@ struct ListedTag {
     cents: u32,
 }
 
-fn found_at(table: &[Row], tag: u64) -> ListedTag
-    requires { ⌜ Passed (now table) ⌝ }
+fn found_at(table: &[Row], order: Order, tag: u64) -> ListedTag
+    requires { ⌜ (order .t ≡ orderOf (now table)) × Passed (now table) ⌝ }
     ensures { λ r. ⌜ r ≡ record { live = isFound (weightAt (now (table .entry)) tag); weighs = isWeight (weightAt (now (table .entry)) tag); cents = pays (weightAt (now (table .entry)) tag) } ⌝ }
 {
-    match find(table, tag) {
+    match find(table, order, tag) {
         Spot::Nowhere => ListedTag {
             live: false,
             weighs: false,
             cents: 0,
         },
         Spot::At { bucket, slot } => {
-            let slots = slots_of(table, order_in(table), bucket);
+            let slots = slots_of(table, order, bucket);
             let profile = profile_of(slots[slot]);
             let weight = profile.measures[0];
             ListedTag {
@@ -108,8 +112,8 @@ struct Tested {
 }
 
 // What each listed tag pays, from the first number on, each tag looked up once. A tag that is not live ends it.
-fn weigh(table: &[Row], tags: &[u64], held: &mut [u32]) -> Tested
-    requires { ⌜ Passed (now table) ⌝ }
+fn weigh(table: &[Row], order: Order, tags: &[u64], held: &mut [u32]) -> Tested
+    requires { ⌜ (order .t ≡ orderOf (now table)) × Passed (now table) ⌝ }
     ensures live { λ r. ⌜ r .live ≡ every isFound (weightsAt (now (table .entry)) (now (tags .entry))) ⌝ }
     ensures pays { λ r. ⌜ (r .live ≡ true → r .pays ≡ (leb (length (weightsAt (now (table .entry)) (now (tags .entry)))) mostListed && every isWeight (weightsAt (now (table .entry)) (now (tags .entry))))) ⌝ }
     ensures held { λ r. ⌜ (r .live ≡ true → now (held .exit) ≡ sets (now (held .entry)) 0 (duesOf (weightsAt (now (table .entry)) (now (tags .entry))))) ⌝ }
@@ -117,7 +121,7 @@ fn weigh(table: &[Row], tags: &[u64], held: &mut [u32]) -> Tested
     let mut pays = tags.len() <= MOST_LISTED;
     let mut i = 0;
     while i < tags.len() {
-        let found = found_at(table, tags[i]);
+        let found = found_at(table, order, tags[i]);
         if !found.live {
             return Tested { live: false, pays };
         }
@@ -173,12 +177,12 @@ pub fn dues(table: &[Row], tags: &[u64], dues: &mut [u32]) -> Dues
     ensures reply { λ r. ⌜ r ≡ duesReply (now (table .entry)) (now (tags .entry)) (now (dues .entry)) ⌝ }
     ensures area { λ _. ⌜ now (dues .exit) ≡ duesAfter (now (table .entry)) (now (tags .entry)) (now (dues .entry)) ⌝ }
 {
-    let stopped = read_refusal(table);
-    if stopped != 0 {
-        return refused(stopped);
-    }
+    let order = match read_check(table) {
+        Checked::Refused(refusal) => return refused(refusal),
+        Checked::Passes(order) => order,
+    };
     let mut held = [0u32; MOST_LISTED];
-    let tested = weigh(table, tags, &mut held[..]);
+    let tested = weigh(table, order, tags, &mut held[..]);
     let refusal = list_refusal(tested, tags.len() <= dues.len());
     if refusal != 0 {
         return refused(refusal);

@@ -4,22 +4,25 @@ ghost use mathlib.Core.Bool.{_&&_};
 ghost use Prim.Native.Nat.{ℕ};
 ghost use lib.Dec.{eqb};
 ghost use Rattle.metric_rules.specs.Row.{tagOf, isLive};
+ghost use Rattle.table_rules.specs.Refusals.{notLive, unless};
+ghost use Rattle.table_rules.specs.Table.{orderOf};
 ghost use Rattle.table_rules.specs.Passed.{Passed};
 ghost use Rattle.table_rules.specs.LookUp.{placeFrom, find, isLiveTag, notFound, lookUpReply};
-ghost use Rattle.table_look_up.specs.Spots.{slotPlace, placeOf};
-use metric::valid_tag;
+ghost use Rattle.table_look_up.specs.Spots.{slotPlace, numberOf, placeOf};
 use metric_rules::Profile;
 use metric_rules::Row;
 use rows::day_of;
 use rows::is_live;
 use rows::profile_of;
 use rows::tag_of;
-use table_checks::read_refusal;
+use table_checks::Checked;
+use table_checks::read_check;
+use table_order::Order;
 use table_rules::BAD_TAG;
 use table_rules::LookedUp;
 use table_rules::NOT_LIVE;
-use table_views::order_in;
 use table_views::slots_of;
+use validity::valid_tag;
 
 // Where a live item stands.
 pub enum Spot {
@@ -48,11 +51,11 @@ fn slot_with(slots: &[Row], tag: u64) -> usize
 }
 
 // The lowest bucket first, then the lowest slot. The table has passed its tests.
-pub fn find(table: &[Row], tag: u64) -> Spot
-    requires { ⌜ Passed (now table) ⌝ }
-    ensures { λ r. ⌜ placeOf (now (table .entry)) r ≡ find (now (table .entry)) tag ⌝ }
+pub fn find(table: &[Row], order: Order, tag: u64) -> Spot
+    requires { ⌜ (order .t ≡ orderOf (now table)) × Passed (now table) ⌝ }
+    ensures place { λ r. ⌜ placeOf (now (table .entry)) r ≡ find (now (table .entry)) tag ⌝ }
+    ensures number { λ r. ⌜ numberOf r ≡ unless (isLiveTag (now (table .entry)) tag) notLive 0 ⌝ }
 {
-    let order = order_in(table);
     let t = order.t;
     let mut k = 0;
     while k <= t {
@@ -66,11 +69,11 @@ pub fn find(table: &[Row], tag: u64) -> Spot
     Spot::Nowhere
 }
 
-pub fn is_live_tag(table: &[Row], tag: u64) -> bool
-    requires { ⌜ Passed (now table) ⌝ }
+pub fn is_live_tag(table: &[Row], order: Order, tag: u64) -> bool
+    requires { ⌜ (order .t ≡ orderOf (now table)) × Passed (now table) ⌝ }
     ensures { λ r. ⌜ r ≡ isLiveTag (now (table .entry)) tag ⌝ }
 {
-    match find(table, tag) {
+    match find(table, order, tag) {
         Spot::At { bucket: _, slot: _ } => true,
         Spot::Nowhere => false,
     }
@@ -93,17 +96,17 @@ fn not_found(refusal: u32) -> LookedUp
 pub fn look_up(table: &[Row], tag: u64) -> LookedUp
     ensures { λ r. ⌜ r ≡ lookUpReply (now (table .entry)) tag ⌝ }
 {
-    let refusal = read_refusal(table);
-    if refusal != 0 {
-        return not_found(refusal);
-    }
+    let order = match read_check(table) {
+        Checked::Refused(refusal) => return not_found(refusal),
+        Checked::Passes(order) => order,
+    };
     if !valid_tag(tag) {
         return not_found(BAD_TAG);
     }
-    match find(table, tag) {
+    match find(table, order, tag) {
         Spot::Nowhere => not_found(NOT_LIVE),
         Spot::At { bucket, slot } => {
-            let slots = slots_of(table, order_in(table), bucket);
+            let slots = slots_of(table, order, bucket);
             let row = slots[slot];
             LookedUp {
                 refusal: 0,

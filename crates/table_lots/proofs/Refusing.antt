@@ -1,5 +1,5 @@
 -- A drafting refused or accepted: the refusal by the tests that were met, and what an accepted one goes on with.
-use Prim.Native.Nat.{ℕ, zero, suc, _≤_}
+use Prim.Native.Nat.{ℕ, _≤_}
 use native.Mathlib.Omega.{arith}
 use mathlib.Core.Path.{_≡_, refl, sym, _∙_, ap}
 use mathlib.Core.Bool.{Bool, true, false, _&&_}
@@ -33,11 +33,6 @@ module _ (t : Table) (work : List Entry) (summary : List Summary) (listing : Lis
 
   by-tests : (n : ℕ) (a b : Bool) → changeRefusal (length work) t ≡ n → radiiPass radii chosen ≡ a → draftFits t radii summary listing ≡ b → refusalBy n a b ≡ refusal
   by-tests n a b f g h = sym (refusal-tests ∙ (rw (f, g, h)))
-
-  pub refused-first : (n : ℕ) → changeRefusal (length work) t ≡ n → (n ≡ 0 → ⊥) → n ≡ refusal
-  unfolding refusalBy
-  refused-first zero e some = absurd (some refl)
-  refused-first (suc n) e some = by-tests (suc n) _ _ e refl refl
 
   module _ (passes : changeRefusal (length work) t ≡ 0) where
     pub refused-radii : radiiPass radii chosen ≡ false → badRadii ≡ refusal

@@ -1,4 +1,5 @@
-// Lots over a table: the refusals in their order, and the drafting by every radius of a list, with the lots of one of them listed.
+// Lots over a table: the refusals in their order, and the drafting by every radius of a list, with the lots of one of
+// them listed.
 ghost use mathlib.Core.Path.{_≡_};
 ghost use mathlib.Core.List.{map, _++_};
 ghost use Prim.Native.Nat.{_-_, _≤_, _<_};
@@ -11,7 +12,10 @@ ghost use Rattle.table_rules.specs.Table.{orderOf, cleared};
 ghost use Rattle.table_rules.specs.Passed.{Passed};
 ghost use Rattle.table_rules.specs.Search.{zeroEntry};
 ghost use Rattle.lots_rules.specs.Lots.{listingOf};
-ghost use Rattle.lots_rules.specs.Drafting.{zeroSummary, radiiPass, draftedItems, tableLots, tableSummaries, tableListing, lotsRefusal, summaryAfterLots, listingAfterLots, workAfterLots};
+ghost use Rattle.lots_rules.specs.Drafting.{zeroSummary, radiiPass, draftedItems, tableLots, tableSummaries};
+ghost use Rattle.lots_rules.specs.Drafting.{tableListing, lotsRefusal, summaryAfterLots, listingAfterLots};
+ghost use Rattle.lots_rules.specs.Drafting.{workAfterLots};
+ghost use Rattle.table_checks.specs.Answers.{checked};
 ghost use Rattle.lots_draft.specs.Leading.{placeOf, Placed};
 ghost use Rattle.table_lots.specs.Places.{placeSummary, placeListing};
 use lots_draft::draft_by;
@@ -23,12 +27,12 @@ use lots_rules::Summary;
 use metric_rules::Row;
 use search_reply::zero_entries;
 use search_rules::Entry;
-use table_checks::change_refusal;
+use table_checks::Checked;
+use table_checks::change_check;
 use table_order::Order;
 use table_rules::NO_ROOM;
 use table_views::HEADER_ROW;
 use table_views::live_total;
-use table_views::order_in;
 
 // Every entry of a summary becomes zero.
 fn zero_summaries(area: &mut [Summary])
@@ -49,29 +53,29 @@ fn radii_pass(radii: &[u32], chosen: u32) -> bool
     (1 <= count) & (count <= MOST_RADII) & ((1 <= chosen) & (chosen as usize <= count))
 }
 
-// The first refusal that applies, in the call's order, or 0.
-fn lots_refusal(
+// The first refusal that applies, in the call's order, or the table's order.
+fn lots_check(
     table: &[Row],
     work: &[Entry],
     radii: &[u32],
     summary: &[Summary],
     listing: &[Entry],
     chosen: u32,
-) -> u32
-    ensures { λ r. ⌜ r ≡ lotsRefusal (now (table .entry)) (now (work .entry)) (now (summary .entry)) (now (listing .entry)) (now (radii .entry)) chosen ⌝ }
+) -> Checked
+    ensures { λ r. ⌜ r ≡ checked (lotsRefusal (now (table .entry)) (now (work .entry)) (now (summary .entry)) (now (listing .entry)) (now (radii .entry)) chosen) (now (table .entry)) ⌝ }
 {
-    let refusal = change_refusal(table, work.len());
-    if refusal != 0 {
-        return refusal;
-    }
+    let first = change_check(table, work.len());
+    let Checked::Passes(order) = first else {
+        return first;
+    };
     if !radii_pass(radii, chosen) {
-        return BAD_RADII;
+        return Checked::Refused(BAD_RADII);
     }
-    let items = live_total(table, order_in(table));
+    let items = live_total(table, order);
     if (radii.len() <= summary.len()) & (items <= listing.len() as u64) {
-        0
+        Checked::Passes(order)
     } else {
-        NO_ROOM
+        Checked::Refused(NO_ROOM)
     }
 }
 
@@ -150,18 +154,18 @@ fn draft_items(
 // An accepted drafting, in the first 2^T entries of the work area.
 fn draft_table(
     table: &[Row],
+    order: Order,
     work: &mut [Entry],
     radii: &[u32],
     summary: &mut [Summary],
     listing: &mut [Entry],
     chosen: u32,
 )
-    requires { ⌜ lotsRefusal (now table) (now work) (now summary) (now listing) (now radii) chosen ≡ 0 ⌝ }
+    requires { ⌜ (order .t ≡ orderOf (now table)) × (lotsRefusal (now table) (now work) (now summary) (now listing) (now radii) chosen ≡ 0) ⌝ }
     ensures work { λ _. ⌜ now (work .exit) ≡ cleared zeroEntry (workRows (orderOf (now (table .entry)))) (now (work .entry)) ⌝ }
     ensures summary { λ _. ⌜ now (summary .exit) ≡ tableSummaries (now (table .entry)) (now (radii .entry)) ++ replicate (length (now (summary .entry)) - length (now (radii .entry))) zeroSummary ⌝ }
     ensures listing { λ _. ⌜ now (listing .exit) ≡ tableListing (now (table .entry)) (now (radii .entry)) chosen ++ replicate (length (now (listing .entry)) - length (draftedItems (now (table .entry)))) zeroEntry ⌝ }
 {
-    let order = order_in(table);
     let rows = order.work_rows();
     draft_items(
         table,
@@ -188,15 +192,18 @@ pub fn lots(
     ensures summary { λ _. ⌜ now (summary .exit) ≡ summaryAfterLots (now (table .entry)) (now (work .entry)) (now (summary .entry)) (now (listing .entry)) (now (radii .entry)) chosen ⌝ }
     ensures listing { λ _. ⌜ now (listing .exit) ≡ listingAfterLots (now (table .entry)) (now (work .entry)) (now (summary .entry)) (now (listing .entry)) (now (radii .entry)) chosen ⌝ }
 {
-    let refusal = lots_refusal(table, work, radii, summary, listing, chosen);
-    if refusal == 0 {
-        draft_table(table, work, radii, summary, listing, chosen);
-        return 0;
+    match lots_check(table, work, radii, summary, listing, chosen) {
+        Checked::Passes(order) => {
+            draft_table(table, order, work, radii, summary, listing, chosen);
+            0
+        }
+        Checked::Refused(refusal) => {
+            if refusal == NO_ROOM {
+                zero_summaries(summary);
+                zero_entries(listing);
+                return NO_ROOM;
+            }
+            refusal
+        }
     }
-    if refusal == NO_ROOM {
-        zero_summaries(summary);
-        zero_entries(listing);
-        return NO_ROOM;
-    }
-    refusal
 }

@@ -7,12 +7,12 @@ ghost use Rattle.table_rules.specs.Geometry.{room, firstSlot};
 ghost use Rattle.table_rules.specs.Table.{rowAt, liveOf};
 ghost use Rattle.table_rules.specs.Remove.{marked, removeReply, tableAfterRemove, workAfterRemove};
 ghost use Rattle.table_buckets.specs.OfOrder.{OfOrder};
-use metric::valid_tag;
 use metric_rules::MARK_AT;
 use metric_rules::Row;
 use table_after_deletion::after_deletion;
 use table_buckets::put_sizes;
-use table_checks::change_refusal;
+use table_checks::Checked;
+use table_checks::change_check;
 use table_look_up::Spot;
 use table_look_up::find;
 use table_order::Order;
@@ -21,9 +21,10 @@ use table_rules::NOT_LIVE;
 use table_rules::Removed;
 use table_views::built_of;
 use table_views::live_of;
-use table_views::order_in;
+use validity::valid_tag;
 
-// The row of an item that is no longer live. A row by value has all its words, and says so for the rows of a table, of which nothing else does.
+// The row of an item that is no longer live. A row by value has all its words, and says so for the rows of a table, of
+// which nothing else does.
 fn dead(row: Row) -> Row
     ensures { λ r. ⌜ (r ≡ withMark 1 row) × (length row ≡ rowWidth) ⌝ }
 {
@@ -32,7 +33,8 @@ fn dead(row: Row) -> Row
     marked
 }
 
-// Line 7. The rules mark an item dead and take none out: its slot still guides searches, and |B_k|, the live size of bucket k, is one less.
+// Line 7. The rules mark an item dead and take none out: its slot still guides searches, and |B_k|, the live size of
+// bucket k, is one less.
 fn mark_dead(table: &mut [Row], order: Order, k: u32, slot: usize)
     requires { ⌜ OfOrder (now table) (order .t) × (k ≤ order .t) × (slot < room k) × (1 ≤ liveOf (now table) k) ⌝ }
     ensures marked { λ _. ⌜ now (table .exit) ≡ marked (now (table .entry)) (record { bucket = k; slot = slot; row = rowAt (now (table .entry)) (firstSlot (order .t) k + slot) }) ⌝ }
@@ -61,18 +63,17 @@ pub fn remove(table: &mut [Row], work: &mut [Row], tag: u64) -> Removed
     ensures table { λ _. ⌜ now (table .exit) ≡ tableAfterRemove (now (table .entry)) (now (work .entry)) tag ⌝ }
     ensures work { λ _. ⌜ now (work .exit) ≡ workAfterRemove (now (table .entry)) (now (work .entry)) tag ⌝ }
 {
-    let refusal = change_refusal(table, work.len());
-    if refusal != 0 {
-        return refused(refusal);
-    }
+    let order = match change_check(table, work.len()) {
+        Checked::Refused(refusal) => return refused(refusal),
+        Checked::Passes(order) => order,
+    };
     if !valid_tag(tag) {
         return refused(BAD_TAG);
     }
     // Lines 4 to 6: o is found by its tag, in the lowest bucket first, and no distance is worked out.
-    match find(table, tag) {
+    match find(table, order, tag) {
         Spot::Nowhere => refused(NOT_LIVE),
         Spot::At { bucket, slot } => {
-            let order = order_in(table);
             // Line 7.
             mark_dead(table, order, bucket, slot);
             // Lines 8 to 26.

@@ -20,38 +20,41 @@ use Rattle.text_read.specs.declared.MeasureRead.{MeasureRead}
 use Rattle.text_read.specs.declared.MeasureRead.the-variants.{Measure, NoMeasure}
 use Rattle.text_read.specs.declared.MeasuresRead.{MeasuresRead}
 use Rattle.text_read.specs.Parts.{partsBehind, PartEnd, TwoParts}
-use Rattle.text_read.specs.Found.{numberIf, isSize, sizeIn, SizeFits, signed, signedSize, MeasureAt, fourMeasures, measuresOf, MeasuresAt}
+use Rattle.text_read.specs.Answers.{Answer, answerOf, answerIf, MeasureAnswer, measureAnswerOf}
+use Rattle.text_read.specs.Found.{isSize, sizeIn, SizeFits, signed, signedSize, MeasureAt, fourMeasures, measuresOf, MeasuresAt}
 use Rattle.text_read.proofs.Finding.{none-behind, next-part}
 
 -- a number by its tests
-pub no-number-if : {t : Bool} (n : ℕ) → t ≡ false → NoNumber ≡ numberIf t n
-unfolding numberIf
-no-number-if n e = ap (λ t. numberIf t n) (sym e)
+pub no-number-if : {t : Bool} (n : ℕ) → t ≡ false → answerOf NoNumber ≡ answerIf t n
+unfolding answerIf
+no-number-if n e = ap (λ t. answerIf t n) (sym e)
 
-pub number-if : {t : Bool} {n m : ℕ} → t ≡ true → n ≡ m → Number n ≡ numberIf t m
-unfolding numberIf
-number-if e f = ap₂ numberIf (sym e) f
+pub number-if : {t : Bool} {n m : ℕ} → t ≡ true → n ≡ m → answerOf (Number n) ≡ answerIf t m
+unfolding answerIf
+number-if e f = ap₂ answerIf (sym e) f
 
+-- what an answer tells of its test
+pub none-told : (t : Bool) (n : ℕ) {a : Answer} → a ≡ answerIf t n → a .refusal ≡ 31 → t ≡ false
+unfolding answerIf
+none-told true n e f = absurd (omega (arith, ap (λ (a : Answer). a .refusal) e, f))
+none-told false n e f = refl
+
+pub value-told : (t : Bool) (n : ℕ) {a : Answer} → a ≡ answerIf t n → a .refusal ≡ 0 → (t ≡ true) × (a .number ≡ n)
+unfolding answerIf
+value-told true n e f = (refl, ap (λ (a : Answer). a .number) e)
+value-told false n e f = absurd (omega (arith, ap (λ (a : Answer). a .refusal) e, f))
+
+-- and so does a reading
 module _ (t : Bool) (n : ℕ) where
-  abbrev AsNumber : Bool → NumberRead → Type 0
-  AsNumber t (Number v) = (t ≡ true) × (v ≡ n)
-  AsNumber t NoNumber = t ≡ false
+  pub no-number : {r : NumberRead} → answerOf r ≡ answerIf t n → r ≡ NoNumber → t ≡ false
+  no-number e f = none-told t n (ap answerOf (sym f) ∙ e) refl
 
-  as-number : (t : Bool) → AsNumber t (numberIf t n)
-  unfolding numberIf
-  as-number true = (refl, refl)
-  as-number false = refl
-
-  -- what a reading tells of its test
-  pub no-number : {r : NumberRead} → r ≡ numberIf t n → r ≡ NoNumber → t ≡ false
-  no-number e f = subst (AsNumber t) (sym e ∙ f) (as-number t)
-
-  pub a-number : {r : NumberRead} {v : ℕ} → r ≡ numberIf t n → r ≡ Number v → (t ≡ true) × (v ≡ n)
-  a-number e f = subst (AsNumber t) (sym e ∙ f) (as-number t)
+  pub a-number : {r : NumberRead} {v : ℕ} → answerOf r ≡ answerIf t n → r ≡ Number v → (t ≡ true) × (v ≡ n)
+  a-number e f = value-told t n (ap answerOf (sym f) ∙ e) refl
 
 -- a size by its parts
 module _ (mark : ℕ) (size : List ℕ) where
-  pub not-two-size : {end : ℕ} → TwoParts mark size end → length size ≤ end → NoNumber ≡ sizeIn mark size
+  pub not-two-size : {end : ℕ} → TwoParts mark size end → length size ≤ end → answerOf NoNumber ≡ sizeIn mark size
   unfolding sizeIn isSize
   not-two-size p h =
       no-number-if (hundredths mark size)
@@ -66,15 +69,16 @@ module _ (mark : ℕ) (size : List ℕ) where
     unfolding hundredths partAt
     value-of-two = ap (λ ps. 100 * numeral 10 (getD ps 0 []) + numeral 10 (getD ps 1 [])) (sym parts)
 
-    pub whole-wrong : isNumeral 10 1 5 x ≡ false → NoNumber ≡ sizeIn mark size
+    pub whole-wrong : isNumeral 10 1 5 x ≡ false → answerOf NoNumber ≡ sizeIn mark size
     unfolding sizeIn
     whole-wrong e = no-number-if (hundredths mark size) (sym by-two ∙ ap (λ t. t && isNumeral 10 2 2 y) e)
 
-    pub rest-wrong : isNumeral 10 1 5 x ≡ true → isNumeral 10 2 2 y ≡ false → NoNumber ≡ sizeIn mark size
+    pub rest-wrong : isNumeral 10 1 5 x ≡ true → isNumeral 10 2 2 y ≡ false → answerOf NoNumber ≡ sizeIn mark size
     unfolding sizeIn
     rest-wrong e f = no-number-if (hundredths mark size) (sym by-two ∙ ap₂ _&&_ e f)
 
-    pub both-right : {a b : ℕ} → isNumeral 10 1 5 x ≡ true → isNumeral 10 2 2 y ≡ true → a ≡ numeral 10 x → b ≡ numeral 10 y → Number (100 * a + b) ≡ sizeIn mark size
+    pub both-right : {a b : ℕ} → isNumeral 10 1 5 x ≡ true → isNumeral 10 2 2 y ≡ true → a ≡ numeral 10 x → b ≡ numeral 10 y
+        → answerOf (Number (100 * a + b)) ≡ sizeIn mark size
     unfolding sizeIn
     both-right e f g h = number-if (sym by-two ∙ ap₂ _&&_ e f) (ap₂ (λ a b. 100 * a + b) g h ∙ value-of-two)
 
@@ -91,16 +95,24 @@ minus-some (b ∷ bs) e = omega arith
 
 -- a size with its sign
 module _ {s : NumberRead} {v : ℕ} (known : s ≡ Number v) where
-  pub size-small : SizeFits s → v < 10000000
-  size-small h = subst SizeFits known h
+  pub size-small : SizeFits (answerOf s) → v < 10000000
+  size-small h = subst (λ (s : NumberRead). SizeFits (answerOf s)) known h
 
-  pub negative-size : {end : ℕ} {negative : Bool} {z : ℤ} → negative ≡ true → z ≡ negℤ (pos v) → Measure z end ≡ signedSize negative end s
-  unfolding signed
-  negative-size {end} e f = ap (λ z. Measure z end) f ∙ sym (ap₂ (λ n s. signedSize n end s) e known)
+  sized : {end : ℕ} {negative b : Bool} {z : ℤ} → negative ≡ b → z ≡ signed b v → measureAnswerOf (Measure z end) ≡ signedSize negative end (answerOf s)
+  sized {end} e f = ap (λ z. measureAnswerOf (Measure z end)) f ∙ sym (ap₂ (λ n s. signedSize n end (answerOf s)) e known)
 
-  pub plain-size : {end : ℕ} {negative : Bool} {z : ℤ} → negative ≡ false → z ≡ pos v → Measure z end ≡ signedSize negative end s
+  pub negative-size : {end : ℕ} {negative : Bool} {z : ℤ} → negative ≡ true → z ≡ negℤ (pos v)
+      → measureAnswerOf (Measure z end) ≡ signedSize negative end (answerOf s)
   unfolding signed
-  plain-size {end} e f = ap (λ z. Measure z end) f ∙ sym (ap₂ (λ n s. signedSize n end s) e known)
+  negative-size e f = sized e f
+
+  pub plain-size : {end : ℕ} {negative : Bool} {z : ℤ} → negative ≡ false → z ≡ pos v
+      → measureAnswerOf (Measure z end) ≡ signedSize negative end (answerOf s)
+  unfolding signed
+  plain-size e f = sized e f
+
+pub no-size : {s : NumberRead} (end : ℕ) (negative : Bool) → s ≡ NoNumber → measureAnswerOf NoMeasure ≡ signedSize negative end (answerOf s)
+no-size end negative known = sym (ap (λ s. signedSize negative end (answerOf s)) known)
 
 -- no part is no measure
 pub no-measure : (mark : ℕ) → isMeasure mark [] ≡ false
@@ -122,37 +134,39 @@ module _ (mark : ℕ) (p : List ℕ) where
       by true e = measure-minus mark p (hundredths mark (unsigned p)) refl e
       by false e = measure-plain mark p (hundredths mark (unsigned p)) refl e
 
-  pub size-fits : {s : NumberRead} → s ≡ sizeIn mark p → SizeFits s
-  unfolding sizeIn isSize numberIf
+  pub size-fits : {a : Answer} → a ≡ sizeIn mark p → SizeFits a
+  unfolding sizeIn isSize answerIf
   size-fits e = subst⁻¹ SizeFits e (by (isSize mark p) refl)
     where
-      by : (t : Bool) → isSize mark p ≡ t → SizeFits (numberIf t (hundredths mark p))
+      by : (t : Bool) → isSize mark p ≡ t → SizeFits (answerIf t (hundredths mark p))
       by true f = hundredths-below mark p f
-      by false f = tt
+      by false f = omega arith
 
   module _ (separator : ℕ) (text : List ℕ) (next : ℕ) where
-    abbrev MeasureOf : NumberRead → Type 0
-    MeasureOf s = MeasureAt separator mark text (p ∷ partsBehind separator text next) (signedSize (isNegative p) next s)
+    abbrev MeasureOf : Answer → Type 0
+    MeasureOf a = MeasureAt separator mark text (p ∷ partsBehind separator text next) (signedSize (isNegative p) next a)
 
     pub measure-of-size : MeasureOf (sizeIn mark (unsigned p))
-    unfolding sizeIn numberIf
+    unfolding sizeIn answerIf
     measure-of-size = by (isSize mark (unsigned p)) refl
       where
-        by : (t : Bool) → isSize mark (unsigned p) ≡ t → MeasureOf (numberIf t (hundredths mark (unsigned p)))
+        by : (t : Bool) → isSize mark (unsigned p) ≡ t → MeasureOf (answerIf t (hundredths mark (unsigned p)))
         by true e = (sym size-measure ∙ e, sign-covers, refl)
-        by false e = sym size-measure ∙ e
+        by false e = (refl, sym size-measure ∙ e)
 
 -- the measure in the part behind one that ends at a place
 module _ (separator mark : ℕ) (text : List ℕ) (end : ℕ) where
   pub none-measured : length text ≤ end → isMeasure mark (getD (partsBehind separator text end) 0 []) ≡ false
   none-measured h = ap (λ ps. isMeasure mark (getD ps 0 [])) (none-behind separator text end h) ∙ no-measure mark
 
-  pub behind-measured : {next : ℕ} {s : NumberRead} {negative : Bool} {m : MeasureRead} → end < length text → PartEnd separator text (end + 1) next
-      → s ≡ sizeIn mark (unsigned (take (next - (end + 1)) (drop (end + 1) text))) → negative ≡ isNegative (take (next - (end + 1)) (drop (end + 1) text)) → m ≡ signedSize negative next s
+  pub behind-measured : {next : ℕ} {a : Answer} {negative : Bool} {m : MeasureAnswer} → end < length text → PartEnd separator text (end + 1) next
+      → a ≡ sizeIn mark (unsigned (take (next - (end + 1)) (drop (end + 1) text))) → negative ≡ isNegative (take (next - (end + 1)) (drop (end + 1) text))
+      → m ≡ signedSize negative next a
       → MeasureAt separator mark text (partsBehind separator text end) m
   behind-measured {next} h p e f g =
       let part = take (next - (end + 1)) (drop (end + 1) text) in
-      coe 1 0 (i. MeasureAt separator mark text (next-part separator text end next h p i) ((g ∙ ap₂ (λ n s. signedSize n next s) f e) i)) (measure-of-size mark part separator text next)
+      coe 1 0 (i. MeasureAt separator mark text (next-part separator text end next h p i) ((g ∙ ap₂ (λ n a. signedSize n next a) f e) i))
+      (measure-of-size mark part separator text next)
 
 -- four in turn: each begins where the one before it ends
 module _ (separator mark : ℕ) (text : List ℕ) (begin : ℕ) where
@@ -166,13 +180,16 @@ module _ (separator mark : ℕ) (text : List ℕ) (begin : ℕ) where
     here-part : getD (partsBehind separator text end) 0 [] ≡ getD ps n []
     here-part = ap (λ qs. getD qs 0 []) here ∙ getD-drop n ps 0 [] ∙ ap (λ k. getD ps k []) (add-zero n)
 
-    pub no-measure-here : (m : MeasureRead) → MeasureAt separator mark text (partsBehind separator text end) m → m ≡ NoMeasure → is n ≡ false
-    no-measure-here m known e = ap (isMeasure mark) (sym here-part) ∙ subst (MeasureAt separator mark text (partsBehind separator text end)) e known
+    abbrev Here : MeasureRead → Type 0
+    Here m = MeasureAt separator mark text (partsBehind separator text end) (measureAnswerOf m)
 
-    pub measure-here : (m : MeasureRead) → MeasureAt separator mark text (partsBehind separator text end) m → {v : ℤ} {next : ℕ} → m ≡ Measure v next
+    pub no-measure-here : (m : MeasureRead) → Here m → m ≡ NoMeasure → is n ≡ false
+    no-measure-here m known e = ap (isMeasure mark) (sym here-part) ∙ subst Here e known .1
+
+    pub measure-here : (m : MeasureRead) → Here m → {v : ℤ} {next : ℕ} → m ≡ Measure v next
         → (is n ≡ true) × (v ≡ measureIn mark (getD ps n [])) × (partsBehind separator text next ≡ drop (n + 1) ps)
     measure-here m known e =
-        let k = subst (MeasureAt separator mark text (partsBehind separator text end)) e known in
+        let k = subst Here e known in
         (ap (isMeasure mark) (sym here-part) ∙ k .0, k .1 ∙ ap (measureIn mark) here-part, k .2 ∙ ap (drop 1) here ∙ drop-drop 1 n ps)
 
   pub four-by : {s t u v : Bool} → is 0 ≡ s → is 1 ≡ t → is 2 ≡ u → is 3 ≡ v → fourMeasures mark ps ≡ (((s && t) && u) && v)

@@ -1,4 +1,5 @@
--- Where a part of a text ends and which parts stand behind it: what the contracts of the search for one say, by the parts of the grammar.
+-- Where a part of a text ends and which parts stand behind it: what the contracts of the search for one say, by the
+-- parts of the grammar.
 use Prim.Native.Nat.{ℕ, suc, _-_, _≤_, _<_}
 use mathlib.Core.Path.{_≡_}
 use mathlib.Core.Bool.{true, false}
@@ -9,7 +10,8 @@ use Rattle.text_rules.specs.Text.{parted, partsIn}
 
 -- the parts behind one that ends at a place: none where the text ends there
 unfoldable pub partsBehind : ℕ → List ℕ → ℕ → List (List ℕ)
-partsBehind separator text end = elim (ltb end (length text)) [ true ↦ parted separator (drop (suc end) text) | false ↦ [] ]
+partsBehind separator text end =
+    elim (ltb end (length text)) [ true ↦ parted separator (drop (suc end) text) | false ↦ [] ]
 
 -- the part that begins at a place ends before `end`
 pub record PartEnd (separator : ℕ) (text : List ℕ) (from end : ℕ) : Type 0 where

@@ -1,4 +1,5 @@
-// What herd lists and `yard` read alike: the parts of a text, found one after the other, a part's number, and measures in turn.
+// What herd lists and `yard` read alike: the parts of a text, found one after the other, a part's number, and measures
+// in turn.
 ghost use mathlib.Core.Path.{_≡_};
 ghost use mathlib.Core.Bool.{true, false};
 ghost use Prim.Native.Nat.{_≤_, _<_};
@@ -6,7 +7,8 @@ ghost use lib.ListN.{length};
 ghost use Rattle.text_rules.specs.Text.{digitOf, isDigit};
 ghost use Rattle.text_rules.specs.Fields.{isNegative, unsigned};
 ghost use Rattle.text_read.specs.Parts.{PartEnd, TwoParts, partsBehind};
-ghost use Rattle.text_read.specs.Found.{numberIn, sizeIn, SizeFits, signedSize, MeasureAt, MeasuresAt};
+ghost use Rattle.text_read.specs.Answers.{answerOf, measureAnswerOf};
+ghost use Rattle.text_read.specs.Found.{numberIn, sizeIn, SizeFits, signedSize, MeasureBehind, MeasuresAt};
 
 pub enum NumberRead {
     Number(u64),
@@ -19,7 +21,8 @@ pub enum MeasureRead {
     NoMeasure,
 }
 
-// Four measures and where the last one's part ends. Where they are not found, measures and place are left free: all that holds of them is their type.
+// Four measures and where the last one's part ends. Where they are not found, measures and place are left free: all
+// that holds of them is their type.
 pub struct MeasuresRead {
     pub found: bool,
     pub measures: [i32; 4],
@@ -58,7 +61,7 @@ fn digit(base: u64, b: u8) -> u64
 // The number of a text of `least` to `most` digits and nothing else: sixteen fill 64 bits.
 pub fn number(text: &[u8], base: u64, least: usize, most: usize) -> NumberRead
     requires { ⌜ (base ≤ 16) × (most ≤ 16) ⌝ }
-    ensures { λ r. ⌜ r ≡ numberIn base least most (now (text .entry)) ⌝ }
+    ensures { λ r. ⌜ answerOf r ≡ numberIn base least most (now (text .entry)) ⌝ }
 {
     if text.len() < least {
         return NumberRead::NoNumber;
@@ -110,7 +113,7 @@ pub fn two_parts(text: &[u8], separator: u8) -> usize
 
 // A measure without its sign: the digits before the mark and the two behind it as one number.
 fn hundredths(size: &[u8], mark: u8) -> NumberRead
-    ensures { λ r. ⌜ r ≡ sizeIn mark (now (size .entry)) ⌝ }
+    ensures { λ r. ⌜ answerOf r ≡ sizeIn mark (now (size .entry)) ⌝ }
 {
     let end = two_parts(size, mark);
     if size.len() <= end {
@@ -144,8 +147,8 @@ fn unsigned(text: &[u8]) -> &[u8]
 
 // One sign covers all digits.
 fn signed(size: NumberRead, negative: bool, end: usize) -> MeasureRead
-    requires { ⌜ SizeFits size ⌝ }
-    ensures { λ r. ⌜ r ≡ signedSize negative end size ⌝ }
+    requires { ⌜ SizeFits (answerOf size) ⌝ }
+    ensures { λ r. ⌜ measureAnswerOf r ≡ signedSize negative end (answerOf size) ⌝ }
 {
     let NumberRead::Number(n) = size else {
         return MeasureRead::NoMeasure;
@@ -158,7 +161,7 @@ fn signed(size: NumberRead, negative: bool, end: usize) -> MeasureRead
 
 // The measure in the part behind one that ends at a place.
 fn measure(text: &[u8], end: usize, separator: u8, mark: u8) -> MeasureRead
-    ensures { λ r. ⌜ MeasureAt separator mark (now (text .entry)) (partsBehind separator (now (text .entry)) end) r ⌝ }
+    ensures { λ r. ⌜ MeasureBehind separator mark (now (text .entry)) end (measureAnswerOf r) ⌝ }
 {
     if text.len() <= end {
         return MeasureRead::NoMeasure;

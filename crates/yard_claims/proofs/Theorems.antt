@@ -1,5 +1,6 @@
--- The claims of `specs/Claims`, by the lines: the first one begins the model or ends all, and each later one prints as the model does and leaves areas for the next.
-use Prim.Native.Nat.{ℕ, zero, suc, _<_}
+-- The claims of `specs/Claims`, by the lines: the first one begins the model or ends all, and each later one prints as
+-- the model does and leaves areas for the next.
+use Prim.Native.Nat.{ℕ, zero, suc, _^_, _<_}
 use native.Mathlib.Omega.{arith}
 use mathlib.Core.Path.{_≡_, refl, _∙_, ap, ap₂}
 use mathlib.Core.Bool.{Bool, true, false}
@@ -8,9 +9,8 @@ use mathlib.Core.List.{List, [], _∷_, _++_, append-nil}
 use lib.Dec.{leb, eqb}
 use lib.ListN.{length}
 use Rattle.metric_rules.specs.declared.Profile.{Profile}
-use Rattle.metric_rules.specs.Validity.{validTag, validMeasures, validDay}
+use Rattle.history.specs.Figures.{tagSound, measuresWithin}
 use Rattle.table_rules.specs.Refusals.{badDay}
-use Rattle.table_rules.specs.Geometry.{room}
 use Rattle.call_rules.specs.Calls.Begin.{fresh}
 use Rattle.history.specs.Model.{Model, isIn, tagRefusal, itemRefusal, modelBegun}
 use Rattle.yard_rules.specs.declared.Header.{Header}
@@ -20,10 +20,12 @@ use Rattle.yard_rules.specs.declared.Command.the-variants as command
 use Rattle.yard_rules.specs.declared.Stage.the-variants as stage
 use Rattle.yard_rules.specs.Line.{letterF, headerIn, commandIn, profileIn}
 use Rattle.yard_rules.specs.Reply.{replyLine}
-use Rattle.yard_rules.specs.Conversation.{Areas, Ample, LineOutcome, yardSpace, otherText, headerRefusal, headerOutcome, areasAfter, textAfter, commandOutcome, lineOutcome, after, afterLines, printed, linesIn, waiting, conversation}
+use Rattle.yard_rules.specs.Conversation.{Areas, Ample, LineOutcome, yardSpace, otherText, headerRefusal, headerOutcome, areasAfter, textAfter, commandOutcome}
+use Rattle.yard_rules.specs.Conversation.{lineOutcome, after, afterLines, printed, linesIn, waiting, conversation}
 use Rattle.yard_rules.proofs.Ended.{ended-prints}
 use Rattle.yard_rules.proofs.Fitting.{command-fits}
-use Rattle.yard_claims.specs.Claims.{Counts, countsOf, lineRefusal, modelAfter, modelText, modelPrinted, modelOpened, modelConversation, EveryConversation, NoAreaRefused}
+use Rattle.yard_claims.specs.Claims.{Counts, countsOf, lineRefusal, modelAfter, modelText, modelPrinted, modelOpened, modelConversation}
+use Rattle.yard_claims.specs.Claims.{EveryConversation, NoAreaRefused}
 use Rattle.yard_claims.proofs.Serving.{ServedBy, serving, text-served, stays-served, firstOutcome, afterFirst, first-refused, first-served}
 pub use Rattle.yard_claims.proofs.Kept.{every-table-kept}
 
@@ -80,17 +82,16 @@ either false h k = k
 line-number : (m : Model) (c : Command) (p : Profile) → Number (lineRefusal m c p)
 unfolding lineRefusal itemRefusal tagRefusal
 line-number m (command.Add tag day) p =
-    either (validTag tag)
-    (either (validMeasures p)
-    (either (validDay day)
+    either (tagSound tag)
+    (either (measuresWithin p)
+    (either (eqb day 0) (inr (inr refl))
     (either (isIn m tag) (inr (inl (omega arith, omega arith)))
-    (either (leb (room (m .order)) (length (m .items))) (inr (inl (omega arith, omega arith))) (inl (omega arith))))
-    (inr (inr refl)))
+    (either (leb (2 ^ m .order) (length (m .items))) (inr (inl (omega arith, omega arith))) (inl (omega arith)))))
     (inl (omega arith)))
     (inl (omega arith))
-line-number m (command.Remove tag) p = either (validTag tag) (either (isIn m tag) (inl (omega arith)) (inr (inl (omega arith, omega arith)))) (inl (omega arith))
-line-number m (command.Within radius firstDay) p = either (validMeasures p) (inl (omega arith)) (inl (omega arith))
-line-number m (command.Nearest k firstDay) p = either (validMeasures p) (either (eqb k 0) (inl (omega arith)) (inl (omega arith))) (inl (omega arith))
+line-number m (command.Remove tag) p = either (tagSound tag) (either (isIn m tag) (inl (omega arith)) (inr (inl (omega arith, omega arith)))) (inl (omega arith))
+line-number m (command.Within radius firstDay) p = either (measuresWithin p) (inl (omega arith)) (inl (omega arith))
+line-number m (command.Nearest k firstDay) p = either (measuresWithin p) (either (eqb k 0) (inl (omega arith)) (inl (omega arith))) (inl (omega arith))
 line-number m command.Other p = inl (omega arith)
 
 pub no-area-refused : NoAreaRefused

@@ -1,6 +1,6 @@
--- The fields of a line in turn: a number below a bound, a code, the fields behind the second one, the day behind these, and the command of a letter. Each law has
--- the tests in the order of the code.
-use Prim.Native.Nat.{ℕ, suc, _+_, _-_, _^_, _≤_, _<_}
+-- The fields of a line in turn: a number below a bound, a code, the fields behind the second one, the day behind these,
+-- and the command of a letter. Each law has the tests in the order of the code.
+use Prim.Native.Nat.{ℕ, zero, suc, _+_, _-_, _^_, _≤_, _<_}
 use mathlib.Core.Path.{_≡_, refl, ap, ap₂, sym, subst, _∙_}
 use mathlib.Core.Bool.{Bool, true, false, _&&_, _||_, false≢true}
 use mathlib.Core.List.{List, [], _∷_}
@@ -17,18 +17,20 @@ use Rattle.text_rules.specs.Fields.{isTag, isMeasure, measureIn}
 use Rattle.text_rules.proofs.Digits.{length-passes, numeral-digits, numeral-longest, numeral-shortest}
 use Rattle.text_read.specs.declared.MeasuresRead.{MeasuresRead}
 use Rattle.text_read.specs.Parts.{partsBehind, PartEnd}
+use Rattle.text_read.specs.Answers.{badForm, Answer, answerIf}
 use Rattle.text_read.specs.Found.{fourMeasures, measuresOf, MeasuresAt}
 use Rattle.text_read.proofs.Finding.{first-part, next-part, none-behind, some-behind}
-use Rattle.text_read.proofs.Forms.{one-more}
+use Rattle.text_read.proofs.Forms.{one-more, none-told, value-told}
 use Rattle.yard_rules.specs.declared.Header.the-variants as header
 use Rattle.yard_rules.specs.declared.Command.{Command}
 use Rattle.yard_rules.specs.declared.Command.the-variants as command
-use Rattle.yard_rules.specs.Line.{onlyByte, isBelow, isNumber, isDay, isCode, codeIn, hasDay, hasProfile, profileIn, headerIn, opens, dayOr, commandIn, letterA, letterN, letterR, letterW}
+use Rattle.yard_rules.specs.Line.{onlyByte, isBelow, isNumber, isDay, isCode, codeIn, hasDay, hasProfile, profileIn, headerIn, opens, dayOr, commandIn, letterA}
+use Rattle.yard_rules.specs.Line.{letterN, letterR, letterW}
 use Rattle.yard_line.specs.declared.WordRead.{WordRead}
 use Rattle.yard_line.specs.declared.WordRead.the-variants.{Word, NoWord}
 use Rattle.yard_line.specs.declared.CodeRead.{CodeRead}
 use Rattle.yard_line.specs.declared.ProfileRead.{ProfileRead}
-use Rattle.yard_line.specs.Found.{wordIf, wordIn, CodeAt, areProfile, profileOf, ProfileAt, dayIn, usualDay, dayFor, commandBy, commandOf}
+use Rattle.yard_line.specs.Found.{wordAnswerOf, wordIn, CodeAt, areProfile, profileOf, ProfileAt, dayIn, usualDay, dayFor, commandBy, commandOf}
 use Rattle.yard_line.proofs.Lines.{header-by, ended, profile-seven, command-by}
 
 pub fails : (t : Bool) → (t ≡ true → ⊥) → t ≡ false
@@ -44,25 +46,16 @@ two-more n m = one-more (suc n) (suc m) ∙ one-more n m
 
 -- a number below a bound
 module _ (most bound : ℕ) (text : List ℕ) where
-  pub word-by : {s t : Bool} {n : ℕ} → isNumeral 10 1 most text ≡ s → n ≡ numeral 10 text → ltb n bound ≡ t → wordIf (s && t) n ≡ wordIn most bound text
+  pub word-by : {s t : Bool} {n : ℕ} → isNumeral 10 1 most text ≡ s → n ≡ numeral 10 text → ltb n bound ≡ t → answerIf (s && t) n ≡ wordIn most bound text
   unfolding wordIn isBelow
-  word-by {s} {t} {n} e f g = ap (λ u. wordIf (s && u) n) (sym g) ∙ (λ i. wordIf (sym e i && ltb (f i) bound) (f i))
+  word-by {s} {t} {n} e f g = ap (λ u. answerIf (s && u) n) (sym g) ∙ (λ i. answerIf (sym e i && ltb (f i) bound) (f i))
 
 module _ (t : Bool) (n : ℕ) where
-  abbrev AsWord : Bool → WordRead → Type 0
-  AsWord t (Word v) = (t ≡ true) × (v ≡ n)
-  AsWord t NoWord = t ≡ false
+  pub no-word : {r : WordRead} → wordAnswerOf r ≡ answerIf t n → r ≡ NoWord → t ≡ false
+  no-word e f = none-told t n (ap wordAnswerOf (sym f) ∙ e) refl
 
-  as-word : (t : Bool) → AsWord t (wordIf t n)
-  unfolding wordIf
-  as-word true = (refl, refl)
-  as-word false = refl
-
-  pub no-word : {r : WordRead} → r ≡ wordIf t n → r ≡ NoWord → t ≡ false
-  no-word e f = subst (AsWord t) (sym e ∙ f) (as-word t)
-
-  pub a-word : {r : WordRead} {v : ℕ} → r ≡ wordIf t n → r ≡ Word v → (t ≡ true) × (v ≡ n)
-  a-word e f = subst (AsWord t) (sym e ∙ f) (as-word t)
+  pub a-word : {r : WordRead} {v : ℕ} → wordAnswerOf r ≡ answerIf t n → r ≡ Word v → (t ≡ true) × (v ≡ n)
+  a-word e f = value-told t n (ap wordAnswerOf (sym f) ∙ e) refl
 
 -- the first line
 pub two-by : (line : List ℕ) {x y : List ℕ} {s t : Bool} {n m : ℕ} → parted space line ≡ x ∷ y ∷ [] → isNumber x ≡ s → isNumber y ≡ t → n ≡ numeral 10 x → m ≡ numeral 10 y
@@ -204,20 +197,21 @@ usual-of-search letter h = ap (λ t. elim t [ true ↦ 1 | false ↦ 0 ]) (sym (
 
 -- the fields behind a profile: its day
 module _ (line : List ℕ) (end usual : ℕ) where
-  pub no-day : length line ≤ end → Word usual ≡ dayIn usual (partsBehind space line end)
+  pub no-day : length line ≤ end → wordAnswerOf (Word usual) ≡ dayIn usual (partsBehind space line end)
   unfolding dayIn
   no-day h = ap (dayIn usual) (sym (none-behind space line end h))
 
   module _ {last : ℕ} (within : end < length line) (p : PartEnd space line (end + 1) last) where
-    pub more-than-a-day : last < length line → NoWord ≡ dayIn usual (partsBehind space line end)
+    pub more-than-a-day : last < length line → wordAnswerOf NoWord ≡ dayIn usual (partsBehind space line end)
     unfolding dayIn
     more-than-a-day h = several _ (partsBehind space line last) (some-behind space line last h) ∙ ap (dayIn usual) (sym (next-part space line end last within p))
       where
-        several : (text : List ℕ) (qs : List (List ℕ)) → 0 < length qs → NoWord ≡ dayIn usual (text ∷ qs)
+        several : (text : List ℕ) (qs : List (List ℕ)) → 0 < length qs → wordAnswerOf NoWord ≡ dayIn usual (text ∷ qs)
         several text [] k = absurd (omega arith)
         several text (q ∷ qs) k = refl
 
-    pub day-here : length line ≤ last → {r : WordRead} → r ≡ wordIn 5 (2 ^ 16) (take (last - (end + 1)) (drop (end + 1) line)) → r ≡ dayIn usual (partsBehind space line end)
+    pub day-here : length line ≤ last → {a : Answer} → a ≡ wordIn 5 (2 ^ 16) (take (last - (end + 1)) (drop (end + 1) line))
+        → a ≡ dayIn usual (partsBehind space line end)
     unfolding dayIn
     day-here h e =
         e
@@ -228,21 +222,21 @@ module _ (line : List ℕ) (end usual : ℕ) where
 abbrev inEighth : List (List ℕ) → Bool
 inEighth qs = eqb (length qs) 8 && isDay (getD qs 7 [])
 
-abbrev dayBy : ℕ → List (List ℕ) → WordRead
-dayBy usual qs = wordIf (eqb (length qs) 7 || inEighth qs) (elim (inEighth qs) [ true ↦ numeral 10 (getD qs 7 []) | false ↦ usual ])
+abbrev dayBy : ℕ → List (List ℕ) → Answer
+dayBy usual qs = answerIf (eqb (length qs) 7 || inEighth qs) (elim (inEighth qs) [ true ↦ numeral 10 (getD qs 7 []) | false ↦ usual ])
 
 module _ (usual : ℕ) (x y a b c d e : List ℕ) where
   day-by : (qs : List (List ℕ)) → dayIn usual qs ≡ dayBy usual (x ∷ y ∷ a ∷ b ∷ c ∷ d ∷ e ∷ qs)
-  unfolding dayIn wordIn wordIf
+  unfolding dayIn wordIn answerIf
   day-by [] = refl
   day-by (text ∷ []) = by (isDay text)
     where
-      by : (t : Bool) → wordIf t (numeral 10 text) ≡ wordIf t (elim t [ true ↦ numeral 10 text | false ↦ usual ])
+      by : (t : Bool) → answerIf t (numeral 10 text) ≡ answerIf t (elim t [ true ↦ numeral 10 text | false ↦ usual ])
       by true = refl
       by false = refl
   day-by (text ∷ next ∷ qs) =
       let n : ℕ = suc (suc (suc (suc (suc (suc (suc (suc (suc (length qs))))))))) in
-      ap₂ (λ s t. wordIf (s || t && isDay text) (elim (t && isDay text) [ true ↦ numeral 10 text | false ↦ usual ]))
+      ap₂ (λ s t. answerIf (s || t && isDay text) (elim (t && isDay text) [ true ↦ numeral 10 text | false ↦ usual ]))
       (sym (ne-eqb n 7 (λ k. omega arith))) (sym (ne-eqb n 8 (λ k. omega arith)))
 
 -- a line whose third field begins ps
@@ -263,17 +257,17 @@ module _ (line : List ℕ) {x y : List ℕ} {ps : List (List ℕ)} (parts : part
   are-profile e = and-second (ended line) (areProfile ps) (sym has-profile ∙ e)
 
   -- behind a profile stands a day or nothing, or else the line is of another form
-  day-behind : (usual : ℕ) → areProfile ps ≡ true → dayIn usual (drop 5 ps) ≡ wordIf (hasProfile line) (dayOr usual line)
+  day-behind : (usual : ℕ) → areProfile ps ≡ true → dayIn usual (drop 5 ps) ≡ answerIf (hasProfile line) (dayOr usual line)
   unfolding areProfile dayOr hasDay partsIn partAt
   day-behind usual e =
       go ps parts (and-second (fourMeasures point ps) (isCode (getD ps 4 [])) e)
-      ∙ ap (λ t. wordIf t (dayOr usual line)) (whole (ended line) ∙ ap (λ t. ended line && t) (sym e) ∙ sym has-profile)
+      ∙ ap (λ t. answerIf t (dayOr usual line)) (whole (ended line) ∙ ap (λ t. ended line && t) (sym e) ∙ sym has-profile)
     where
       whole : (t : Bool) → t ≡ (t && true)
       whole true = refl
       whole false = refl
 
-      go : (qs : List (List ℕ)) → parted space line ≡ x ∷ y ∷ qs → isCode (getD qs 4 []) ≡ true → dayIn usual (drop 5 qs) ≡ wordIf (ended line) (dayOr usual line)
+      go : (qs : List (List ℕ)) → parted space line ≡ x ∷ y ∷ qs → isCode (getD qs 4 []) ≡ true → dayIn usual (drop 5 qs) ≡ answerIf (ended line) (dayOr usual line)
       go [] f g = absurd (false≢true (sym no-code ∙ g))
       go (a ∷ []) f g = absurd (false≢true (sym no-code ∙ g))
       go (a ∷ b ∷ []) f g = absurd (false≢true (sym no-code ∙ g))
@@ -308,12 +302,12 @@ module _ (line : List ℕ) {end : ℕ} (p : PartEnd space line 0 end) where
 -- what a letter asks for
 module _ (letter : ℕ) (ps : List (List ℕ)) where
   for-by : {r p : Bool} → eqb letter letterR ≡ r → areProfile ps ≡ p
-      → elim r [ true ↦ wordIf (eqb (length ps) 0) 0 | false ↦ elim p [ true ↦ dayIn (usualDay letter) (drop 5 ps) | false ↦ NoWord ] ] ≡ dayFor letter ps
+      → elim r [ true ↦ answerIf (eqb (length ps) 0) 0 | false ↦ elim p [ true ↦ dayIn (usualDay letter) (drop 5 ps) | false ↦ wordAnswerOf NoWord ] ] ≡ dayFor letter ps
   unfolding dayFor
-  for-by e f = λ i. elim (sym e i) [ true ↦ wordIf (eqb (length ps) 0) 0 | false ↦ elim (sym f i) [ true ↦ dayIn (usualDay letter) (drop 5 ps) | false ↦ NoWord ] ]
+  for-by e f = λ i. elim (sym e i) [ true ↦ answerIf (eqb (length ps) 0) 0 | false ↦ elim (sym f i) [ true ↦ dayIn (usualDay letter) (drop 5 ps) | false ↦ wordAnswerOf NoWord ] ]
 
   module _ (no-removal : letter ≡ letterR → ⊥) where
-    pub no-profile-for : areProfile ps ≡ false → NoWord ≡ dayFor letter ps
+    pub no-profile-for : areProfile ps ≡ false → wordAnswerOf NoWord ≡ dayFor letter ps
     no-profile-for e = for-by (ne-eqb letter letterR no-removal) e
 
     pub profile-for : areProfile ps ≡ true → dayIn (usualDay letter) (drop 5 ps) ≡ dayFor letter ps
@@ -323,15 +317,15 @@ module _ (letter : ℕ) (line : List ℕ) (end : ℕ) (removal : letter ≡ lett
   abbrev after : List (List ℕ)
   after = partsBehind space line end
 
-  removal-by : {t : Bool} → eqb (length after) 0 ≡ t → wordIf t 0 ≡ dayFor letter after
-  removal-by e = ap (λ t. wordIf t 0) (sym e) ∙ for-by letter after (eq-eqb letter letterR removal) refl
+  removal-by : {t : Bool} → eqb (length after) 0 ≡ t → answerIf t 0 ≡ dayFor letter after
+  removal-by e = ap (λ t. answerIf t 0) (sym e) ∙ for-by letter after (eq-eqb letter letterR removal) refl
 
-  pub nothing-more : length line ≤ end → Word 0 ≡ dayFor letter after
-  unfolding wordIf
+  pub nothing-more : length line ≤ end → wordAnswerOf (Word 0) ≡ dayFor letter after
+  unfolding answerIf
   nothing-more h = removal-by (eq-eqb (length after) 0 (ap length (none-behind space line end h)))
 
-  pub something-more : end < length line → NoWord ≡ dayFor letter after
-  unfolding wordIf
+  pub something-more : end < length line → wordAnswerOf NoWord ≡ dayFor letter after
+  unfolding answerIf
   something-more h = removal-by (ne-eqb (length after) 0 (λ f. omega (arith, f, some-behind space line end h)))
 
 -- the command of a letter
@@ -433,13 +427,12 @@ module _ (line : List ℕ) where
     not-opened l form h = opens-as l form ∙ other-letter b l (form y) h
 
     -- what the code makes of the day that it finds
-    abbrev told : WordRead → Command
-    told (Word day) = commandOf b y day
-    told NoWord = command.Other
+    abbrev told : Answer → Command
+    told a = elim (a .refusal) [ zero ↦ commandOf b y (a .number) | suc n ↦ command.Other ]
 
     -- a removal has a tag and nothing behind it
-    removed : b ≡ letterR → (t : Bool) → eqb (length ps) 0 ≡ t → told (wordIf t 0) ≡ commandIn line
-    unfolding wordIf partsIn
+    removed : b ≡ letterR → (t : Bool) → eqb (length ps) 0 ≡ t → told (answerIf t 0) ≡ commandIn line
+    unfolding answerIf partsIn
     removed f true e =
         let two : partsIn space line ≡ 2 = ap length parts ∙ ap (λ n. suc (suc n)) (eqb-true (length ps) 0 e) in
         sym (remove-is b y 0 refl f refl)
@@ -454,15 +447,15 @@ module _ (line : List ℕ) where
         by false k = command-by line k refl refl refl (count ∙ e) refl
 
     module _ (no-removal : b ≡ letterR → ⊥) where
-      day-for : dayFor b ps ≡ wordIf (hasProfile line) (dayOr (usualDay b) line)
-      unfolding wordIf
+      day-for : dayFor b ps ≡ answerIf (hasProfile line) (dayOr (usualDay b) line)
+      unfolding answerIf
       day-for = by (areProfile ps) refl
         where
-          by : (t : Bool) → areProfile ps ≡ t → dayFor b ps ≡ wordIf (hasProfile line) (dayOr (usualDay b) line)
+          by : (t : Bool) → areProfile ps ≡ t → dayFor b ps ≡ answerIf (hasProfile line) (dayOr (usualDay b) line)
           by true e = sym (profile-for b ps no-removal e) ∙ day-behind line parts (usualDay b) e
           by false e =
               sym (no-profile-for b ps no-removal e)
-              ∙ ap (λ t. wordIf t (dayOr (usualDay b) line)) (sym (has-profile line parts ∙ ap (λ t. ended line && t) e ∙ and-false (ended line)))
+              ∙ ap (λ t. answerIf t (dayOr (usualDay b) line)) (sym (has-profile line parts ∙ ap (λ t. ended line && t) e ∙ and-false (ended line)))
 
       -- an item's day, or the first day of a search
       dated : hasProfile line ≡ true → commandOf b y (dayOr (usualDay b) line) ≡ commandIn line
@@ -481,15 +474,15 @@ module _ (line : List ℕ) where
               ∙ ap (λ v. commandBy false (eqb b letterW && isNumber y) (eqb b letterN && isNumber y) false v (dayOr 0 line)) second
               ∙ command-by line e (not-opened letterA isTag (eqb-false b letterA f)) (opens-as letterW isNumber) (opens-as letterN isNumber) refl refl
 
-      serves : (t : Bool) → hasProfile line ≡ t → told (wordIf t (dayOr (usualDay b) line)) ≡ commandIn line
-      unfolding wordIf
+      serves : (t : Bool) → hasProfile line ≡ t → told (answerIf t (dayOr (usualDay b) line)) ≡ commandIn line
+      unfolding answerIf
       serves true e = dated e
       serves false e = other-command e (not-opened letterR isTag no-removal)
 
     -- the grammar's choice, by the tests that the code makes
-    pub whole-is : (r : WordRead) → r ≡ dayFor b ps → told r ≡ commandIn line
-    whole-is r e = by (eqb b letterR) refl
+    pub whole-is : (a : Answer) → a ≡ dayFor b ps → told a ≡ commandIn line
+    whole-is a e = by (eqb b letterR) refl
       where
-        by : (t : Bool) → eqb b letterR ≡ t → told r ≡ commandIn line
+        by : (t : Bool) → eqb b letterR ≡ t → told a ≡ commandIn line
         by true f = ap told (e ∙ sym (for-by b ps f refl)) ∙ removed (eqb-true b letterR f) (eqb (length ps) 0) refl
         by false f = ap told (e ∙ day-for (eqb-false b letterR f)) ∙ serves (eqb-false b letterR f) (hasProfile line) refl

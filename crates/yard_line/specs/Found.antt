@@ -9,6 +9,7 @@ use Rattle.metric_rules.specs.declared.Profile.{Profile}
 use Rattle.text_rules.specs.Text.{space, point, numeral}
 use Rattle.text_rules.specs.Fields.{isTag}
 use Rattle.text_read.specs.Parts.{partsBehind}
+use Rattle.text_read.specs.Answers.{badForm, Answer, answerIf}
 use Rattle.text_read.specs.Found.{fourMeasures, measuresOf}
 use Rattle.yard_rules.specs.declared.Command.{Command}
 use Rattle.yard_rules.specs.declared.Command.the-variants as command
@@ -18,12 +19,14 @@ use Rattle.yard_line.specs.declared.WordRead.the-variants.{Word, NoWord}
 use Rattle.yard_line.specs.declared.CodeRead.{CodeRead}
 use Rattle.yard_line.specs.declared.ProfileRead.{ProfileRead}
 
--- a number of 1 to `most` digits below a bound
-unfoldable pub wordIf : Bool → ℕ → WordRead
-wordIf test n = elim test [ true ↦ Word n | false ↦ NoWord ]
+-- what reading a number answers, for each case of `WordRead`: as a part of the text (`answerOf` of text_read)
+abbrev pub wordAnswerOf : WordRead → Answer
+wordAnswerOf (Word n) = record { refusal = 0; number = n }
+wordAnswerOf NoWord = record { refusal = badForm; number = 0 }
 
-unfoldable pub wordIn : ℕ → ℕ → List ℕ → WordRead
-wordIn most bound text = wordIf (isBelow most bound text) (numeral 10 text)
+-- a number of 1 to `most` digits below a bound
+unfoldable pub wordIn : ℕ → ℕ → List ℕ → Answer
+wordIn most bound text = answerIf (isBelow most bound text) (numeral 10 text)
 
 pub record CodeAt (text : List ℕ) (r : CodeRead) : Type 0 where
   pub found : r .found ≡ isCode text
@@ -42,21 +45,26 @@ pub record ProfileAt (line : List ℕ) (fields : List (List ℕ)) (r : ProfileRe
   pub behind : areProfile fields ≡ true → partsBehind space line (r .end) ≡ drop 5 fields
 
 -- the fields behind a profile: none, and another number stands for the day, or a day and no others
-unfoldable pub dayIn : ℕ → List (List ℕ) → WordRead
-dayIn usual [] = Word usual
+unfoldable pub dayIn : ℕ → List (List ℕ) → Answer
+dayIn usual [] = record { refusal = 0; number = usual }
 dayIn usual (text ∷ []) = wordIn 5 (2 ^ 16) text
-dayIn usual (text ∷ next ∷ fields) = NoWord
+dayIn usual (text ∷ next ∷ fields) = record { refusal = badForm; number = 0 }
 
 -- RULES 18.3: without a day an item's is 1, and a search's first day 0
 unfoldable pub usualDay : ℕ → ℕ
 usualDay letter = elim (eqb letter letterA) [ true ↦ 1 | false ↦ 0 ]
 
--- the day of a line behind whose second field stands what its letter asks for: nothing behind a removal's tag, and else a profile and its day
-unfoldable pub dayFor : ℕ → List (List ℕ) → WordRead
+-- the day of a line behind whose second field stands what its letter asks for: nothing behind a removal's tag, and else
+-- a profile and its day
+unfoldable pub dayFor : ℕ → List (List ℕ) → Answer
 dayFor letter fields =
     elim (eqb letter letterR) [
-      | true ↦ wordIf (eqb (length fields) 0) 0
-      | false ↦ elim (areProfile fields) [ true ↦ dayIn (usualDay letter) (drop 5 fields) | false ↦ NoWord ]
+      | true ↦ answerIf (eqb (length fields) 0) 0
+      | false ↦
+          elim (areProfile fields) [
+            | true ↦ dayIn (usualDay letter) (drop 5 fields)
+            | false ↦ record { refusal = badForm; number = 0 }
+          ]
     ]
 
 -- the command of a letter, the second field and the line's day

@@ -1,4 +1,5 @@
-// What a line says: a header, a command with its day, its profile. Every line of bytes is one of them or of another form. The fields are read in turn.
+// What a line says: a header, a command with its day, its profile. Every line of bytes is one of them or of another
+// form. The fields are read in turn.
 ghost use mathlib.Core.Path.{_≡_};
 ghost use mathlib.Core.Bool.{true, false};
 ghost use Prim.Native.Nat.{_≤_, _<_, _^_};
@@ -6,7 +7,8 @@ ghost use lib.ListN.{length};
 ghost use Rattle.text_rules.specs.Text.{space};
 ghost use Rattle.text_read.specs.Parts.{partsBehind};
 ghost use Rattle.yard_rules.specs.Line.{hasProfile, profileIn, headerIn, commandIn};
-ghost use Rattle.yard_line.specs.Found.{wordIn, CodeAt, ProfileAt, usualDay, dayIn, dayFor, commandOf};
+ghost use Rattle.yard_line.specs.Found.{wordAnswerOf, wordIn, CodeAt, ProfileAt};
+ghost use Rattle.yard_line.specs.Found.{usualDay, dayIn, dayFor, commandOf};
 use metric_rules::Profile;
 use text_read::NumberRead;
 use yard_rules::Command;
@@ -18,7 +20,8 @@ pub enum WordRead {
     NoWord,
 }
 
-// Where no code or profile is found, the words, the profile and its end are left free: all that holds of them is their type.
+// Where no code or profile is found, the words, the profile and its end are left free: all that holds of them is their
+// type.
 pub struct CodeRead {
     pub found: bool,
     pub words: [u64; 2],
@@ -38,7 +41,7 @@ const DAY_BOUND: u64 = 0x1_0000;
 // The number of a text of one to `most` digits, below a bound.
 fn word(text: &[u8], most: usize, bound: u64) -> WordRead
     requires { ⌜ (most ≤ 16) × (bound ≤ 2 ^ 32) ⌝ }
-    ensures { λ r. ⌜ r ≡ wordIn most bound (now (text .entry)) ⌝ }
+    ensures { λ r. ⌜ wordAnswerOf r ≡ wordIn most bound (now (text .entry)) ⌝ }
 {
     let NumberRead::Number(n) = text_read::number(text, 10, 1, most) else {
         return WordRead::NoWord;
@@ -151,9 +154,10 @@ pub fn profile(line: &[u8]) -> Profile
     profile
 }
 
-// The day behind a code that ends at a place: the usual one where nothing stands there, and none where it is not one day and nothing more.
+// The day behind a code that ends at a place: the usual one where nothing stands there, and none where it is not one
+// day and nothing more.
 fn day_behind(line: &[u8], code_end: usize, usual: u32) -> WordRead
-    ensures { λ r. ⌜ r ≡ dayIn usual (partsBehind space (now (line .entry)) «code_end») ⌝ }
+    ensures { λ r. ⌜ wordAnswerOf r ≡ dayIn usual (partsBehind space (now (line .entry)) «code_end») ⌝ }
 {
     if line.len() <= code_end {
         return WordRead::Word(usual);
@@ -174,7 +178,7 @@ fn usual_day(letter: u8) -> u32
 
 // The day of a line behind whose second field stands what the letter asks for; a removal's is 0.
 fn day_for(line: &[u8], letter: u8, end: usize) -> WordRead
-    ensures { λ r. ⌜ r ≡ dayFor letter (partsBehind space (now (line .entry)) end) ⌝ }
+    ensures { λ r. ⌜ wordAnswerOf r ≡ dayFor letter (partsBehind space (now (line .entry)) end) ⌝ }
 {
     if letter == b'R' {
         if line.len() <= end {

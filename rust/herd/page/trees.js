@@ -2,7 +2,7 @@
 
 // In pixels: a row's height; the most that a slot is wide in the whole tree, and in one drawn alone; the least that is
 // drawn; a letter; the least that a tree has for its words.
-const ROW = 34, WIDEST = 60, WIDEST_ALONE = 150, NARROWEST = 1.5, LETTER = 6.8, FIGURE = 300;
+const LEVEL = 34, WIDEST = 60, WIDEST_ALONE = 150, NARROWEST = 1.5, LETTER = 6.8, FIGURE = 300;
 
 // Of a tree of n slots the first is the vantage point, n / 2 slots after it the left half, the others the right half.
 function halves(tree) {
@@ -26,9 +26,9 @@ function tagEnd(tag, letters) {
   return letters < 3 ? "" : tag.slice(-Math.min(letters, 6));
 }
 
-class Drawing {
-  constructor(bucket) {
-    this.bucket = bucket;
+class Tree {
+  constructor(bucket, slots) {
+    this.slots = slots;
     this.whole = { side: "whole", first: 0, size: bucket.built, above: null };
     this.top = this.chosen = this.whole;
     this.path = html("div", { class: "path controls" });
@@ -43,11 +43,8 @@ class Drawing {
     this.picture.addEventListener("keydown", event => this.typed(event));
   }
 
-  // A live slot has its item's place, a dead one its tag.
   slot(tree) {
-    const [place, threshold] = this.bucket.slots[tree.first];
-    const isLive = typeof place === "number";
-    return { isLive, threshold, place, tag: isLive ? items[place].tag : place };
+    return this.slots[tree.first];
   }
 
   clicked(event) {
@@ -83,9 +80,9 @@ class Drawing {
   draw() {
     const hadFocus = this.picture.contains(document.activeElement);
     const widest = this.top === this.whole ? WIDEST : WIDEST_ALONE;
-    const width = Math.min(widthOf("drawings"), this.top.size * widest);
+    const width = Math.min(Math.max(240, at("trees").clientWidth), this.top.size * widest);
     const boxes = placed(this.top, 0, 0, width / this.top.size);
-    const height = ROW * (1 + Math.max(...boxes.map(box => box.row)));
+    const height = LEVEL * (1 + Math.max(...boxes.map(box => box.row)));
     this.drawn = new Map(boxes.map(box => [box.tree.first, box.tree]));
     this.figure.style.width = `${Math.max(width, FIGURE)}px`;
     filled(this.picture, { viewBox: `0 0 ${width} ${height}`, width, height }, []);
@@ -102,26 +99,26 @@ class Drawing {
   pathUp() {
     const above = [];
     for (let tree = this.top.above; tree; tree = tree.above) above.unshift(tree);
-    const name = tree => tree.above ? tagEnd(this.slot(tree).tag, 6) : "whole tree";
+    const name = tree => tree.above ? tagEnd(tagText(this.slot(tree).tag), 6) : "whole tree";
     return above.map(tree => button(`↑ ${name(tree)}`, () => this.choose(tree)));
   }
 
   box({ tree, x, row, width }) {
     const slot = this.slot(tree), isChosen = tree.first === this.chosen.first;
     const kinds = ["slot", tree.side, slot.isLive ? "live" : "dead", isChosen ? "chosen" : ""].join(" ").trim();
-    const words = this.told(tree, place => items[place].tag).join("");
+    const words = this.told(tree, tagText).join("");
     const group = svg("g", {
       class: kinds, "data-slot": tree.first, role: "button", tabindex: isChosen ? 0 : -1, "aria-label": words,
     });
     const edge = width > 4 ? 1 : 0;
-    const frame = { x: x + edge, y: ROW * row + 1, width: width - 2 * edge, height: ROW - 2, rx: 2 * edge };
+    const frame = { x: x + edge, y: LEVEL * row + 1, width: width - 2 * edge, height: LEVEL - 2, rx: 2 * edge };
     group.append(svg("title", {}, words), svg("rect", frame));
-    group.append(...this.labels(tree, slot, x + width / 2, ROW * row, Math.floor((width - 6) / LETTER)));
+    group.append(...this.labels(tree, slot, x + width / 2, LEVEL * row, Math.floor((width - 6) / LETTER)));
     return group;
   }
 
   labels(tree, slot, x, y, letters) {
-    const tag = tagEnd(slot.tag, letters), threshold = `≤ ${grouped(slot.threshold)}`;
+    const tag = tagEnd(tagText(slot.tag), letters), threshold = `≤ ${grouped(slot.threshold)}`;
     const isTold = tree.size > 1 && threshold.length <= letters;
     const line = (kind, below, words) => svg("text", { class: kind, x, y: y + below }, words);
     const lines = [line("tag", isTold ? 14 : 21, tag), ...(isTold ? [line("threshold", 27, threshold)] : [])];
@@ -135,6 +132,6 @@ class Drawing {
     const below = tree.size === 1 ? "no slot is below it." : `vantage point of ${grouped(tree.size)} slots. ` +
       `Threshold ${grouped(slot.threshold)}: ${counted(left, "slot", "slots")} in the left half ` +
       `(within the threshold), ${grouped(right)} in the right half.`;
-    return [slot.isLive ? tagOf(slot.place) : slot.tag, ` (${state}): ${below}`];
+    return [slot.isLive ? tagOf(slot.tag) : tagText(slot.tag), ` (${state}): ${below}`];
   }
 }

@@ -4,9 +4,10 @@ use std::ffi::{OsStr, OsString};
 use std::fmt::Display;
 use std::str::FromStr;
 
-use vpindex::{Profile, Tag};
+use vpindex::{Day, Profile, Tag};
 
-use crate::file::{self, Image};
+use crate::calendar::Calendar;
+use crate::file::{self, INPUT, Image};
 use crate::report::Failure;
 use crate::words;
 
@@ -113,34 +114,59 @@ impl Args {
         self.plain[from..].iter().map(|word| read(word, name)).collect()
     }
 
-    /// The words from one on as a query: a tag, or a profile as one word or as five.
-    pub fn query(&self, from: usize) -> Result<Query, Failure> {
-        let words: Vec<String> = self.rest(from, "the query")?;
-        let text = words.join(" ");
-        let is_tag = !text.contains(' ');
-        if is_tag {
-            read(text.as_ref(), "TAG").map(Query::Tag)
-        } else {
-            read(text.as_ref(), "PROFILE").map(Query::Profile)
-        }
+    /// An option's value that is a day.
+    pub fn day(&self, name: &str, calendar: &Calendar) -> Result<Option<Day>, Failure> {
+        let typed: Option<String> = self.value(name)?;
+        let read = |typed: String| calendar.read(&typed).or_else(|error| misuse(format!("{name} `{typed}`: {error}")));
+        typed.map(read).transpose()
+    }
+
+    /// The words from one on as tags, or those on standard input where the word is `-`.
+    pub fn tags(&self, from: usize) -> Result<Vec<Tag>, Failure> {
+        if self.plain[from..] == ["-"] { tags_in(file::read_input()?) } else { self.rest(from, "TAG") }
+    }
+
+    /// The words from one on as a profile: one word, or five.
+    pub fn profile(&self, from: usize) -> Result<Profile, Failure> {
+        let text = self.rest::<String>(from, "PROFILE")?.join(" ");
+        words::read_profile(&text.split(' ').collect::<Vec<_>>()).or_else(|error| misuse(format!("PROFILE: {error}")))
+    }
+
+    /// The words from one on as queries: tags, or a profile, which a point, a comma or a space tells.
+    pub fn queries(&self, from: usize) -> Result<Queries, Failure> {
+        let is_of_profile = |word: &OsString| word.to_string_lossy().contains(['.', ',', ' ']);
+        let is_profile = self.plain[from..].iter().any(is_of_profile);
+        if is_profile { self.profile(from).map(Queries::Profile) } else { self.tags(from).map(Queries::Tags) }
     }
 }
 
+// Parted by spaces or lines.
+fn tags_in(bytes: Vec<u8>) -> Result<Vec<Tag>, Failure> {
+    let Ok(text) = String::from_utf8(bytes) else { return misuse(format!("{INPUT} is not a text")) };
+    let words = text.lines().zip(1..).flat_map(|(text, line)| text.split_whitespace().map(move |word| (line, word)));
+    let tag = |(line, word): (u32, &str)| {
+        word.parse().or_else(|error| misuse(format!("{INPUT}, line {line}: `{word}`: {error}")))
+    };
+    words.map(tag).collect()
+}
+
 /// From what distances are asked for.
-pub enum Query {
-    /// A head of the herd.
-    Tag(Tag),
+pub enum Queries {
+    /// Head of the herd.
+    Tags(Vec<Tag>),
     Profile(Profile),
 }
 
-impl Query {
-    pub fn profile(&self, image: &Image) -> Result<Profile, Failure> {
+impl Queries {
+    /// The profile of each, with the tag of a head.
+    pub fn profiles(&self, image: &Image) -> Result<Vec<(Option<Tag>, Profile)>, Failure> {
+        let of_head = |tag: &Tag| {
+            let found = image.table.look_up(*tag).map_err(|refusal| image.refused(words::refused(*tag, refusal)))?;
+            Ok((Some(*tag), found.profile))
+        };
         match self {
-            Query::Profile(profile) => Ok(*profile),
-            Query::Tag(tag) => {
-                let found = image.table.look_up(*tag).map(|found| found.profile);
-                found.map_err(|refusal| image.refused(words::refused(*tag, refusal)))
-            }
+            Queries::Profile(profile) => Ok(vec![(None, *profile)]),
+            Queries::Tags(tags) => tags.iter().map(of_head).collect(),
         }
     }
 }

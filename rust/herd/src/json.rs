@@ -39,7 +39,7 @@ fn between<T>(f: &mut Formatter<'_>, parts: &[T], each: impl Fn(&mut Formatter<'
     Ok(())
 }
 
-/// In one line. A `<` is written by its number, so that it can stand in a page's script.
+/// In one line.
 impl Display for Json {
     fn fmt(&self, f: &mut Formatter<'_>) -> fmt::Result {
         match self {
@@ -66,7 +66,7 @@ fn quoted(f: &mut Formatter<'_>, text: &str) -> fmt::Result {
     for char in text.chars() {
         match char {
             '"' | '\\' => write!(f, "\\{char}")?,
-            '<' | '\u{2028}' | '\u{2029}' | '\0'..='\x1f' => write!(f, "\\u{:04x}", char as u32)?,
+            '\0'..='\x1f' => write!(f, "\\u{:04x}", char as u32)?,
             _ => write!(f, "{char}")?,
         }
     }
@@ -82,12 +82,9 @@ mod tests {
         let value = object([
             ("none", Json::None),
             ("truth", Json::Bool(true)),
-            ("list", list([number(1), number("-0.05"), text("a\"b\\c\n</script>é")])),
+            ("list", list([number(1), number("-0.05"), text("a\"b\\c\né")])),
             ("empty", object([])),
         ]);
-        assert_eq!(
-            value.to_string(),
-            r#"{"none":null,"truth":true,"list":[1,-0.05,"a\"b\\c\u000a\u003c/script>é"],"empty":{}}"#
-        );
+        assert_eq!(value.to_string(), r#"{"none":null,"truth":true,"list":[1,-0.05,"a\"b\\c\u000aé"],"empty":{}}"#);
     }
 }

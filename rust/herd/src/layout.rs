@@ -2,18 +2,20 @@
 
 /// Rows under their headers, each column as wide as its widest word; one whose header begins with a space has its words
 /// at the right.
-pub fn columns<const N: usize>(headers: [&str; N], rows: &[[String; N]]) -> String {
+pub fn columns(headers: &[&str], rows: &[Vec<String>]) -> String {
     let width = |at: usize| rows.iter().map(|row| row[at].chars().count()).max().unwrap_or(0);
-    let widths: [usize; N] = std::array::from_fn(|at| width(at).max(headers[at].trim().chars().count()));
-    let line = |words: [&str; N]| {
-        let padded = std::array::from_fn::<_, N, _>(|at| match headers[at].starts_with(' ') {
-            true => format!("{:>1$}", words[at], widths[at]),
-            false => format!("{:<1$}", words[at], widths[at]),
-        });
-        format!("{}\n", padded.join("  ").trim_end())
+    let width = |at: usize| width(at).max(headers[at].trim().chars().count());
+    let widths: Vec<usize> = (0..headers.len()).map(width).collect();
+    let padded = |(at, word): (usize, &str)| match headers[at].starts_with(' ') {
+        true => format!("{word:>0$}", widths[at]),
+        false => format!("{word:<0$}", widths[at]),
     };
-    let body = rows.iter().map(|row| line(std::array::from_fn(|at| row[at].as_str())));
-    std::iter::once(line(headers.map(str::trim))).chain(body).collect()
+    let line = |words: Vec<&str>| {
+        let line: Vec<String> = words.into_iter().enumerate().map(padded).collect();
+        format!("{}\n", line.join("  ").trim_end())
+    };
+    let head = line(headers.iter().map(|header| header.trim()).collect());
+    head + &rows.iter().map(|row| line(row.iter().map(String::as_str).collect())).collect::<String>()
 }
 
 /// A part of a whole as a bar of so many characters, rounded up: what is there is seen.
@@ -47,7 +49,7 @@ mod tests {
 
     #[test]
     fn aligned() {
-        let rows = [["a".to_string(), "12".to_string()], ["long".to_string(), "7".to_string()]];
-        assert_eq!(columns(["name", " n"], &rows), "name   n\na     12\nlong   7\n");
+        let rows = [["a", "12"], ["long", "7"]].map(|row| row.map(str::to_string).to_vec());
+        assert_eq!(columns(&["name", " n"], &rows), "name   n\na     12\nlong   7\n");
     }
 }

@@ -7,6 +7,8 @@ pub struct Report {
     pub text: String,
     /// What was refused beside it, a sentence each, for standard error.
     pub refused: Vec<String>,
+    /// What was noticed and is no reason to refuse, for standard error too.
+    pub noticed: Vec<String>,
 }
 
 /// Why a command did nothing.
@@ -22,7 +24,7 @@ pub type Outcome = Result<Report, Failure>;
 
 impl From<String> for Report {
     fn from(text: String) -> Report {
-        Report { text, refused: Vec::new() }
+        Report { text, ..Report::default() }
     }
 }
 

@@ -59,22 +59,16 @@ fn expected(lines: &[String], day: impl Fn(usize) -> u16) -> String {
     format!("tag,day,kg,hip,girth,gain,code\n{rows}")
 }
 
-// What `list --csv` wrote, as a list again.
-fn as_list(csv: &str) -> String {
-    let line = |row: &str| {
-        let fields: Vec<&str> = row.split(',').collect();
-        format!("{};{}\n", fields[0], fields[2..6].join(";").replace('.', ","))
-    };
-    HEADER.to_string() + &csv.lines().skip(1).map(line).collect::<String>()
-}
-
 #[test]
 fn in_and_out_again() {
     let (folder, lines) = (folder("large"), lines(4_096));
     let list = |lines: &[String]| HEADER.to_string() + &lines.join("\n") + "\n";
     fs::write(folder.join("whole.list"), list(&lines)).unwrap();
     told(&folder, "new whole.img --order 12 --metric worst --weights 1,2,3,100");
-    assert_eq!(told(&folder, "read whole.img whole.list --day 65535"), "4096 added to whole.img, 4096 head now\n");
+    assert_eq!(
+        told(&folder, "read whole.img whole.list --day 65535"),
+        "whole.img: 4096 added, 0 replaced, 0 refused, 4096 head now\n"
+    );
     let out = told(&folder, "list whole.img --csv");
     assert_eq!(out, expected(&lines, |_| 65_535));
 
@@ -87,11 +81,17 @@ fn in_and_out_again() {
     told(&folder, "read parts.img second.list");
     assert_eq!(told(&folder, "list parts.img --csv"), expected(&lines, |at| if at < 1_501 { 7 } else { 1 }));
 
-    // what came out goes in
-    fs::write(folder.join("again.list"), as_list(&out)).unwrap();
+    // what came out goes in, and in once more where it is
+    fs::write(folder.join("whole.csv"), &out).unwrap();
     told(&folder, "new again.img --order 12 --metric worst --weights 1,2,3,100");
-    told(&folder, "read again.img again.list --day 65535");
+    assert_eq!(
+        told(&folder, "read again.img whole.csv"),
+        "again.img: 4096 added, 0 replaced, 0 refused, 4096 head now\n"
+    );
     assert_eq!(told(&folder, "list again.img --csv"), out);
+    let replaced = told(&folder, "read parts.img whole.csv --replace");
+    assert_eq!(replaced, "parts.img: 0 added, 4096 replaced, 0 refused, 4096 head now\n");
+    assert_eq!(told(&folder, "list parts.img --csv"), out);
 }
 
 // Every third line is refused, at and beside the places where the program breaks the list into parts.

@@ -3,6 +3,7 @@
 mod folder;
 
 use std::fs;
+use std::io;
 use std::path::Path;
 use std::process::{Child, Command, Stdio};
 
@@ -41,7 +42,8 @@ fn no_add_is_lost() {
         let listed = herd(&folder, &format!("list {image} --csv")).output().expect("the program").stdout;
         assert_eq!(String::from_utf8(listed).unwrap().lines().count(), 1 + PROGRAMS);
     }
-    assert!(fs::read_dir(folder).unwrap().all(|file| !file.unwrap().path().ends_with("herd-0.new")));
+    let names = fs::read_dir(folder).unwrap().map(|file| file.unwrap().file_name().into_string().unwrap());
+    assert!(!names.into_iter().any(|name| name.ends_with(".herd-new")));
 }
 
 #[test]
@@ -64,4 +66,15 @@ fn refused_into_a_closed_pipe() {
     let output = program.wait_with_output().expect("an end");
     assert_eq!(output.status.code(), Some(1));
     assert_eq!(output.stderr, b"herd: bad.img: the image has 1 byte, and its first fields take 4\n");
+}
+
+// Nobody reads any of it: that is told in the status, and in no words.
+#[test]
+fn shown_into_a_closed_pipe() {
+    let folder = folder("unread");
+    assert!(herd(&folder, "new yard.img --order 4 --metric sum").status().expect("the program").success());
+    let (reader, writer) = io::pipe().expect("a pipe");
+    drop(reader);
+    let output = herd(&folder, "show yard.img").stdout(writer).output().expect("the program");
+    assert_eq!((output.status.code(), output.stderr), (Some(1), vec![]));
 }

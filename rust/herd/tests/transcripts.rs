@@ -1,4 +1,4 @@
-//! Each file of `tests/transcripts`, and what docs/HERD.md shows, is run as it is printed: a line after `$ ` by the shell,
+//! Each file of `tests/transcripts`, and what README.md shows, is run as it is printed: a line after `$ ` by the shell,
 //! in a folder with the example lists and images of older forms in it. What follows the line has to be what it writes,
 //! `! ` being before a line on standard error, and its status in brackets where that is not 0.
 //!
@@ -18,8 +18,10 @@ const ROOT: &str = concat!(env!("CARGO_MANIFEST_DIR"), "/../..");
 // `spoil FROM TO BYTE OCTAL..` puts bytes, each as a backslash and three octal digits, in a copy.
 const SPOIL: &str = r#"spoil() { cp "$1" "$2" && printf "$4" | dd of="$2" bs=1 seek="$3" conv=notrunc status=none; }"#;
 
-const FILES: [(&str, &str); 5] = [
-    ("examples/herd.list", "herd.list"),
+const FILES: [(&str, &str); 7] = [
+    ("examples/sound.list", "monday.list"),
+    ("examples/fault.list", "tuesday.list"),
+    ("examples/sound.list", "herd.list"),
     ("examples/fault.list", "fault.list"),
     ("examples/byte.list", "byte.list"),
     ("rust/outside/tests/form_0/metric_0.image", "form_0.img"),
@@ -40,6 +42,7 @@ fn outcome(folder: &Path, line: &str) -> String {
     let shell = Command::new("sh")
         .args(["-c", &format!("{SPOIL}\n{line}")])
         .env("PATH", path.expect("no colon in the folder's name"))
+        .env_remove("HERD_DAY_ONE")
         .current_dir(folder)
         .output()
         .expect("a shell");
@@ -88,7 +91,7 @@ fn stored() {
 
 #[test]
 fn documented() {
-    let (file, folder) = (Path::new(ROOT).join("docs/HERD.md"), folder_with_files("documented"));
+    let (file, folder) = (Path::new(env!("CARGO_MANIFEST_DIR")).join("README.md"), folder_with_files("documented"));
     let text = fs::read_to_string(&file).expect("text");
     let part = |part: &str| match part.strip_prefix("text\n") {
         Some(block) if block.starts_with("$ ") => format!("text\n{}", run(&folder, block)),

@@ -25,6 +25,7 @@ fn measured(call: impl FnOnce()) -> usize {
     let top = paint();
     call();
     let bottom = top - PAINTED;
+    // SAFETY: what was painted lies in the thread's own stack.
     let painted = |at: usize| unsafe { ((bottom + at) as *const u8).read_volatile() } == PAINT;
     PAINTED - (0..PAINTED).find(|&at| !painted(at)).unwrap_or(PAINTED)
 }
@@ -34,6 +35,8 @@ fn measured(call: impl FnOnce()) -> usize {
 #[inline(always)]
 fn paint() -> usize {
     let top: usize;
+    // SAFETY: it lies in the thread's own stack, of which less than the rest is in use above it, and nothing is kept
+    // below the stack pointer past those 128 bytes.
     unsafe {
         asm!("lea {top}, [rsp - 128]", top = out(reg) top, options(nostack));
         asm!(

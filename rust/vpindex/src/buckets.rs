@@ -62,7 +62,7 @@ impl Bucket<'_> {
     /// assert_eq!((bucket.number(), bucket.built(), bucket.live()), (1, 2, 1));
     /// let slots: Vec<_> = bucket.slots().map(|slot| (slot.item.tag.national(), slot.threshold, slot.is_live)).collect();
     /// assert_eq!(slots, [(1, 1_450, false), (2, 0, true)]);
-    /// # Ok::<(), vpindex::Refusal>(())
+    /// # Ok::<(), vpindex::Error>(())
     /// ```
     pub fn slots(&self) -> impl ExactSizeIterator<Item = Slot> {
         self.built.iter().map(|row| Slot { item: Item::of(row), threshold: row[THRESHOLD], is_live: row[MARK] == LIVE })

@@ -1,7 +1,7 @@
 //! The calls as the archive exports them; `include/vpindex.h` says what each does and what its caller has to see to.
 #![allow(missing_docs)]
 
-/// The words of a row: the header's `VPINDEX_ROW_WORDS`.
+/// The words of a [`Row`].
 pub const ROW_WORDS: usize = 13;
 
 /// The first day of a search that leaves no item out: the header's `VPINDEX_ANY_DAY`.
@@ -10,7 +10,13 @@ pub const ANY_DAY: u16 = 0;
 /// The most queries of a batch: the header's `VPINDEX_MAX_QUERIES`.
 pub const MAX_QUERIES: usize = 16;
 
+/// The most radii of a drafting: the header's `VPINDEX_MAX_RADII`.
+pub const MAX_RADII: usize = 32;
+
+/// A row of the areas that a table is lent: the header's `vpindex_row`.
 pub type Row = [u32; ROW_WORDS];
+
+/// An entry of the area that a search is lent: the header's `vpindex_entry`.
 pub type Entry = [u64; 2];
 
 #[repr(C)]
@@ -197,62 +203,76 @@ mod raw {
 }
 
 // Each call on slices. A slice's pointer is not null, is aligned and valid for its length, and two of them that are
-// lent together do not overlap where one is lent to be written: that is all the calls ask of their caller.
+// lent together do not overlap where one is lent to be written: that is all the calls ask of their caller. The header
+// says so, and `raw` declares the calls as it does.
 
 pub fn fresh(table: &mut [Row], order: u32, metric: u32, weights: Weights) -> u32 {
+    // SAFETY: slices are what the call asks for.
     unsafe { raw::vpindex_fresh(table.as_mut_ptr(), table.len(), order, metric, weights) }
 }
 
 pub fn load(table: &mut [Row], image: &[u8]) -> Loaded {
+    // SAFETY: slices are what the call asks for.
     unsafe { raw::vpindex_load(table.as_mut_ptr(), table.len(), image.as_ptr(), image.len()) }
 }
 
 pub fn add(table: &mut [Row], work: &mut [Row], tag: u64, profile: Profile, day: u16) -> Added {
+    // SAFETY: slices are what the call asks for.
     unsafe { raw::vpindex_add(table.as_mut_ptr(), table.len(), work.as_mut_ptr(), work.len(), tag, profile, day) }
 }
 
 pub fn remove(table: &mut [Row], work: &mut [Row], tag: u64) -> Removed {
+    // SAFETY: slices are what the call asks for.
     unsafe { raw::vpindex_remove(table.as_mut_ptr(), table.len(), work.as_mut_ptr(), work.len(), tag) }
 }
 
 pub fn look_up(table: &[Row], tag: u64) -> LookedUp {
+    // SAFETY: slices are what the call asks for.
     unsafe { raw::vpindex_look_up(table.as_ptr(), table.len(), tag) }
 }
 
 pub fn range(table: &[Row], result: &mut [Entry], query: Profile, radius: u32, first_day: u16) -> Searched {
     let (rows, entries) = (table.len(), result.len());
+    // SAFETY: slices are what the call asks for.
     unsafe { raw::vpindex_range(table.as_ptr(), rows, result.as_mut_ptr(), entries, query, radius, first_day) }
 }
 
 pub fn nearest(table: &[Row], result: &mut [Entry], query: Profile, k: u32, first_day: u16) -> Searched {
     let (rows, entries) = (table.len(), result.len());
+    // SAFETY: slices are what the call asks for.
     unsafe { raw::vpindex_nearest(table.as_ptr(), rows, result.as_mut_ptr(), entries, query, k, first_day) }
 }
 
 pub fn range_batch(table: &[Row], result: &mut [Entry], queries: &[Row]) -> Ranges {
     let (rows, entries, asked) = (table.len(), result.len(), queries.len());
+    // SAFETY: slices are what the call asks for.
     unsafe { raw::vpindex_range_batch(table.as_ptr(), rows, result.as_mut_ptr(), entries, queries.as_ptr(), asked) }
 }
 
 pub fn write(table: &[Row], image: &mut [u8]) -> Written {
+    // SAFETY: slices are what the call asks for.
     unsafe { raw::vpindex_write(table.as_ptr(), table.len(), image.as_mut_ptr(), image.len()) }
 }
 
 pub fn read_list(table: &mut [Row], work: &mut [Row], list: &[u8], day: u16) -> ListRead {
     let (rows, working, bytes) = (table.len(), work.len(), list.len());
+    // SAFETY: slices are what the call asks for.
     unsafe { raw::vpindex_read_list(table.as_mut_ptr(), rows, work.as_mut_ptr(), working, list.as_ptr(), bytes, day) }
 }
 
 pub fn save(table: &[Row], states: &mut [u8], name: u32) -> Written {
+    // SAFETY: slices are what the call asks for.
     unsafe { raw::vpindex_save(table.as_ptr(), table.len(), states.as_mut_ptr(), states.len(), name) }
 }
 
 pub fn restore(table: &mut [Row], states: &[u8], name: u32) -> Loaded {
+    // SAFETY: slices are what the call asks for.
     unsafe { raw::vpindex_restore(table.as_mut_ptr(), table.len(), states.as_ptr(), states.len(), name) }
 }
 
 pub fn dues(table: &[Row], tags: &[u64], dues: &mut [u32]) -> Dues {
     let (rows, listed, numbers) = (table.len(), tags.len(), dues.len());
+    // SAFETY: slices are what the call asks for.
     unsafe { raw::vpindex_dues(table.as_ptr(), rows, tags.as_ptr(), listed, dues.as_mut_ptr(), numbers) }
 }
 
@@ -264,6 +284,7 @@ pub fn lots(
     listing: &mut [Entry],
     chosen: u32,
 ) -> u32 {
+    // SAFETY: slices are what the call asks for.
     unsafe {
         raw::vpindex_lots(
             table.as_ptr(),

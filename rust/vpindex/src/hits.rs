@@ -1,14 +1,18 @@
 //! What a search found.
 
-use std::fmt;
-use std::ops::Deref;
+#[cfg(feature = "alloc")]
+use alloc::{vec, vec::Vec};
+use core::cmp::Ordering;
+use core::fmt;
+use core::ops::{Deref, DerefMut};
+use core::slice;
 
-use crate::{Refusal, Tag, ffi};
+use crate::{Entry, Refusal, Tag, ffi};
 
 /// An item that a search found.
 #[derive(Clone, Copy, PartialEq, Eq, Hash)]
 #[repr(transparent)]
-pub struct Hit(ffi::Entry);
+pub struct Hit(Entry);
 
 impl Hit {
     /// The item's tag.
@@ -22,13 +26,33 @@ impl Hit {
     }
 
     // for so many; they are none yet
+    #[cfg(feature = "alloc")]
     pub(crate) fn room(hits: usize) -> Vec<Hit> {
         vec![Hit([0; 2]); hits]
     }
 
-    // a hit is an entry and nothing else
-    pub(crate) fn entries(hits: &mut [Hit]) -> &mut [ffi::Entry] {
-        unsafe { &mut *(hits as *mut [Hit] as *mut [ffi::Entry]) }
+    pub(crate) fn entries(hits: &mut [Hit]) -> &mut [Entry] {
+        // SAFETY: a hit is an entry and nothing else (`repr(transparent)`), and every entry is a hit.
+        unsafe { &mut *(hits as *mut [Hit] as *mut [Entry]) }
+    }
+
+    // room in entries that are lent, of any content; what no search put there is never shown
+    pub(crate) fn lent(entries: &mut [Entry]) -> &mut [Hit] {
+        // SAFETY: as above.
+        unsafe { &mut *(entries as *mut [Entry] as *mut [Hit]) }
+    }
+}
+
+/// As hits stand in a result: by distance, then tag.
+impl Ord for Hit {
+    fn cmp(&self, other: &Hit) -> Ordering {
+        (self.distance(), self.tag()).cmp(&(other.distance(), other.tag()))
+    }
+}
+
+impl PartialOrd for Hit {
+    fn partial_cmp(&self, other: &Hit) -> Option<Ordering> {
+        Some(self.cmp(other))
     }
 }
 
@@ -43,21 +67,47 @@ impl fmt::Debug for Hit {
 ///
 /// [`Table::range`](crate::Table::range) and [`Table::nearest`](crate::Table::nearest) return one. It is also what a
 /// caller lends to [`Table::range_into`](crate::Table::range_into) and
-/// [`Table::nearest_into`](crate::Table::nearest_into), again and again, where a search must not allocate.
-#[derive(Clone, Default)]
-pub struct Hits {
+/// [`Table::nearest_into`](crate::Table::nearest_into), again and again, where a search must not allocate. `Hits` alone
+/// own their room; those of [`Hits::lent`] are in entries of the caller.
+#[derive(Clone)]
+pub struct Hits<#[cfg(feature = "alloc")] R = Vec<Hit>, #[cfg(not(feature = "alloc"))] R> {
     // of any content past the hits that were found
-    room: Vec<Hit>,
+    room: R,
     found: usize,
     distances: u32,
 }
 
+#[cfg(feature = "alloc")]
 impl Hits {
     /// Nothing found yet, with room for so many hits. It never grows: a search that finds more is refused.
     pub fn with_capacity(hits: usize) -> Hits {
         Hits { room: Hit::room(hits), found: 0, distances: 0 }
     }
 
+    // what is kept for long has no more room than it needs
+    pub(crate) fn trimmed(mut self) -> Hits {
+        self.room.truncate(self.found);
+        self.room.shrink_to_fit();
+        self
+    }
+}
+
+/// Nothing found, and no room.
+#[cfg(feature = "alloc")]
+impl Default for Hits {
+    fn default() -> Hits {
+        Hits::with_capacity(0)
+    }
+}
+
+impl<'a> Hits<&'a mut [Hit]> {
+    /// Nothing found yet, with room for as many hits as there are entries, of any content.
+    pub fn lent(entries: &'a mut [Entry]) -> Hits<&'a mut [Hit]> {
+        Hits { room: Hit::lent(entries), found: 0, distances: 0 }
+    }
+}
+
+impl<R: Deref<Target = [Hit]>> Hits<R> {
     /// For how many hits there is room.
     pub fn capacity(&self) -> usize {
         self.room.len()
@@ -70,21 +120,17 @@ impl Hits {
     }
 
     // A refused search's reply is zeros but for the number, so nothing is found then.
-    pub(crate) fn fill(&mut self, search: impl FnOnce(&mut [ffi::Entry]) -> ffi::Searched) -> Result<(), Refusal> {
+    pub(crate) fn fill(&mut self, search: impl FnOnce(&mut [Entry]) -> ffi::Searched) -> Result<(), Refusal>
+    where
+        R: DerefMut,
+    {
         let reply = search(Hit::entries(&mut self.room));
         (self.found, self.distances) = (reply.found as usize, reply.distances);
         Refusal::check(reply.refusal)
     }
-
-    // what is kept for long has no more room than it needs
-    pub(crate) fn trimmed(mut self) -> Hits {
-        self.room.truncate(self.found);
-        self.room.shrink_to_fit();
-        self
-    }
 }
 
-impl Deref for Hits {
+impl<R: Deref<Target = [Hit]>> Deref for Hits<R> {
     type Target = [Hit];
 
     fn deref(&self) -> &[Hit] {
@@ -93,32 +139,33 @@ impl Deref for Hits {
 }
 
 /// The hits and the number of distances; how much room there is does not count.
-impl PartialEq for Hits {
-    fn eq(&self, other: &Hits) -> bool {
+impl<R: Deref<Target = [Hit]>> PartialEq for Hits<R> {
+    fn eq(&self, other: &Hits<R>) -> bool {
         self[..] == other[..] && self.distances == other.distances
     }
 }
 
-impl Eq for Hits {}
+impl<R: Deref<Target = [Hit]>> Eq for Hits<R> {}
 
-impl fmt::Debug for Hits {
+impl<R: Deref<Target = [Hit]>> fmt::Debug for Hits<R> {
     fn fmt(&self, f: &mut fmt::Formatter<'_>) -> fmt::Result {
         f.debug_struct("Hits").field("hits", &&self[..]).field("distances", &self.distances).finish()
     }
 }
 
-impl<'a> IntoIterator for &'a Hits {
+impl<'a, R: Deref<Target = [Hit]>> IntoIterator for &'a Hits<R> {
     type Item = &'a Hit;
-    type IntoIter = std::slice::Iter<'a, Hit>;
+    type IntoIter = slice::Iter<'a, Hit>;
 
     fn into_iter(self) -> Self::IntoIter {
         self.iter()
     }
 }
 
+#[cfg(feature = "alloc")]
 impl IntoIterator for Hits {
     type Item = Hit;
-    type IntoIter = std::vec::IntoIter<Hit>;
+    type IntoIter = vec::IntoIter<Hit>;
 
     fn into_iter(mut self) -> Self::IntoIter {
         self.room.truncate(self.found);

@@ -1,8 +1,10 @@
 //! What is wrong with a refused image. The archive says why in a number; here its bytes are looked at once more, to say
 //! in which field, and in words.
 
-use std::fmt;
-use std::ops::Range;
+use alloc::format;
+use alloc::string::{String, ToString};
+use core::fmt;
+use core::ops::Range;
 
 use crate::image_fields::{self, FIRST_FIELDS, Field, Layout, NEWEST_FORM, Slot};
 use crate::values::{COUNTRY, LAST_NATIONAL};
@@ -205,6 +207,8 @@ fn twice_fault(earlier: &[Slot], slot: &Slot) -> Option<ImageFault> {
 
 #[cfg(test)]
 mod tests {
+    use std::vec::Vec;
+
     use super::*;
     use crate::{Day, Table, Tag};
 

@@ -1,8 +1,9 @@
-//! Where the fields of an image stand, and the numbers in them; docs/IMAGE.md shows them byte by byte. A field past the
-//! image's end, or one that its form does not have, is not there.
+//! Where the fields of an image stand, and the numbers in them; docs/FORMAT.md shows them byte by byte. A field past
+//! the image's end, or one that its form does not have, is not there.
 
-use std::fmt;
-use std::ops::{Range, RangeInclusive};
+use alloc::vec::Vec;
+use core::fmt;
+use core::ops::{Range, RangeInclusive};
 
 use crate::Order;
 

@@ -1,7 +1,7 @@
 //! The items of a table, one after the other.
 
-use std::iter::FusedIterator;
-use std::slice;
+use core::iter::FusedIterator;
+use core::slice;
 
 use crate::{Day, Profile, Tag, ffi};
 

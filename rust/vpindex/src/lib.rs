@@ -8,6 +8,11 @@
 //! rules give for every input, a search finds what a scan of all items would, and all rebuilds of a list of calls
 //! together keep within a bound.
 //!
+//! The feature `std`, which is on by default, is for programs with an operating system, and turns on `alloc`: tables
+//! that own their areas, results that are returned, snapshots under names, lots, dues and faults in words. Without
+//! either the crate is `no_std` and allocates nothing: tables, searches and changes are then in areas that the caller
+//! lends ([`Table::lent`], [`Hits::lent`], [`Batch::lent`]), and the archive wants `memset` and `memcpy` alone.
+//!
 //! ```
 //! use vpindex::{Day, Metric, Order, Profile, Table, Tag};
 //!
@@ -22,8 +27,16 @@
 //! // of those weighed on day 300 or later
 //! let hits = table.nearest(&query, 1, Some(Day::new(300)?))?;
 //! assert_eq!((hits[0].tag(), hits[0].distance()), (Tag::new(36, 2)?, 1_705));
-//! # Ok::<(), vpindex::Refusal>(())
+//! # Ok::<(), vpindex::Error>(())
 //! ```
+
+#![no_std]
+#![warn(clippy::missing_errors_doc, clippy::undocumented_unsafe_blocks)]
+
+#[cfg(feature = "alloc")]
+extern crate alloc;
+#[cfg(test)]
+extern crate std;
 
 // The first use that the README shows is run as it is printed.
 #[cfg(doctest)]
@@ -32,36 +45,54 @@ struct Readme;
 
 mod batch;
 mod buckets;
+mod changes;
 mod dues;
+mod error;
 #[doc(hidden)]
 pub mod ffi;
 mod hits;
 mod image;
+#[cfg(feature = "alloc")]
 mod image_fault;
+#[cfg(feature = "alloc")]
 mod image_fields;
 mod items;
 mod list;
+#[cfg(feature = "alloc")]
 mod list_fault;
+#[cfg(feature = "alloc")]
 mod lots;
 mod refusal;
+mod searches;
+#[cfg(feature = "alloc")]
 mod states;
 mod table;
 mod text;
 mod values;
 
-pub use batch::Batch;
+pub use batch::{Batch, BatchHits};
 pub use buckets::{Bucket, Slot};
-pub use dues::{Cents, Dues};
+pub use changes::{Added, ExtendRefusal, Replaced};
+pub use dues::Cents;
+#[cfg(feature = "alloc")]
+pub use dues::Dues;
+pub use error::Error;
+pub use ffi::{Entry, ROW_WORDS, Row};
 pub use hits::{Hit, Hits};
 pub use image::ImageRefusal;
+#[cfg(feature = "alloc")]
 pub use image_fault::ImageFault;
+#[cfg(feature = "alloc")]
 pub use image_fields::SlotAt;
 pub use items::{Item, Items};
 pub use list::{ListRead, ListRefusal};
+#[cfg(feature = "alloc")]
 pub use list_fault::ListFault;
+#[cfg(feature = "alloc")]
 pub use lots::{Drafted, Lots};
 pub use refusal::Refusal;
+#[cfg(feature = "alloc")]
 pub use states::States;
-pub use table::{Added, LookedUp, Table};
+pub use table::{LookedUp, Table};
 pub use text::ParseError;
 pub use values::{Day, Metric, Name, Order, Profile, RangeQuery, Tag, Weights};

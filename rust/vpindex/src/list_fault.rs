@@ -1,6 +1,9 @@
 //! What is wrong with a refused line of a herd list. The archive says which line and why in a number; here its text is
 //! looked at once more, to say it in words.
 
+use alloc::format;
+use alloc::string::{String, ToString};
+
 use crate::{Profile, Refusal};
 
 const HEADER: &str = "tag;kg;hip;girth;gain";

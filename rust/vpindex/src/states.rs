@@ -1,8 +1,10 @@
 //! Snapshots of tables under names.
 
-use std::fmt;
+use alloc::{vec, vec::Vec};
+use core::fmt;
+use core::ops::Deref;
 
-use crate::{Name, Order};
+use crate::{ImageRefusal, Name, Order, Refusal, Row, Table, ffi};
 
 // The bytes of the length that a snapshot begins with.
 const LENGTH: usize = 4;
@@ -17,7 +19,7 @@ impl States {
     /// Nothing saved, with room under every name for any table of this order or a lower one. That is some 400 KiB a
     /// name at order 12.
     pub fn new(order: Order) -> States {
-        States(vec![0; Name::COUNT * (LENGTH + order.most_image_bytes())])
+        States(vec![0; Name::COUNT * (LENGTH + order.image_bytes())])
     }
 
     /// Whether something was saved under the name.
@@ -35,12 +37,8 @@ impl States {
         &self.0
     }
 
-    pub(crate) fn bytes_mut(&mut self) -> &mut [u8] {
-        &mut self.0
-    }
-
     // The image under a name, of the length that is said before it; none if that is past its part.
-    pub(crate) fn image(&self, name: Name) -> Option<&[u8]> {
+    fn image(&self, name: Name) -> Option<&[u8]> {
         let (length, rest) = self.split(name)?;
         rest.get(..u32::from_le_bytes(*length) as usize)
     }
@@ -50,6 +48,46 @@ impl States {
         let part = self.0.len() / Name::COUNT;
         let end = name.get() as usize * part;
         self.0[end - part..end].split_first_chunk()
+    }
+}
+
+impl Table {
+    /// The table that was saved under the name by [`Table::save`].
+    ///
+    /// # Errors
+    ///
+    /// [`Refusal::NotSaved`] if nothing was. States that were kept elsewhere meanwhile may be damaged; then it is
+    /// [`Refusal::BadLength`] without a fault if the image would end past its part of the states, or what
+    /// [`Table::load`] says of the image, whose bytes are counted from its own first.
+    pub fn restore(states: &States, name: Name) -> Result<Table, ImageRefusal> {
+        Table::begun(states.image(name), |rows| ffi::restore(rows, states.as_bytes(), name.get()))
+    }
+}
+
+impl<A: Deref<Target = [Row]>> Table<A> {
+    /// Saves the table as it is under a name, in place of what was saved there before; [`Table::restore`] gives it
+    /// back.
+    ///
+    /// ```
+    /// use vpindex::{Day, Metric, Name, Order, Profile, States, Table, Tag};
+    ///
+    /// let order = Order::new(4)?;
+    /// let mut table = Table::new(order, Metric::SumOfDifferences);
+    /// table.add(Tag::new(36, 1)?, &Profile::new([41_250, 12_900, 18_500, 95], [0, 0])?, Day::MIN)?;
+    ///
+    /// let (mut states, morning) = (States::new(order), Name::new(1)?);
+    /// table.save(&mut states, morning)?;
+    /// table.remove(Tag::new(36, 1)?)?;
+    /// assert!(table.is_empty() && states.is_saved(morning));
+    /// assert_eq!(Table::restore(&states, morning)?.len(), 1);
+    /// # Ok::<(), vpindex::Error>(())
+    /// ```
+    ///
+    /// # Errors
+    ///
+    /// [`Refusal::NoRoom`] if the states were made for a lower order.
+    pub fn save(&self, states: &mut States, name: Name) -> Result<(), Refusal> {
+        Refusal::check(ffi::save(&self.rows, &mut states.0, name.get()).refusal)
     }
 }
 
@@ -76,6 +114,8 @@ impl From<States> for Vec<u8> {
 
 #[cfg(test)]
 mod tests {
+    use std::format;
+
     use super::*;
 
     fn saved(bytes: &[u8]) -> Vec<u32> {

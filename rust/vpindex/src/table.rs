@@ -1,23 +1,12 @@
 //! The table, with the areas that its calls are lent.
 
-use std::fmt;
+#[cfg(feature = "alloc")]
+use alloc::vec::Vec;
+use core::fmt;
+use core::ops::Deref;
 
 use crate::buckets::{self, Bucket};
-use crate::image::{self, ImageRefusal};
-use crate::list::{self, ListRead, ListRefusal};
-use crate::{
-    Batch, Cents, Day, Dues, Hits, Item, Items, Lots, Metric, Name, Order, Profile, RangeQuery, Refusal, States, Tag,
-    Weights, ffi,
-};
-
-/// What an add did.
-#[derive(Clone, Copy, Debug, PartialEq, Eq, Hash)]
-pub struct Added {
-    /// The bucket that was built, with the new item in it.
-    pub bucket: u32,
-    /// Distances worked out by the build.
-    pub distances: u32,
-}
+use crate::{Day, Item, Items, Metric, Order, Profile, Refusal, Row, Tag, Weights, ffi};
 
 /// Where an item is, and what was handed over with it.
 #[derive(Clone, Copy, Debug, PartialEq, Eq, Hash)]
@@ -35,34 +24,38 @@ pub struct LookedUp {
 /// Threads can search one table together: every call that leaves the table as it is takes `&self` and writes nothing but
 /// what it returns.
 ///
-/// A table allocates when it is made: 52·(3·2^T + T + 1) bytes where its order is T, some 625 KiB at order 12. A call
-/// allocates what it returns, where that is of no fixed size; [`Table::add`], [`Table::remove`], [`Table::look_up`],
-/// [`Table::range_into`], [`Table::nearest_into`] and [`Table::range_batch_into`] allocate nothing. [`Table::lots`] needs
-/// some 128 KiB more at order 12 while it works.
+/// `Table` alone is one that owns its areas. It allocates when it is made: 52·(3·2^T + T + 1) bytes where its order is T,
+/// some 625 KiB at order 12. A call allocates what it returns, where that is of no fixed size; those that add, remove and
+/// replace, [`Table::look_up`] and those whose names end in `into` allocate nothing. [`Table::lots`] needs some 128 KiB
+/// more at order 12 while it works.
+///
+/// A `Table<&mut [Row]>` is in areas that the caller lends to [`Table::lent`] or [`Table::load_lent`], and the same in
+/// all else. It is what there is without the feature `alloc`.
 #[derive(Clone)]
-pub struct Table {
-    header: Header,
-    rows: Vec<ffi::Row>,
-    work: Vec<ffi::Row>,
+pub struct Table<#[cfg(feature = "alloc")] A = Vec<Row>, #[cfg(not(feature = "alloc"))] A> {
+    pub(crate) header: Header,
+    pub(crate) rows: A,
+    pub(crate) work: A,
 }
 
 // What a table's first row says.
 #[derive(Clone, Copy, Debug, PartialEq, Eq)]
-struct Header {
-    order: Order,
-    metric: Metric,
-    weights: Weights,
+pub(crate) struct Header {
+    pub order: Order,
+    pub metric: Metric,
+    pub weights: Weights,
 }
 
 impl Header {
     // What a newer archive may take and this crate does not know is refused, as the making of such a value is.
-    fn of(row: &ffi::Row) -> Result<Header, Refusal> {
+    pub(crate) fn of(row: &Row) -> Result<Header, Refusal> {
         let &[order, metric, a, b, c, d, ..] = row;
         let (order, metric) = (Order::new(order)?, Metric::try_from(metric)?);
         Ok(Header { order, metric, weights: Weights::new([a, b, c, d])? })
     }
 }
 
+#[cfg(feature = "alloc")]
 impl Table {
     /// An empty table in which every measure counts as it is: of weights [`Weights::ONE`].
     pub fn new(order: Order, metric: Metric) -> Table {
@@ -80,7 +73,7 @@ impl Table {
     /// table.add(Tag::new(36, 1)?, &Profile::new([41_250, 12_900, 18_500, 95], [0, 0])?, Day::MIN)?;
     /// let query = Profile::new([41_000, 12_900, 18_400, 40], [0, 0])?;
     /// assert_eq!(table.nearest(&query, 1, None)?[0].distance(), 2_600);
-    /// # Ok::<(), vpindex::Refusal>(())
+    /// # Ok::<(), vpindex::Error>(())
     /// ```
     pub fn with_weights(order: Order, metric: Metric, weights: Weights) -> Table {
         let mut table = Table::blank(Header { order, metric, weights });
@@ -89,117 +82,62 @@ impl Table {
         table
     }
 
-    /// The table that the image was written from, with [`Table::image`] or with the C call. Images from before there
-    /// were weights load with [`Weights::ONE`], and those from before there were days with [`Day::MIN`] in every item.
-    ///
-    /// The image is checked whole. [`Refusal::BadLength`], [`Refusal::BadOrder`], [`Refusal::BadMetric`],
-    /// [`Refusal::BadWeight`], [`Refusal::BadTable`], [`Refusal::BadDay`] and [`Refusal::BadImage`] say what is wrong
-    /// with it, and where all fields pass [`Refusal::DuplicateTag`], [`Refusal::MisplacedItem`] and
-    /// [`Refusal::BadThreshold`] what is wrong with a tree, at the lowest slot. In which field it is, and at which
-    /// bytes, is in [`ImageRefusal::fault`]:
-    ///
-    /// ```
-    /// use vpindex::{Day, Metric, Order, Profile, Refusal, Table, Tag};
-    ///
-    /// let mut table = Table::new(Order::new(1)?, Metric::SumOfDifferences);
-    /// for national in [1, 2] {
-    ///     table.add(Tag::new(36, national)?, &Profile::default(), Day::MIN)?;
-    /// }
-    /// let mut image = table.image();
-    /// image[24] = 1; // the second tag is the first again
-    /// let refused = Table::load(&image).unwrap_err();
-    /// assert_eq!(refused.refusal, Refusal::DuplicateTag);
-    /// assert_eq!(
-    ///     refused.to_string(),
-    ///     "slot 1 (slot 1 of bucket 1), its tag at byte 24 is 036000000000001, which slot 0 (slot 0 of bucket 1) has"
-    /// );
-    /// let fault = refused.fault.expect("the bytes show it");
-    /// assert_eq!((fault.field, fault.bytes, fault.bucket), ("tag", 24..32, Some(1)));
-    /// # Ok::<(), vpindex::Refusal>(())
-    /// ```
-    pub fn load(image: &[u8]) -> Result<Table, ImageRefusal> {
-        Table::begun(Some(image), |rows| ffi::load(rows, image))
-    }
-
-    /// The table that was saved under the name by [`Table::save`].
-    ///
-    /// [`Refusal::NotSaved`] if nothing was. States that were kept elsewhere meanwhile may be damaged; then it is
-    /// [`Refusal::BadLength`] without a fault if the image would end past its part of the states, or what
-    /// [`Table::load`] says of the image, whose bytes are counted from its own first.
-    pub fn restore(states: &States, name: Name) -> Result<Table, ImageRefusal> {
-        Table::begun(states.image(name), |rows| ffi::restore(rows, states.as_bytes(), name.get()))
-    }
-
-    // By a call that writes every row that the order needs, which the image's first byte says. No image and an order
-    // that is not valid are refused before the area's length is looked at.
-    fn begun(image: Option<&[u8]>, call: impl FnOnce(&mut [ffi::Row]) -> ffi::Loaded) -> Result<Table, ImageRefusal> {
-        let order = image.and_then(|image| Order::new(*image.first()? as u32).ok()).unwrap_or(Order::MIN);
-        let mut table = Table::blank(Header { order, metric: Metric::SumOfDifferences, weights: Weights::ONE });
-        image::check(call(&mut table.rows), image)?;
-        table.header = Header::of(&table.rows[0])?;
-        Ok(table)
-    }
-
     // Areas of the lengths that the order needs, not a table yet.
-    fn blank(header: Header) -> Table {
-        let order = header.order;
-        Table {
-            header,
-            rows: vec![[0; ffi::ROW_WORDS]; order.table_rows()],
-            work: vec![[0; ffi::ROW_WORDS]; order.capacity()],
+    pub(crate) fn blank(header: Header) -> Table {
+        let row: Row = [0; ffi::ROW_WORDS];
+        let (rows, work) = (header.order.table_rows(), header.order.work_rows());
+        Table { header, rows: alloc::vec![row; rows], work: alloc::vec![row; work] }
+    }
+}
+
+impl<'a> Table<&'a mut [Row]> {
+    /// An empty table in areas that the caller lends, of any content: [`Order::table_rows`] and [`Order::work_rows`] say
+    /// how many rows each has at least.
+    ///
+    /// ```
+    /// use vpindex::{Day, Hits, Metric, Order, Profile, ROW_WORDS, Row, Table, Weights};
+    ///
+    /// const ORDER: Order = match Order::holding(16) {
+    ///     Ok(order) => order,
+    ///     Err(_) => panic!("no table holds so many"),
+    /// };
+    /// static ROWS: [Row; ORDER.table_rows()] = [[0; ROW_WORDS]; ORDER.table_rows()];
+    ///
+    /// let (mut rows, mut work) = (ROWS, [[0; ROW_WORDS]; ORDER.work_rows()]);
+    /// let mut table = Table::lent(&mut rows, &mut work, ORDER, Metric::SumOfDifferences, Weights::ONE)?;
+    /// table.add("036000000000101".parse()?, &Profile::default(), Day::new(305)?)?;
+    ///
+    /// let mut room = [[0; 2]; 4];
+    /// let mut hits = Hits::lent(&mut room);
+    /// table.nearest_into(&Profile::default(), 4, None, &mut hits)?;
+    /// assert_eq!(hits[0].tag().national(), 101);
+    /// # Ok::<(), vpindex::Error>(())
+    /// ```
+    ///
+    /// # Errors
+    ///
+    /// [`Refusal::ShortArea`] if an area has fewer rows, and then both are left as they are.
+    pub fn lent(
+        rows: &'a mut [Row],
+        work: &'a mut [Row],
+        order: Order,
+        metric: Metric,
+        weights: Weights,
+    ) -> Result<Table<&'a mut [Row]>, Refusal> {
+        if work.len() < order.work_rows() {
+            return Err(Refusal::ShortArea);
         }
+        Refusal::check(ffi::fresh(rows, order.get(), metric.get(), weights.raw()))?;
+        Ok(Table { header: Header { order, metric, weights }, rows, work })
     }
+}
 
-    /// Adds an item that was weighed on this day. [`Refusal::AlreadyLive`] if its tag is in the table,
-    /// [`Refusal::Full`] if there is no room.
-    pub fn add(&mut self, tag: Tag, profile: &Profile, day: Day) -> Result<Added, Refusal> {
-        let reply = ffi::add(&mut self.rows, &mut self.work, tag.into(), profile.raw(), day.get());
-        Refusal::check(reply.refusal)?;
-        Ok(Added { bucket: reply.bucket, distances: reply.distances })
-    }
-
-    /// Adds a herd list as a scale head writes it, all of whose items were weighed on this day: the header line, then a
-    /// line for each item with its tag and its four measures in units, not hundredths. The codes are zero. Every line
-    /// ends in a line feed, the last one too.
+impl<A: Deref<Target = [Row]>> Table<A> {
+    /// Gives an item's bucket, its profile and its day.
     ///
-    /// ```
-    /// use vpindex::{Day, Metric, Order, Refusal, Table, Tag};
+    /// # Errors
     ///
-    /// let mut table = Table::new(Order::new(4)?, Metric::SumOfDifferences);
-    /// let list = "tag;kg;hip;girth;gain\n\
-    ///             036000000000101;412,50;129,00;185,00;0,95\n\
-    ///             036000000000102;398,00;127,00;181,00;-0,05\n";
-    /// let day = Day::new(305)?;
-    /// assert_eq!(table.read_list(list.as_bytes(), day)?.added, 2);
-    /// let second = table.look_up(Tag::new(36, 102)?)?;
-    /// assert_eq!((second.profile.measures(), second.day), ([39_800, 12_700, 18_100, -5], day));
-    ///
-    /// let again = table.read_list(list.as_bytes(), day).unwrap_err();
-    /// assert_eq!((again.line, again.refusal), (2, Refusal::AlreadyLive));
-    /// assert_eq!(
-    ///     again.to_string(),
-    ///     "line 2, field 1: `036000000000101` is in the table already (0 added before it)"
-    /// );
-    /// # Ok::<(), Box<dyn std::error::Error>>(())
-    /// ```
-    ///
-    /// The reading stops at the first line that is refused, and the lines before it stay added.
-    /// [`Refusal::BadListHeader`] if the list begins with another line, [`Refusal::BadListLine`] for a line not of the
-    /// form; else a line is refused as [`Table::add`] or the making of its tag and profile would be. What is wrong in
-    /// the line is in [`ListRefusal::fault`].
-    pub fn read_list(&mut self, list: &[u8], day: Day) -> Result<ListRead, ListRefusal> {
-        list::check(ffi::read_list(&mut self.rows, &mut self.work, list, day.get()), list)
-    }
-
-    /// Removes an item, and gives the number of distances that were worked out. [`Refusal::NotLive`] if it is not
-    /// there.
-    pub fn remove(&mut self, tag: Tag) -> Result<u32, Refusal> {
-        let reply = ffi::remove(&mut self.rows, &mut self.work, tag.into());
-        Refusal::check(reply.refusal)?;
-        Ok(reply.distances)
-    }
-
-    /// Gives an item's profile and its day. [`Refusal::NotLive`] if it is not there.
+    /// [`Refusal::NotLive`] if it is not there.
     pub fn look_up(&self, tag: Tag) -> Result<LookedUp, Refusal> {
         let reply = ffi::look_up(&self.rows, tag.into());
         Refusal::check(reply.refusal)?;
@@ -217,6 +155,36 @@ impl Table {
         self.look_up(tag).is_ok()
     }
 
+    /// Whether the other table has the same items, metric and weights. Range and nearest then find the same in both by
+    /// every query, whatever was added, removed and loaded before; orders and numbers of distances may differ.
+    ///
+    /// ```
+    /// use vpindex::{Day, Metric, Order, Profile, Table, Tag};
+    ///
+    /// let (first, second) = (Tag::new(36, 1)?, Tag::new(36, 2)?);
+    /// let mut one = Table::new(Order::new(4)?, Metric::SumOfDifferences);
+    /// one.add(first, &Profile::default(), Day::MIN)?;
+    /// let mut other = Table::new(Order::new(1)?, Metric::SumOfDifferences);
+    /// other.add(second, &Profile::default(), Day::MIN)?;
+    /// other.add(first, &Profile::default(), Day::MIN)?;
+    /// assert!(!one.same_items(&other));
+    /// other.remove(second)?;
+    /// assert!(one.same_items(&other) && one.image() != other.image());
+    /// # Ok::<(), vpindex::Error>(())
+    /// ```
+    #[cfg(feature = "alloc")]
+    pub fn same_items<B: Deref<Target = [Row]>>(&self, other: &Table<B>) -> bool {
+        let by_tag = |items: Items<'_>| {
+            let mut items: Vec<Item> = items.collect();
+            items.sort_unstable_by_key(|item| item.tag);
+            items
+        };
+        self.metric() == other.metric()
+            && self.weights() == other.weights()
+            && self.len() == other.len()
+            && by_tag(self.iter()) == by_tag(other.iter())
+    }
+
     /// All items, in no order that can be relied on.
     ///
     /// ```
@@ -227,7 +195,7 @@ impl Table {
     ///     table.add(Tag::new(36, national)?, &Profile::new([kilos, 0, 0, 0], [0, 0])?, Day::MIN)?;
     /// }
     /// assert_eq!(table.iter().filter(|item| item.profile.measures()[0] > 40_000).count(), 2);
-    /// # Ok::<(), vpindex::Refusal>(())
+    /// # Ok::<(), vpindex::Error>(())
     /// ```
     pub fn iter(&self) -> Items<'_> {
         let (front, slots) = self.rows.split_at(self.order().get() as usize + 2);
@@ -239,193 +207,8 @@ impl Table {
         buckets::all(&self.rows, self.order().get())
     }
 
-    /// All items whose distance from the query is at most the radius and which were weighed on the first day or later;
-    /// `None` is any day.
-    pub fn range(&self, query: &Profile, radius: u32, first_day: Option<Day>) -> Hits {
-        let mut hits = Hits::with_capacity(self.len());
-        let done = self.range_into(query, radius, first_day, &mut hits);
-        assert_eq!(done, Ok(()), "the query is valid, and there is room for every item");
-        hits.trimmed()
-    }
-
-    /// As [`Table::range`], in place of what was found before, and with nothing allocated. [`Refusal::NoRoom`] if more
-    /// is found than there is room for, and then there are no hits; room for [`Table::capacity`] is always enough.
-    ///
-    /// ```
-    /// use vpindex::{Day, Hits, Metric, Order, Profile, Table, Tag};
-    ///
-    /// let mut table = Table::new(Order::new(4)?, Metric::SumOfDifferences);
-    /// table.add(Tag::new(36, 1)?, &Profile::new([41_250, 12_900, 18_500, 95], [0, 0])?, Day::MIN)?;
-    ///
-    /// let mut hits = Hits::with_capacity(table.capacity());
-    /// for (kilos, found) in [(41_000, 1), (45_000, 0)] {
-    ///     let query = Profile::new([kilos, 12_900, 18_500, 95], [0, 0])?;
-    ///     table.range_into(&query, 500, None, &mut hits)?;
-    ///     assert_eq!(hits.len(), found);
-    /// }
-    /// # Ok::<(), vpindex::Refusal>(())
-    /// ```
-    pub fn range_into(
-        &self,
-        query: &Profile,
-        radius: u32,
-        first_day: Option<Day>,
-        hits: &mut Hits,
-    ) -> Result<(), Refusal> {
-        hits.fill(|result| ffi::range(&self.rows, result, query.raw(), radius, Day::raw_first(first_day)))
-    }
-
-    /// Of the items weighed on the first day or later the `count` nearest to the query, or all where there are fewer;
-    /// `None` is any day. Of items at the same distance the lower tag goes first. [`Refusal::NoCount`] where `count` is
-    /// 0.
-    pub fn nearest(&self, query: &Profile, count: u32, first_day: Option<Day>) -> Result<Hits, Refusal> {
-        let mut hits = Hits::with_capacity(self.len().min(count as usize));
-        self.nearest_into(query, count, first_day, &mut hits)?;
-        Ok(hits.trimmed())
-    }
-
-    /// As [`Table::nearest`], in place of what was found before, and with nothing allocated. [`Refusal::NoRoom`] if more
-    /// is found than there is room for, and then there are no hits; room for `count` is always enough.
-    pub fn nearest_into(
-        &self,
-        query: &Profile,
-        count: u32,
-        first_day: Option<Day>,
-        hits: &mut Hits,
-    ) -> Result<(), Refusal> {
-        hits.fill(|result| ffi::nearest(&self.rows, result, query.raw(), count, Day::raw_first(first_day)))
-    }
-
-    /// What these items pay at the gate: each one rate on its whole weight, its first measure as kilos, to the nearest
-    /// cent. Below 400.00 kg it is 2 cents a kilo, below 600.00 kg 3, else 4. A tag that is listed twice pays twice.
-    ///
-    /// ```
-    /// use vpindex::{Day, Metric, Order, Profile, Table, Tag};
-    ///
-    /// let mut table = Table::new(Order::new(4)?, Metric::SumOfDifferences);
-    /// let tags = [Tag::new(36, 1)?, Tag::new(36, 2)?];
-    /// table.add(tags[0], &Profile::new([41_250, 12_900, 18_500, 95], [0, 0])?, Day::MIN)?;
-    /// table.add(tags[1], &Profile::new([40_000, 12_700, 18_100, 90], [0, 0])?, Day::MIN)?;
-    ///
-    /// // both at 3 cents a kilo
-    /// let dues = table.dues(&tags)?;
-    /// assert_eq!(dues.each.iter().map(|cents| cents.to_string()).collect::<Vec<_>>(), ["12.38", "12.00"]);
-    /// assert_eq!(dues.total.to_string(), "24.38");
-    /// # Ok::<(), vpindex::Refusal>(())
-    /// ```
-    ///
-    /// [`Refusal::NotLive`] if one of them is not there, else [`Refusal::NoDues`] if one weighs below 0 or the list has
-    /// more than 4,096 tags.
-    pub fn dues(&self, tags: &[Tag]) -> Result<Dues, Refusal> {
-        let listed: Vec<u64> = tags.iter().copied().map(u64::from).collect();
-        let mut each = vec![0; listed.len()];
-        let reply = ffi::dues(&self.rows, &listed, &mut each);
-        Refusal::check(reply.refusal)?;
-        let each = each.into_iter().map(|cents| Cents::of(cents.into())).collect();
-        Ok(Dues { each, total: Cents::of(reply.total) })
-    }
-
-    /// For each of 1 to 16 queries what [`Table::range`] gives; a slot that several of them meet is met once.
-    /// [`Refusal::BadBatch`] for no query or more than 16; no other refusal can come back.
-    ///
-    /// ```
-    /// use vpindex::{Day, Metric, Order, Profile, RangeQuery, Table, Tag};
-    ///
-    /// let mut table = Table::new(Order::new(4)?, Metric::SumOfDifferences);
-    /// table.add(Tag::new(36, 1)?, &Profile::new([41_250, 12_900, 18_500, 95], [0, 0])?, Day::new(210)?)?;
-    /// table.add(Tag::new(36, 2)?, &Profile::new([39_800, 12_700, 18_100, 90], [0, 0])?, Day::new(305)?)?;
-    ///
-    /// let profile = Profile::new([41_000, 12_900, 18_400, 95], [0, 0])?;
-    /// let near = RangeQuery { profile, radius: 500, first_day: None };
-    /// let later = RangeQuery { radius: 5_000, first_day: Some(Day::new(300)?), ..near };
-    /// let batch = table.range_batch(&[near, later])?;
-    /// assert_eq!((batch[0][0].tag(), batch[1][0].tag()), (Tag::new(36, 1)?, Tag::new(36, 2)?));
-    /// assert_eq!((batch[0].len(), batch[1].len(), batch.distances()), (1, 1, 2));
-    /// # Ok::<(), vpindex::Refusal>(())
-    /// ```
-    pub fn range_batch(&self, queries: &[RangeQuery]) -> Result<Batch, Refusal> {
-        let mut batch = Batch::with_capacity(self.len() * queries.len().min(ffi::MAX_QUERIES));
-        self.range_batch_into(queries, &mut batch)?;
-        Ok(batch.trimmed())
-    }
-
-    /// As [`Table::range_batch`], in place of what was found before, and with nothing allocated. [`Refusal::NoRoom`] if a
-    /// query finds more than its part of the room holds, and then there are no hits; room for [`Table::capacity`] times
-    /// the number of queries is always enough.
-    pub fn range_batch_into(&self, queries: &[RangeQuery], batch: &mut Batch) -> Result<(), Refusal> {
-        let mut rows = [[0; ffi::ROW_WORDS]; ffi::MAX_QUERIES];
-        // more than there are rows for are refused as none are
-        let asked = if queries.len() <= rows.len() { queries } else { &[] };
-        for (row, query) in rows.iter_mut().zip(asked) {
-            *row = query.raw();
-        }
-        batch.fill(asked.len(), |result| ffi::range_batch(&self.rows, result, &rows[..asked.len()]))
-    }
-
-    /// The items drafted into lots by each of 1 to 32 radii, with the lots by one of them, chosen by its place in the list
-    /// from 1. By a radius the item of the lowest tag that is in no lot yet leads one, of itself and of every other in no
-    /// lot yet within the radius of it, until all are in one.
-    ///
-    /// ```
-    /// use vpindex::{Day, Metric, Order, Profile, Table, Tag};
-    ///
-    /// let mut table = Table::new(Order::new(4)?, Metric::SumOfDifferences);
-    /// let tags: Vec<Tag> = (1..=4).map(|national| Tag::new(36, national)).collect::<Result<_, _>>()?;
-    /// for (&tag, weight) in tags.iter().zip([41_000, 45_000, 43_500, 41_800]) {
-    ///     table.add(tag, &Profile::new([weight, 0, 0, 0], [0, 0])?, Day::MIN)?;
-    /// }
-    ///
-    /// let lots = table.lots(&[500, 1_500, 2_500], 2)?;
-    /// assert_eq!(lots.by_radius().iter().map(|drafted| drafted.lots).collect::<Vec<_>>(), [4, 2, 2]);
-    /// assert_eq!(lots.iter().collect::<Vec<_>>(), [[tags[0], tags[3]], [tags[1], tags[2]]]);
-    /// # Ok::<(), vpindex::Refusal>(())
-    /// ```
-    ///
-    /// [`Refusal::BadRadii`] if there are not 1 to 32 radii, or the chosen place is not in their list.
-    pub fn lots(&self, radii: &[u32], chosen: u32) -> Result<Lots, Refusal> {
-        let capacity = self.header.order.capacity();
-        let (mut work, mut listing) = (vec![[0; 2]; capacity], vec![[0; 2]; capacity]);
-        let mut summary = vec![[0; 2]; radii.len()];
-        Refusal::check(ffi::lots(&self.rows, &mut work, radii, &mut summary, &mut listing, chosen))?;
-        let listed = listing.iter().take_while(|entry| entry[1] != 0).count();
-        Ok(Lots::new(&summary, &listing[..listed]))
-    }
-
-    /// The table as bytes, which [`Table::load`] reads.
-    pub fn image(&self) -> Vec<u8> {
-        let mut image = vec![0; self.image_bytes()];
-        let ffi::Written { refusal, length } = ffi::write(&self.rows, &mut image);
-        assert_eq!((refusal, length as usize), (0, image.len()), "the area is as long as the image");
-        image
-    }
-
-    fn image_bytes(&self) -> usize {
-        self.order().image_bytes(self.sizes().map(|size| size[0] as usize).sum())
-    }
-
-    /// Saves the table as it is under a name, in place of what was saved there before; [`Table::restore`] gives it
-    /// back. [`Refusal::NoRoom`] if the states were made for a lower order.
-    ///
-    /// ```
-    /// use vpindex::{Day, Metric, Name, Order, Profile, States, Table, Tag};
-    ///
-    /// let order = Order::new(4)?;
-    /// let mut table = Table::new(order, Metric::SumOfDifferences);
-    /// table.add(Tag::new(36, 1)?, &Profile::new([41_250, 12_900, 18_500, 95], [0, 0])?, Day::MIN)?;
-    ///
-    /// let (mut states, morning) = (States::new(order), Name::new(1)?);
-    /// table.save(&mut states, morning)?;
-    /// table.remove(Tag::new(36, 1)?)?;
-    /// assert!(table.is_empty() && states.is_saved(morning));
-    /// assert_eq!(Table::restore(&states, morning)?.len(), 1);
-    /// # Ok::<(), vpindex::Refusal>(())
-    /// ```
-    pub fn save(&self, states: &mut States, name: Name) -> Result<(), Refusal> {
-        Refusal::check(ffi::save(&self.rows, states.bytes_mut(), name.get()).refusal)
-    }
-
     // the size rows of the buckets: built, live
-    fn sizes(&self) -> std::slice::Iter<'_, ffi::Row> {
+    pub(crate) fn sizes(&self) -> core::slice::Iter<'_, Row> {
         self.rows[1..=self.order().get() as usize + 1].iter()
     }
 
@@ -461,7 +244,7 @@ impl Table {
 }
 
 /// Short: what it was made with, and the number of items.
-impl fmt::Debug for Table {
+impl<A: Deref<Target = [Row]>> fmt::Debug for Table<A> {
     fn fmt(&self, f: &mut fmt::Formatter<'_>) -> fmt::Result {
         f.debug_struct("Table")
             .field("order", &self.order().get())
@@ -472,7 +255,7 @@ impl fmt::Debug for Table {
     }
 }
 
-impl<'a> IntoIterator for &'a Table {
+impl<'a, A: Deref<Target = [Row]>> IntoIterator for &'a Table<A> {
     type Item = Item;
     type IntoIter = Items<'a>;
 

@@ -1,10 +1,10 @@
 //! Values as text: what each writes it reads back.
 
-use std::error::Error;
-use std::fmt;
-use std::str::FromStr;
+use core::error::Error;
+use core::fmt::{self, Write};
+use core::str::{self, FromStr};
 
-use crate::{Day, Metric, Name, Order, Profile, Refusal, Tag, Weights};
+use crate::{Day, Item, Metric, Name, Order, Profile, Refusal, Tag, Weights};
 
 /// Why a text is not a value.
 #[derive(Clone, Copy, Debug, PartialEq, Eq, Hash)]
@@ -33,6 +33,30 @@ impl From<Refusal> for ParseError {
     }
 }
 
+// The longest is an item.
+const LONGEST: usize = 96;
+
+struct Text {
+    bytes: [u8; LONGEST],
+    length: usize,
+}
+
+impl Write for Text {
+    fn write_str(&mut self, more: &str) -> fmt::Result {
+        let end = self.length + more.len();
+        self.bytes.get_mut(self.length..end).ok_or(fmt::Error)?.copy_from_slice(more.as_bytes());
+        self.length = end;
+        Ok(())
+    }
+}
+
+// Writes a text of several parts as one, so that a width counts for all of it, and allocates nothing.
+pub(crate) fn pad(f: &mut fmt::Formatter<'_>, parts: fmt::Arguments<'_>) -> fmt::Result {
+    let mut text = Text { bytes: [0; LONGEST], length: 0 };
+    text.write_fmt(parts)?;
+    f.pad(str::from_utf8(&text.bytes[..text.length]).map_err(|_| fmt::Error)?)
+}
+
 fn is_digits(text: &str) -> bool {
     !text.is_empty() && text.bytes().all(|byte| byte.is_ascii_digit())
 }
@@ -46,7 +70,7 @@ fn number<T: FromStr>(text: &str, form: &'static str) -> Result<T, ParseError> {
 /// All 15 digits, as `036000000000101`.
 impl fmt::Display for Tag {
     fn fmt(&self, f: &mut fmt::Formatter<'_>) -> fmt::Result {
-        f.pad(&format!("{:015}", u64::from(*self)))
+        pad(f, format_args!("{:015}", u64::from(*self)))
     }
 }
 
@@ -71,15 +95,21 @@ impl FromStr for Tag {
 /// `412.50 129.00 185.00 -0.95 -`: so the program `yard` takes it too.
 impl fmt::Display for Profile {
     fn fmt(&self, f: &mut fmt::Formatter<'_>) -> fmt::Result {
-        let measure = |hundredths: i32| {
-            let (sign, size) = (if hundredths < 0 { "-" } else { "" }, hundredths.unsigned_abs());
-            format!("{sign}{}.{:02}", size / 100, size % 100)
-        };
-        let code = match self.code() {
-            [0, 0] => "-".to_string(),
-            [first, second] => format!("{first:016x}{second:016x}"),
-        };
-        f.pad(&format!("{} {code}", self.measures().map(measure).join(" ")))
+        let [a, b, c, d] = self.measures().map(Units);
+        match self.code() {
+            [0, 0] => pad(f, format_args!("{a} {b} {c} {d} -")),
+            [first, second] => pad(f, format_args!("{a} {b} {c} {d} {first:016x}{second:016x}")),
+        }
+    }
+}
+
+// A measure in units.
+struct Units(i32);
+
+impl fmt::Display for Units {
+    fn fmt(&self, f: &mut fmt::Formatter<'_>) -> fmt::Result {
+        let (sign, size) = (if self.0 < 0 { "-" } else { "" }, self.0.unsigned_abs());
+        write!(f, "{sign}{}.{:02}", size / 100, size % 100)
     }
 }
 
@@ -100,7 +130,11 @@ impl FromStr for Profile {
 }
 
 fn split<const N: usize>(text: &str, between: char) -> Option<[&str; N]> {
-    text.split(between).collect::<Vec<_>>().try_into().ok()
+    let (mut parts, mut split) = (text.split(between), [""; N]);
+    for part in &mut split {
+        *part = parts.next()?;
+    }
+    parts.next().is_none().then_some(split)
 }
 
 // A minus or none, 1 to 5 digits, a point, 2 digits.
@@ -121,10 +155,32 @@ fn words(code: &str) -> Option<[u64; 2]> {
     if is_code { Some([word(&code[..16])?, word(&code[16..])?]) } else { None }
 }
 
+/// Its tag, its profile and its day, as `036000000000101 412.50 129.00 185.00 0.95 - 305`: so the program `yard` takes
+/// it after the letter of an add.
+impl fmt::Display for Item {
+    fn fmt(&self, f: &mut fmt::Formatter<'_>) -> fmt::Result {
+        pad(f, format_args!("{} {} {}", self.tag, self.profile, self.day))
+    }
+}
+
+/// As it is written.
+impl FromStr for Item {
+    type Err = ParseError;
+
+    fn from_str(text: &str) -> Result<Item, ParseError> {
+        let parts = text.split_once(' ').and_then(|(tag, rest)| Some((tag, rest.rsplit_once(' ')?)));
+        let Some((tag, (profile, day))) = parts else {
+            return Err(ParseError::Form("an item: a tag, a profile and a day, each after one space"));
+        };
+        Ok(Item { tag: tag.parse()?, profile: profile.parse()?, day: day.parse()? })
+    }
+}
+
 /// The four with commas, as `10,1,1,0`.
 impl fmt::Display for Weights {
     fn fmt(&self, f: &mut fmt::Formatter<'_>) -> fmt::Result {
-        f.pad(&self.each().map(|weight| weight.to_string()).join(","))
+        let [a, b, c, d] = self.each();
+        pad(f, format_args!("{a},{b},{c},{d}"))
     }
 }
 

@@ -1,5 +1,8 @@
 //! Arguments that are checked once, when they are made.
 
+use core::fmt;
+use core::num::NonZeroU16;
+
 use crate::{Refusal, ffi};
 
 pub(crate) const COUNTRY: u64 = 1_000_000_000_000;
@@ -11,19 +14,23 @@ pub(crate) const LAST_NATIONAL: u64 = 274_877_906_943;
 pub struct Tag(u64);
 
 impl Tag {
-    /// From its two parts; else [`Refusal::BadTag`].
-    pub fn new(country: u32, national: u64) -> Result<Tag, Refusal> {
-        let is_valid = (1..=999).contains(&country) && national <= LAST_NATIONAL;
+    /// From its two parts.
+    ///
+    /// # Errors
+    ///
+    /// [`Refusal::BadTag`] if one is not in its range.
+    pub const fn new(country: u32, national: u64) -> Result<Tag, Refusal> {
+        let is_valid = 1 <= country && country <= 999 && national <= LAST_NATIONAL;
         if is_valid { Ok(Tag(country as u64 * COUNTRY + national)) } else { Err(Refusal::BadTag) }
     }
 
     /// 1 to 999.
-    pub fn country(self) -> u32 {
+    pub const fn country(self) -> u32 {
         (self.0 / COUNTRY) as u32
     }
 
     /// At most 274,877,906,943.
-    pub fn national(self) -> u64 {
+    pub const fn national(self) -> u64 {
         self.0 % COUNTRY
     }
 
@@ -49,26 +56,34 @@ impl From<Tag> for u64 {
 }
 
 /// What distances are worked out from: four measures in hundredths, and a code of two words.
-#[derive(Clone, Copy, Debug, Default, PartialEq, Eq, Hash)]
+#[derive(Clone, Copy, Default, PartialEq, Eq, Hash)]
 pub struct Profile(ffi::Profile);
 
 impl Profile {
     /// The largest measure; the least is its negative.
     pub const MAX_MEASURE: i32 = 1_000_000;
 
-    /// With any code, and measures in their range; else [`Refusal::BadMeasure`].
-    pub fn new(measures: [i32; 4], code: [u64; 2]) -> Result<Profile, Refusal> {
-        let fits = |m: &i32| (-Profile::MAX_MEASURE..=Profile::MAX_MEASURE).contains(m);
-        if measures.iter().all(fits) { Ok(Profile(ffi::Profile { measures, code })) } else { Err(Refusal::BadMeasure) }
+    /// Of four measures and any code.
+    ///
+    /// # Errors
+    ///
+    /// [`Refusal::BadMeasure`] if a measure is not in its range.
+    pub const fn new(measures: [i32; 4], code: [u64; 2]) -> Result<Profile, Refusal> {
+        const fn fits(measure: i32) -> bool {
+            -Profile::MAX_MEASURE <= measure && measure <= Profile::MAX_MEASURE
+        }
+        let [a, b, c, d] = measures;
+        let is_valid = fits(a) && fits(b) && fits(c) && fits(d);
+        if is_valid { Ok(Profile(ffi::Profile { measures, code })) } else { Err(Refusal::BadMeasure) }
     }
 
     /// The measures.
-    pub fn measures(&self) -> [i32; 4] {
+    pub const fn measures(&self) -> [i32; 4] {
         self.0.measures
     }
 
     /// The code.
-    pub fn code(&self) -> [u64; 2] {
+    pub const fn code(&self) -> [u64; 2] {
         self.0.code
     }
 
@@ -81,7 +96,13 @@ impl Profile {
     }
 }
 
-/// A query of [`crate::Table::range_batch`]: a profile with a radius and a first day of its own.
+impl fmt::Debug for Profile {
+    fn fmt(&self, f: &mut fmt::Formatter<'_>) -> fmt::Result {
+        f.debug_struct("Profile").field("measures", &self.measures()).field("code", &self.code()).finish()
+    }
+}
+
+/// A query of [`Table::range_batch`](crate::Table::range_batch): a profile with a radius and a first day of its own.
 #[derive(Clone, Copy, Debug, PartialEq, Eq, Hash)]
 pub struct RangeQuery {
     /// From which distances are worked out.
@@ -103,24 +124,32 @@ impl RangeQuery {
     }
 }
 
-/// The day on which an item was weighed, 1 to 65,535, counted from a date that the caller chooses.
+/// The day on which an item was weighed, 1 to 65,535, counted from a date that the caller chooses. An `Option<Day>` is no
+/// larger than a day.
 #[derive(Clone, Copy, Debug, PartialEq, Eq, PartialOrd, Ord, Hash)]
-pub struct Day(u16);
+pub struct Day(NonZeroU16);
 
 impl Day {
     /// Day 1.
-    pub const MIN: Day = Day(1);
+    pub const MIN: Day = Day(NonZeroU16::MIN);
     /// Day 65,535.
-    pub const MAX: Day = Day(u16::MAX);
+    pub const MAX: Day = Day(NonZeroU16::MAX);
 
-    /// Any but 0; else [`Refusal::BadDay`].
-    pub fn new(day: u16) -> Result<Day, Refusal> {
-        if day != 0 { Ok(Day(day)) } else { Err(Refusal::BadDay) }
+    /// Of any number but 0.
+    ///
+    /// # Errors
+    ///
+    /// [`Refusal::BadDay`] if it is 0.
+    pub const fn new(day: u16) -> Result<Day, Refusal> {
+        match NonZeroU16::new(day) {
+            Some(day) => Ok(Day(day)),
+            None => Err(Refusal::BadDay),
+        }
     }
 
     /// Its number.
-    pub fn get(self) -> u16 {
-        self.0
+    pub const fn get(self) -> u16 {
+        self.0.get()
     }
 
     // `None` is any day
@@ -128,14 +157,27 @@ impl Day {
         first_day.map_or(ffi::ANY_DAY, Day::get)
     }
 
+    // the day of an item in a table is not 0
     pub(crate) fn as_stored(day: u32) -> Day {
-        Day(day as u16)
+        Day(NonZeroU16::new(day as u16).expect("a day"))
+    }
+}
+
+impl From<NonZeroU16> for Day {
+    fn from(day: NonZeroU16) -> Day {
+        Day(day)
+    }
+}
+
+impl From<Day> for NonZeroU16 {
+    fn from(day: Day) -> NonZeroU16 {
+        day.0
     }
 }
 
 /// What the difference of each measure is multiplied by before it counts, 0 to 100: of a measure of weight 0 the
 /// distance knows nothing. A table by [`Metric::DifferingBits`] keeps its weights and has no use for them.
-#[derive(Clone, Copy, Debug, PartialEq, Eq, Hash)]
+#[derive(Clone, Copy, PartialEq, Eq, Hash)]
 pub struct Weights(ffi::Weights);
 
 impl Weights {
@@ -144,22 +186,31 @@ impl Weights {
     /// Every measure counts as it is.
     pub const ONE: Weights = Weights(ffi::Weights { each: [1; 4] });
 
-    /// Of the four measures in their order, each at most [`Weights::MAX`]; else [`Refusal::BadWeight`].
-    pub fn new(each: [u32; 4]) -> Result<Weights, Refusal> {
-        if each.iter().all(|&weight| weight <= Weights::MAX) {
-            Ok(Weights(ffi::Weights { each }))
-        } else {
-            Err(Refusal::BadWeight)
-        }
+    /// Of the four measures in their order.
+    ///
+    /// # Errors
+    ///
+    /// [`Refusal::BadWeight`] if one is above [`Weights::MAX`].
+    pub const fn new(each: [u32; 4]) -> Result<Weights, Refusal> {
+        let [a, b, c, d] = each;
+        let is_valid = a <= Weights::MAX && b <= Weights::MAX && c <= Weights::MAX && d <= Weights::MAX;
+        if is_valid { Ok(Weights(ffi::Weights { each })) } else { Err(Refusal::BadWeight) }
     }
 
     /// Of the four measures in their order.
-    pub fn each(self) -> [u32; 4] {
+    pub const fn each(self) -> [u32; 4] {
         self.0.each
     }
 
     pub(crate) fn raw(self) -> ffi::Weights {
         self.0
+    }
+}
+
+/// As `Weights([10, 1, 1, 0])`.
+impl fmt::Debug for Weights {
+    fn fmt(&self, f: &mut fmt::Formatter<'_>) -> fmt::Result {
+        f.debug_tuple("Weights").field(&self.each()).finish()
     }
 }
 
@@ -195,38 +246,56 @@ impl Order {
     /// 4,096 items.
     pub const MAX: Order = Order(12);
 
-    /// 0 to 12; else [`Refusal::BadOrder`].
-    pub fn new(order: u32) -> Result<Order, Refusal> {
+    /// 0 to 12.
+    ///
+    /// # Errors
+    ///
+    /// [`Refusal::BadOrder`] if it is another.
+    pub const fn new(order: u32) -> Result<Order, Refusal> {
         if order <= Order::MAX.0 { Ok(Order(order)) } else { Err(Refusal::BadOrder) }
     }
 
-    /// The least order whose tables hold so many items; [`Refusal::BadOrder`] where none does.
-    pub fn holding(items: usize) -> Result<Order, Refusal> {
-        (0..=Order::MAX.0).map(Order).find(|order| order.capacity() >= items).ok_or(Refusal::BadOrder)
+    /// The least order whose tables hold so many items.
+    ///
+    /// # Errors
+    ///
+    /// [`Refusal::BadOrder`] where none does.
+    pub const fn holding(items: usize) -> Result<Order, Refusal> {
+        let mut order = Order::MIN;
+        while order.capacity() < items && order.0 < Order::MAX.0 {
+            order = Order(order.0 + 1);
+        }
+        if order.capacity() >= items { Ok(order) } else { Err(Refusal::BadOrder) }
     }
 
     /// Its number.
-    pub fn get(self) -> u32 {
+    pub const fn get(self) -> u32 {
         self.0
     }
 
     /// How many items a table of this order holds.
-    pub fn capacity(self) -> usize {
+    pub const fn capacity(self) -> usize {
         1 << self.0
     }
 
-    pub(crate) fn table_rows(self) -> usize {
+    /// How many rows the area of a table of this order has.
+    pub const fn table_rows(self) -> usize {
         self.0 as usize + 1 + (2 << self.0)
     }
 
-    // of an image with so many built slots
-    pub(crate) fn image_bytes(self, built: usize) -> usize {
-        8 + 4 * (self.0 as usize + 1) + 50 * built
+    /// How many rows the work area has beside it.
+    pub const fn work_rows(self) -> usize {
+        1 << self.0
     }
 
-    // every slot of every bucket built
-    pub(crate) fn most_image_bytes(self) -> usize {
-        self.image_bytes((2 << self.0) - 1)
+    /// As many bytes as any image of this order can have: every slot of every bucket built.
+    pub const fn image_bytes(self) -> usize {
+        self.bytes_of_image((2 << self.0) - 1)
+    }
+
+    // with so many built slots
+    pub(crate) const fn bytes_of_image(self, built: usize) -> usize {
+        8 + 4 * (self.0 as usize + 1) + 50 * built
     }
 }
 
@@ -248,7 +317,7 @@ impl Metric {
     pub const ALL: [Metric; 3] = [Metric::SumOfDifferences, Metric::DifferingBits, Metric::LargestDifference];
 
     /// Its number.
-    pub fn get(self) -> u32 {
+    pub const fn get(self) -> u32 {
         self as u32
     }
 }
@@ -276,9 +345,13 @@ impl Name {
     /// How many names there are.
     pub const COUNT: usize = 8;
 
-    /// 1 to 8; else [`Refusal::BadName`].
-    pub fn new(name: u32) -> Result<Name, Refusal> {
-        if (1..=Name::COUNT as u32).contains(&name) { Ok(Name(name)) } else { Err(Refusal::BadName) }
+    /// 1 to 8.
+    ///
+    /// # Errors
+    ///
+    /// [`Refusal::BadName`] if it is another.
+    pub const fn new(name: u32) -> Result<Name, Refusal> {
+        if 1 <= name && name <= Name::COUNT as u32 { Ok(Name(name)) } else { Err(Refusal::BadName) }
     }
 
     /// All names in their order.
@@ -287,7 +360,7 @@ impl Name {
     }
 
     /// Its number.
-    pub fn get(self) -> u32 {
+    pub const fn get(self) -> u32 {
         self.0
     }
 }

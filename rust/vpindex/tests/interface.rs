@@ -1,7 +1,11 @@
 //! What a Rust caller meets: values that are checked when they are made, and refusals.
 
+use std::error::Error as _;
+use std::num::NonZeroU16;
+
 use vpindex::{
-    Day, ListRead, ListRefusal, Metric, Name, Order, Profile, RangeQuery, Refusal, States, Table, Tag, Weights,
+    Day, Error, ExtendRefusal, Item, ListRead, ListRefusal, Metric, Name, Order, ParseError, Profile, RangeQuery,
+    Refusal, States, Table, Tag, Weights,
 };
 
 #[test]
@@ -70,6 +74,35 @@ fn days() {
         assert_eq!(Day::new(day).map(Day::get), Ok(day));
     }
     assert!(Day::MIN < Day::MAX);
+    assert_eq!(size_of::<Option<Day>>(), 2);
+    let day = NonZeroU16::new(305).expect("not 0");
+    assert_eq!((Day::from(day).get(), NonZeroU16::from(Day::from(day))), (305, day));
+}
+
+// Values that are checked when the program is compiled.
+const CHECKED: (Tag, Profile, Day, Order) = {
+    let (tag, profile) = (Tag::new(36, 101), Profile::new([41_250, 12_900, 18_500, 95], [0, 1]));
+    match (tag, profile, Day::new(305), Order::holding(6)) {
+        (Ok(tag), Ok(profile), Ok(day), Ok(order)) => (tag, profile, day, order),
+        _ => panic!("one is not valid"),
+    }
+};
+
+#[test]
+fn constants() {
+    let (tag, profile, day, order) = CHECKED;
+    assert_eq!((tag.national(), profile.code(), day.get(), order.get()), (101, [0, 1], 305, 3));
+    const { assert!(Weights::new([0, 1, 100, 101]).is_err() && Name::new(8).is_ok() && Metric::ALL[2].get() == 2) };
+}
+
+#[test]
+fn what_values_show() {
+    let (tag, profile, day, _) = CHECKED;
+    let shown = "Profile { measures: [41250, 12900, 18500, 95], code: [0, 1] }";
+    assert_eq!(format!("{profile:?}"), shown);
+    let item = Item { tag, profile, day };
+    assert_eq!(format!("{item:?}"), format!("Item {{ tag: Tag(036000000000101), profile: {shown}, day: Day(305) }}"));
+    assert_eq!(format!("{:?}", Weights::ONE), "Weights([1, 1, 1, 1])");
 }
 
 // A search reports what was weighed on its first day or later, any day where there is none, and an image keeps the days.
@@ -147,7 +180,7 @@ fn images_refused() {
     let refused = |change: &dyn Fn(&mut Vec<u8>)| {
         let mut image = table.image();
         change(&mut image);
-        Table::load(&image).err().map(Refusal::from)
+        Table::load(&image).err().map(|refused| refused.refusal)
     };
     assert_eq!(refused(&|_| ()), None);
     assert_eq!(refused(&|image| image.clear()), Some(Refusal::BadLength));
@@ -172,7 +205,7 @@ fn an_image_without_a_day_is_refused() {
     let mut image = table.image();
     assert_eq!((image.len(), image[60..].to_vec()), (62, vec![255, 255]));
     image[60..].fill(0);
-    assert_eq!(Table::load(&image).err().map(Refusal::from), Some(Refusal::BadDay));
+    assert_eq!(Table::load(&image).err().map(|refused| refused.refusal), Some(Refusal::BadDay));
 }
 
 fn read(table: &mut Table, list: &str) -> Result<u32, String> {
@@ -226,6 +259,119 @@ fn a_refusal_says_what_was_wrong() {
     assert_eq!((Refusal::BadDay.number(), Refusal::BadDay.to_string().as_str()), (33, "the day is 0"));
 }
 
+// Of each kind: its own words, nothing dropped, and as source what these words do not say.
+#[test]
+fn one_error_for_all() {
+    let mut table = Table::new(Order::MIN, Metric::SumOfDifferences);
+    let point = b"tag;kg;hip;girth;gain\n036000000000101;412.50;129,00;185,00;0,95\n";
+    let list = table.read_list(point, Day::MIN).expect_err("a point");
+    let image = Table::load(&[13, 0, 2, 0]).expect_err("an order");
+    let (tag, profile, day, _) = CHECKED;
+    let item = Item { tag, profile, day };
+    let extend = table.try_extend([item, item]).expect_err("twice");
+    let text = "036".parse::<Tag>().expect_err("three digits");
+    for (error, words, source) in [
+        (Error::from(Refusal::Full), Refusal::Full.to_string(), None),
+        (Error::from(text), "not a tag of 15 digits".to_string(), None),
+        (Error::from(ParseError::from(Refusal::BadTag)), Refusal::BadTag.to_string(), None),
+        (Error::from(list.clone()), list.to_string(), Some(Refusal::BadListLine)),
+        (
+            Error::from(image.clone()),
+            "the order at byte 0 is 13, and the largest is 12".into(),
+            Some(Refusal::BadOrder),
+        ),
+        (Error::from(extend), "036000000000101: the tag is in the table already (1 added before it)".into(), None),
+    ] {
+        assert_eq!(error.to_string(), words);
+        assert_eq!(error.source().map(|source| source.to_string()), source.map(|refusal| refusal.to_string()));
+        assert!(source.is_none() || error.refusal() == source);
+    }
+    assert_eq!(Error::from(text).refusal(), None);
+    assert_eq!(Error::from(extend).refusal(), Some(Refusal::AlreadyLive));
+    assert_eq!(Error::from(list.clone()), Error::List(list));
+}
+
+// Weighed again in a table of every fill, a full one too: what it was comes back, and only this item is another.
+#[test]
+fn an_item_is_replaced() {
+    let item = |national: u64, kilos, day| Item {
+        tag: Tag::new(36, national).expect("valid"),
+        profile: Profile::new([kilos, 0, 0, 0], [national, 0]).expect("in range"),
+        day: Day::new(day).expect("not 0"),
+    };
+    for items in 1..=8 {
+        let first: Vec<Item> = (0..items).map(|national| item(national, 10 * national as i32, 7)).collect();
+        let again: Vec<Item> = (0..items).map(|national| item(national, 500 - national as i32, 8)).collect();
+        let mut table = Table::new(Order::new(3).expect("valid"), Metric::SumOfDifferences);
+        assert_eq!(table.try_extend(first.iter().copied()), Ok(items as usize));
+        for (done, (before, Item { tag, profile, day })) in first.iter().zip(&again).enumerate() {
+            let mut apart = table.clone();
+            let distances =
+                apart.remove(*tag).expect("it is there") + apart.add(*tag, profile, *day).expect("room").distances;
+            let replaced = table.replace(*tag, profile, *day).expect("it is there");
+            assert_eq!((replaced.before, replaced.distances, table.image()), (*before, distances, apart.image()));
+            assert_eq!(table.look_up(*tag).map(|found| found.bucket), Ok(replaced.bucket));
+            let mut expected = Table::new(Order::MAX, Metric::SumOfDifferences);
+            expected.try_extend(again[..=done].iter().chain(&first[done + 1..]).copied()).expect("room");
+            assert!(table.same_items(&expected));
+        }
+        let other = Tag::new(36, items).expect("valid");
+        let before = table.image();
+        assert_eq!(table.replace(other, &Profile::default(), Day::MIN), Err(Refusal::NotLive));
+        assert_eq!(table.image(), before);
+    }
+}
+
+// It stops at the first item that is refused, for its tag or for room.
+#[test]
+fn an_extend_stops() {
+    let item =
+        |national| Item { tag: Tag::new(36, national).expect("valid"), profile: Profile::default(), day: Day::MIN };
+    for (nationals, stops) in [
+        (&[][..], None),
+        (&[1, 2, 3, 4], None),
+        (&[1, 2, 1, 3], Some((2, Refusal::AlreadyLive))),
+        (&[1, 2, 3, 4, 5, 6], Some((4, Refusal::Full))),
+    ] {
+        let mut table = Table::new(Order::new(2).expect("valid"), Metric::DifferingBits);
+        let done = table.try_extend(nationals.iter().map(|&national| item(national)));
+        let refused = stops.map(|(added, refusal)| ExtendRefusal { item: item(nationals[added]), refusal, added });
+        assert_eq!(done, refused.map_or(Ok(nationals.len()), Err));
+        assert_eq!(table.len(), stops.map_or(nationals.len(), |(added, _)| added));
+    }
+}
+
+// What makes two tables differ in what a search finds, and what does not.
+#[test]
+fn the_same_items() {
+    let (tag, profile, day, order) = CHECKED;
+    let item = Item { tag, profile, day };
+    let other = Item { tag: Tag::new(36, 102).expect("valid"), ..item };
+    let table = |order, metric, weights, items: &[Item]| {
+        let mut table = Table::with_weights(order, metric, weights);
+        table.try_extend(items.iter().copied()).expect("room");
+        table
+    };
+    let (sum, ones) = (Metric::SumOfDifferences, Weights::ONE);
+    let one = table(order, sum, ones, &[item, other]);
+    assert!(one.same_items(&one) && one.same_items(&table(Order::MAX, sum, ones, &[other, item])));
+    let mut emptied = table(order, sum, ones, &[item]);
+    emptied.remove(tag).expect("there");
+    assert!(emptied.same_items(&Table::new(Order::MIN, sum)));
+
+    let zero = Profile::default();
+    for unlike in [
+        table(order, Metric::LargestDifference, ones, &[item, other]),
+        table(order, sum, Weights::new([1, 1, 1, 2]).expect("in range"), &[item, other]),
+        table(order, sum, ones, &[item]),
+        table(order, sum, ones, &[item, Item { profile: zero, ..other }]),
+        table(order, sum, ones, &[item, Item { day: Day::MAX, ..other }]),
+        table(order, sum, ones, &[item, Item { tag: Tag::new(36, 103).expect("valid"), ..other }]),
+    ] {
+        assert!(!one.same_items(&unlike) && !unlike.same_items(&one));
+    }
+}
+
 #[test]
 fn names() {
     for number in [0, 9, 256, u32::MAX] {
@@ -271,7 +417,10 @@ fn named_states() {
 #[test]
 fn states_refused() {
     let name = Name::new(2).expect("a name");
-    let refused = |bytes: &[u8]| Table::restore(&States::from(bytes.to_vec()), name).err().map(Refusal::from);
+    let refused = |bytes: &[u8]| {
+        let restored = Table::restore(&States::from(bytes.to_vec()), name);
+        restored.err().map(|refused| refused.refusal)
+    };
     assert_eq!(refused(&[]), Some(Refusal::NotSaved));
     assert_eq!(refused(&[255; 31]), Some(Refusal::NotSaved));
     assert_eq!(refused(&[255; 32]), Some(Refusal::BadLength));

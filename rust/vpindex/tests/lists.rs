@@ -137,7 +137,7 @@ fn the_first_of_several() {
 fn a_line_that_is_in_order() {
     let mut table = Table::new(Order::MIN, Metric::SumOfDifferences);
     let full = table.read_list([HEADER, FIRST, SECOND].concat().as_bytes(), Day::MIN).expect_err("no room");
-    assert_eq!((full.refusal, &full.fault, Refusal::from(full.clone())), (Refusal::Full, &None, Refusal::Full));
+    assert_eq!((full.refusal, &full.fault), (Refusal::Full, &None));
     assert_eq!(full.to_string(), "line 3: the table holds as many items as its order allows (1 added before it)");
 }
 

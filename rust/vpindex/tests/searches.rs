@@ -2,13 +2,13 @@
 
 use std::alloc::{GlobalAlloc, Layout, System};
 use std::cell::Cell;
-use std::collections::HashSet;
+use std::collections::{BTreeSet, HashSet};
 use std::thread;
 
 use vpindex::{
-    Added, Batch, Cents, Day, Drafted, Dues, Hit, Hits, ImageFault, ImageRefusal, Item, Items, ListFault, ListRead,
-    ListRefusal, LookedUp, Lots, Metric, Name, Order, ParseError, Profile, RangeQuery, Refusal, SlotAt, States, Table,
-    Tag, Weights,
+    Added, Batch, BatchHits, Cents, Day, Drafted, Dues, Error, ExtendRefusal, Hit, Hits, ImageFault, ImageRefusal,
+    Item, Items, ListFault, ListRead, ListRefusal, LookedUp, Lots, Metric, Name, Order, ParseError, Profile,
+    RangeQuery, Refusal, Replaced, SlotAt, States, Table, Tag, Weights,
 };
 
 // Counts what this thread allocates.
@@ -18,13 +18,16 @@ thread_local! {
     static ALLOCATED: Cell<u32> = const { Cell::new(0) };
 }
 
+// SAFETY: it is the system's own, and counting allocates nothing.
 unsafe impl GlobalAlloc for Counting {
     unsafe fn alloc(&self, layout: Layout) -> *mut u8 {
         ALLOCATED.with(|allocated| allocated.set(allocated.get() + 1));
+        // SAFETY: as the caller says.
         unsafe { System.alloc(layout) }
     }
 
     unsafe fn dealloc(&self, memory: *mut u8, layout: Layout) {
+        // SAFETY: as the caller says.
         unsafe { System.dealloc(memory, layout) }
     }
 }
@@ -67,10 +70,10 @@ fn table(items: u64) -> Table {
 fn all_can_be_sent_and_shared() {
     fn both<T: Send + Sync>() {}
     both::<Table>();
-    both::<(Hit, Hits, Batch, RangeQuery, Item, Items, Added, LookedUp, States)>();
+    both::<(Hit, Hits, Batch, BatchHits, RangeQuery, Item, Items, Added, Replaced, LookedUp, States)>();
     both::<(Tag, Profile, Day, Weights, Order, Metric, Name)>();
     both::<(Cents, Dues, Drafted, Lots, ListRead)>();
-    both::<(Refusal, ImageRefusal, ImageFault, SlotAt, ListRefusal, ListFault, ParseError)>();
+    both::<(Error, Refusal, ImageRefusal, ImageFault, SlotAt, ListRefusal, ListFault, ParseError, ExtendRefusal)>();
 }
 
 #[test]
@@ -154,9 +157,12 @@ fn batches_into_a_buffer() {
         assert_eq!(allocated(|| table.range_batch_into(&queries, &mut batch).expect("room")), 0);
         assert_eq!(table.range_batch(&queries).as_ref(), Ok(&batch));
         assert_eq!((batch.len(), batch.iter().len()), (count as usize, count as usize));
-        for (n, list) in batch.iter().enumerate() {
-            assert_eq!((list, list), (&both_searches(&table, n as u64)[0][..], &batch[n]));
+        let mut n = 0;
+        for hits in &batch {
+            assert_eq!((hits, hits), (&both_searches(&table, n as u64)[0][..], &batch[n]));
+            n += 1;
         }
+        assert_eq!(n, batch.len());
     }
     for count in [0, 17, 40] {
         let queries: Vec<RangeQuery> = (0..count).map(range_query).collect();
@@ -181,6 +187,27 @@ fn a_batch_that_is_short() {
     }
 }
 
+// One buffer for draftings of every number of radii, with nothing left in it of the one before.
+#[test]
+fn lots_into_a_buffer() {
+    let table = table(200);
+    let mut lots = Lots::new(table.order());
+    assert_eq!((lots.len(), lots.by_radius()), (0, &[][..]));
+    for count in [32, 1, 7, 32] {
+        let radii: Vec<u32> = (0..count).map(|n| 20 * (n * 7 % 33)).collect();
+        assert_eq!(allocated(|| table.lots_into(&radii, count, &mut lots).expect("room")), 0);
+        assert_eq!(table.lots(&radii, count).as_ref(), Ok(&lots));
+        assert_eq!((lots.by_radius().len(), lots.iter().map(<[Tag]>::len).sum::<usize>()), (radii.len(), table.len()));
+        assert_eq!(lots.by_radius()[radii.len() - 1].lots as usize, lots.len());
+    }
+    for (radii, chosen) in [(0, 1), (33, 1), (3, 0), (3, 4)] {
+        assert_eq!(table.lots_into(&vec![5; radii], chosen, &mut lots), Err(Refusal::BadRadii));
+        assert!(lots.is_empty() && lots.by_radius().is_empty());
+    }
+    let mut short = Lots::new(Order::new(7).expect("valid"));
+    assert_eq!(table.lots_into(&[5], 1, &mut short), Err(Refusal::ShortArea));
+}
+
 #[test]
 fn hits_one_after_the_other() {
     let mut hits = Hits::with_capacity(9);
@@ -193,6 +220,9 @@ fn hits_one_after_the_other() {
     assert_eq!(by_value.len(), hits.len());
     assert_eq!(by_value.iter().map(Hit::distance).sum::<u32>(), sum);
     assert!(hits.clone().into_iter().eq(hits.iter().copied()));
+    // in the order of a result, whatever order they were put in
+    let sorted: BTreeSet<Hit> = by_value.into_iter().collect();
+    assert!(sorted.iter().eq(&hits) && hits[0] < hits[1]);
 }
 
 #[test]

@@ -3,7 +3,7 @@
 use std::fmt::{Debug, Display};
 use std::str::FromStr;
 
-use vpindex::{Day, Metric, Name, Order, ParseError, Profile, Refusal, Tag, Weights};
+use vpindex::{Day, Item, Metric, Name, Order, ParseError, Profile, Refusal, Tag, Weights};
 
 fn reads_back<T: Display + FromStr<Err = ParseError> + PartialEq + Debug>(value: T, text: &str) {
     assert_eq!(value.to_string(), text);
@@ -60,6 +60,31 @@ fn profiles() {
     are_no::<Profile>(&["1.00 2.00 3.00 4.00", "1.00 2.00 3.00 4.00 - 5", "1.00  2.00 3.00 4.00 -"]);
     refused::<Profile>("0.00 0.00 0.00 10000.01 -", Refusal::BadMeasure);
     refused::<Profile>("-10000.01 0.00 0.00 0.00 -", Refusal::BadMeasure);
+}
+
+#[test]
+fn items() {
+    let tag = Tag::new(36, 101).expect("valid");
+    let profile = Profile::new([41_250, 12_900, 18_500, -95], [0, 0]).expect("in range");
+    let item = Item { tag, profile, day: Day::new(305).expect("not 0") };
+    reads_back(item, "036000000000101 412.50 129.00 185.00 -0.95 - 305");
+    let coded = Profile::new([0; 4], [1, 2]).expect("in range");
+    reads_back(
+        Item { profile: coded, ..item },
+        "036000000000101 0.00 0.00 0.00 0.00 00000000000000010000000000000002 305",
+    );
+    are_no::<Item>(&[
+        "",
+        "036000000000101",
+        "036000000000101 305",
+        "036000000000101 412.50 129.00 185.00 -0.95 -",
+        "036000000000101 412.50 129.00 185.00 -0.95 - 305 ",
+        "036000000000101  412.50 129.00 185.00 -0.95 - 305",
+        "36000000000101 412.50 129.00 185.00 -0.95 - 305",
+    ]);
+    refused::<Item>("036000000000101 412.50 129.00 185.00 -0.95 - 0", Refusal::BadDay);
+    refused::<Item>("036000000000101 412.50 129.00 185.00 10000.01 - 1", Refusal::BadMeasure);
+    refused::<Item>("000000000000101 412.50 129.00 185.00 -0.95 - 1", Refusal::BadTag);
 }
 
 #[test]

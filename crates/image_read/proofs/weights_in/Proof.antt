@@ -33,10 +33,10 @@ unfolding weightsAs weightsOne
 returns c = let a = c .before .before .before .args in ap (λ (f : ℕ). weightsAs f (a .image .now)) (sym (c .if1 .taken))
 
 two-from-requires : tie.Need-two-from-requires
-two-from-requires c κs = (omega arith, omega arith, omega (arith, long c))
+two-from-requires c κs = (refl, refl, omega (arith, long c))
 
 two-from-requires-2 : tie.Need-two-from-requires-2
-two-from-requires-2 c κs = (omega arith, omega arith, omega (arith, long (c .before)))
+two-from-requires-2 c κs = (refl, refl, omega (arith, long (c .before)))
 
 returns-2 : tie.Need-returns-2
 unfolding weighing

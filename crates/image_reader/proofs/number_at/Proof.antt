@@ -1,49 +1,53 @@
 -- `image_reader::number_at` meets its contract: the bytes put together are the number at the place.
-use Prim.Native.Nat.{ℕ, _+_, _≤_}
+use Prim.Native.Nat.{_+_, _≤_}
 use native.Mathlib.Omega.{arith}
 use mathlib.Core.Path.{_≡_, refl, sym, _∙_, ap}
 use lib.ListN.{length}
 use borrow.Author.Needs.{needs}
 use Rattle.image_rules.specs.Read.{numberAt}
-use Rattle.image_reader.proofs.Numbers.{number-none, one-at, two-at}
+use Rattle.image_reader.proofs.Numbers.{one-at, two-at, four-at, is-four}
 use Rattle.image_reader.proofs.number_at.Statement.{statement}
 use Rattle.image_reader.proofs.number_at.Tie as tie
 
--- of more than one byte, and at most two, there are two
-both : (w : ℕ) → (w ≡ 0 → ⊥) → (w ≡ 1 → ⊥) → w ≤ 2 → w ≡ 2
-both w none one most = omega (arith, none, one, most)
-
 returns : tie.Need-returns
 returns c =
-    let a = c .before .before .args in
-    sym (ap (λ w. numberAt (a .image .now) w (a .at)) (c .if1 .taken) ∙ number-none (a .image .now) (a .at))
-
-reads : tie.Need-shared-slice-read-of-one
-reads c = omega (arith, c .before .if2 .taken, c .before .before .before .before .pre .1)
+    let s = c .before .before .before .before in
+    let one = c .before .before .if1 .taken in
+    c .of-one .ensures ∙ sym (ap (λ w. numberAt (s .args .image .now) w (s .args .at)) one ∙ one-at (s .args .image .now) (s .args .at) (omega (arith, one, s .pre .1)))
 
 returns-2 : tie.Need-returns-2
 returns-2 c =
-    let a = c .before .before .before .before .before .args in
-    c .of-one .ensures ∙ sym (ap (λ w. numberAt (a .image .now) w (a .at)) (c .before .before .if2 .taken) ∙ one-at (a .image .now) (a .at) (omega (arith, c .before .before .if2 .taken, c .before .before .before .before .before .pre .1)))
+    let s = c .before .before .before .before .before .before in
+    let two = c .before .before .before .if2 .taken in
+    c .of-two .ensures ∙ sym (ap (λ w. numberAt (s .args .image .now) w (s .args .at)) two ∙ two-at (s .args .image .now) (s .args .at) (s .args .at + 1) refl (omega (arith, two, s .pre .1)))
 
-reads-first : tie.Need-shared-slice-read-of-two
-reads-first c = let start = c .before .before .before .before in omega (arith, both (start .args .w) (c .before .before .if1 .left) (c .before .if2 .left) (start .pre .0), start .pre .1)
+-- what is left is four bytes, and they are there
+abbrev start-of : tie.Else2 → tie.Start
+start-of c = c .before .before .before
 
-adds : tie.Need-add-of-two
-adds c =
-    let start = c .before .before .before .before in
-    let within : start .args .at + 1 ≤ length (start .args .image .now) = omega (arith, both (start .args .w) (c .before .before .if1 .left) (c .before .if2 .left) (start .pre .0), start .pre .1) in
-    search (needs, within)
+four : (c : tie.Else2) → start-of c .args .w ≡ 4
+four c = is-four (start-of c .args .w) (start-of c .pre .0) (c .before .if1 .left) (c .if2 .left)
 
-reads-second : tie.Need-shared-slice-read-of-two-2
-reads-second c = let start = c .before .before .before .before .before in omega (arith, both (start .args .w) (c .before .before .before .if1 .left) (c .before .before .if2 .left) (start .pre .0), start .pre .1)
+within : (c : tie.Else2) → start-of c .args .at + 4 ≤ length (start-of c .args .image .now)
+within c = omega (arith, four c, start-of c .pre .1)
 
 returns-3 : tie.Need-returns-3
 returns-3 c =
-    let start = c .before .before .before .before .before .before in
-    let a = start .args in
-    let two = both (a .w) (c .before .before .before .before .if1 .left) (c .before .before .before .if2 .left) (start .pre .0) in
-    c .of-two .ensures ∙ sym (ap (λ w. numberAt (a .image .now) w (a .at)) two ∙ two-at (a .image .now) (a .at) (a .at + 1) refl (omega (arith, two, start .pre .1)))
+    let e = c .before .before .before .before .before in
+    let a = start-of e .args in
+    c .of-four .ensures ∙ sym (ap (λ w. numberAt (a .image .now) w (a .at)) (four e) ∙ four-at (a .image .now) (a .at) (a .at + 1) (a .at + 2) (a .at + 3) refl refl refl (within e))
 
 pub number-at-spec : {M : Type 1} → statement M
-number-at-spec = tie.close (tie.spec returns reads (λ c κs. search needs) returns-2 reads-first adds reads-second (λ c κs. search needs) returns-3)
+number-at-spec =
+    tie.close
+    (tie.spec
+    (λ c. search needs) (λ c κs. search needs)
+    returns
+    (λ c. search needs) (λ c. search needs) (λ c. search needs) (λ c κs. search needs)
+    returns-2
+    (λ c. omega (arith, within (c .before)))
+    (λ c. search (needs, within (c .before))) (λ c. omega (arith, within (c .before .before)))
+    (λ c. search (needs, within (c .before .before))) (λ c. omega (arith, within (c .before .before .before)))
+    (λ c. search (needs, within (c .before .before .before))) (λ c. omega (arith, within (c .before .before .before .before)))
+    (λ c κs. search needs)
+    returns-3)

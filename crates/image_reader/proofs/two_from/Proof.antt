@@ -1,6 +1,9 @@
--- `image_reader::two_from` meets its contract: a walk of its MIR, by hand. A reader is made in a local, and the local is lent to `next` twice; each time it comes back moved on.
--- What a loan takes and what it gives back is said once, in `loan` and `back`, by the lemmas of `loan_proofs`. All that the proof knows of `reader_at` and `next` is that each meets its contract.
+-- `image_reader::two_from` meets its contract: a walk of its MIR, by hand. A reader is made in a local, and the local
+-- is lent to `next` twice; each time it comes back moved on. What a loan takes and what it gives back is said once, in
+-- `loan` and `back`, by the lemmas of `loan_proofs`. All that the proof knows of `reader_at` and `next` is that each
+-- meets its contract.
 use mathlib.Core.Path.{_≡_, refl, ap}
+use mathlib.Core.Bool.{true}
 use Prim.Native.Nat.{ℕ, _<_, _≤_, _^_, _+_}
 use native.Mathlib.Omega.{arith}
 use mathlib.Core.List.{List, [], _∷_}
@@ -20,9 +23,11 @@ use contract.BorrowLft.{meet-⊑-right}
 use contract.Lifetimes.{Lfts, Shares}
 use contract.Monad.{Fun, fact, factI}
 use contract.Running.{givenOf, tables, tablesOf}
-use types.Kit.{Given, ‵, raw, use0, some, later, _⊛_, _$_, _∵_, !, qed, by, move, keep, drop, use1, use2, use3, split, join, pick, rewrite, fsplit, fjoin, suffices, frame, await, updating, now as at-once, show, done}
+use types.Kit.{Given, ‵, raw, use0, some, later, _⊛_, _$_, _∵_, !, qed, by, move, keep, drop, use1, use2, use3, split, join, pick, rewrite, fsplit, fjoin}
+use types.Kit.{suffices, frame, await, updating, now as at-once, show, done}
 use types.Part.{agg}
-use types.Run.{look, init, forget, stop, from, load, addr, of-opd, and-then, no-more, assigns, land, returns, enter, alloc1, alloc0, params1, pass1, pass0, free1, free0}
+use types.Run.{look, init, forget, stop, from, load, addr, of-opd, and-then, no-more, assigns, land, returns, enter, alloc1, alloc0, params1, pass1, pass0}
+use types.Run.{free1, free0}
 use types.SemTy.{Body}
 use types.Tokens.{lft-new, lft-end}
 use sound.WpLaws.{FmC, fmOf, WpFn-mono}
@@ -48,6 +53,7 @@ use denote.Triple.Walked.{says, needs, Stays, stay-dropped, walkOf, goes-dropped
 use denote.Exit.{yes}
 use Rattle.loan_proofs.proofs.Lending.{lies-in, lies-out, tokens-for, tokens-back, Kept, over}
 use Rattle.image_rules.specs.Read.{numberAt}
+use Rattle.image_reader.specs.Widths.{isWidth}
 use Rattle.image_reader.specs.Moved.{movedOn}
 use Rattle.image_reader.specs.declared.Reader.{Reader}
 use Rattle.image_reader.proofs.Reader as T
@@ -103,11 +109,11 @@ module _ {M : Type 1} (𝓤 : URA M) (H : Heap 𝓤) (A : Atoms 𝓤) (W : Given
     abbrev to-next : Next 𝓤 H A mem run .Ghost
     to-next = ((κs, qs, (meet-⊑-right (ν ∷ []) κ, tt), x₁, vals₁), tt)
 
-    asked-next : (w ≤ 2) × (h .at + w ≤ length (now (h .image))) → ent 𝓤 (onEntry 𝓤 H A next.signature κs qs x₁ vals₁) (Next 𝓤 H A mem run .pre to-next)
+    asked-next : (isWidth w ≡ true) × (h .at + w ≤ length (now (h .image))) → ent 𝓤 (onEntry 𝓤 H A next.signature κs qs x₁ vals₁) (Next 𝓤 H A mem run .pre to-next)
     asked-next ready = qed W (raw (onEntry 𝓤 H A next.signature κs qs x₁ vals₁) ∷ []) ∵ says ! ready $ done !
 
   -- what is lent is what the callee asks
-  loan : (h : Reader) (w l : ℕ) → w < 2 ^ 64 → (w ≤ 2) × (h .at + w ≤ length (now (h .image)))
+  loan : (h : Reader) (w l : ℕ) → w < 2 ^ 64 → (isWidth w ≡ true) × (h .at + w ≤ length (now (h .image)))
       → ent 𝓤 (sep 𝓤 (sem 𝓤 H A (at-rest (B κ) .lies h l 0)) (A .lft κ q))
       (H .⇛ (ex 𝓤 (λ (ν : ℕ). ex 𝓤 (λ (δ : GName). sep 𝓤 (Next 𝓤 H A mem run .pre (to-next h w l ν δ)) (sep 𝓤 (Kept 𝓤 H A W κ q ν) (sem 𝓤 H A (flent (ν ∷ κ) (Body (at-rest (B κ)) l 0 δ))))))))
   loan h w l w-fits ready =
@@ -181,7 +187,7 @@ module _ {M : Type 1} (𝓤 : URA M) (H : Heap 𝓤) (A : Atoms 𝓤) (W : Given
         owned ! P.the-row (Is P.the-row) ((LL.makes P.the-type P′.the-plain) 𝓤 H A) (record { first = a; second = b }) _ (LL.owes P.the-type P′.the-laws (record { first = a; second = b }) ((refl, a-fits), ((refl, b-fits), tt))) $ done !
 
     module _ (C : Calls 𝓤 H) (Λ : Loops 𝓤 H) (fm : FmC 𝓤 H (W .laws) C) (known-make : Triple 𝓤 (C #image-reader·reader-at) (Make 𝓤 H A mem run)) (known-next : Triple 𝓤 (C #image-reader·next) (Next 𝓤 H A mem run)) where
-      walk : Room u8 (length (s .now)) → n < 2 ^ 64 → v < 2 ^ 64 → w < 2 ^ 64 → (v ≤ 2) × (w ≤ 2) × (n + v + w ≤ length (now s))
+      walk : Room u8 (length (s .now)) → n < 2 ^ 64 → v < 2 ^ 64 → w < 2 ^ 64 → (isWidth v ≡ true) × (isWidth w ≡ true) × (n + v + w ≤ length (now s))
           → ent 𝓤 (onEntry 𝓤 H A self.signature (κ, tt) (q, tt) x vals) (WpFn 𝓤 H C Λ code.function (sv ∷ vint w64 n ∷ vint w64 v ∷ vint w64 w ∷ []) Post)
       walk room n-fits v-fits w-fits ready =
           qed W ((‵ (flft κ q) ⊛ ‵ ftrue) ∷ ‵ (owns (ShrSlice (named 0) κ u8 ∷ usize ∷ usize ∷ usize ∷ []) x vals) ∷ []) ∵ enter ! C Λ code.function (sv ∷ vint w64 n ∷ vint w64 v ∷ vint w64 w ∷ []) _ $

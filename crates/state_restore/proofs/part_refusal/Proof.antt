@@ -11,17 +11,17 @@ returns c = too-short (c .before .before .args .part .now) (omega arith)
 returns-2 : tie.Need-returns-2
 returns-2 c =
     let l = c .before in
-    no-length (l .before .before .before .args .part .now) (l .number32 .result) (omega arith) (l .number32 .ensures) (omega arith)
+    no-length (l .before .before .before .args .part .now) (l .number-at .result) (omega arith) (l .number-at .ensures) (omega arith)
 
 returns-3 : tie.Need-returns-3
 returns-3 c =
     let l = c .before .before in
-    past-the-part (l .before .before .before .args .part .now) (l .number32 .result) (omega arith) (l .number32 .ensures) (c .before .if2 .left) (omega arith)
+    past-the-part (l .before .before .before .args .part .now) (l .number-at .result) (omega arith) (l .number-at .ensures) (c .before .if2 .left) (omega arith)
 
 returns-4 : tie.Need-returns-4
 returns-4 c =
     let l = c .before .before in
-    in-the-part (l .before .before .before .args .part .now) (l .number32 .result) (omega arith) (l .number32 .ensures) (c .before .if2 .left) (omega arith)
+    in-the-part (l .before .before .before .args .part .now) (l .number-at .result) (omega arith) (l .number-at .ensures) (c .before .if2 .left) (omega arith)
 
 pub part-refusal-spec : {M : Type 1} → statement M
 part-refusal-spec =

@@ -12,7 +12,7 @@ use Rattle.metric_rules.specs.Row.{Row, profileOf, measure}
 use Rattle.metric_rules.proofs.Values.{is-profile, copied}
 use Rattle.table_rules.specs.Table.{Table, slotsOf}
 use Rattle.table_rules.specs.LookUp.{Place, find}
-use Rattle.table_rules.proofs.Passing.{framed-rows, slots-asked}
+use Rattle.table_rules.proofs.Passing.{slots-asked}
 use Rattle.table_rules.proofs.Finding.{Found, found}
 use Rattle.table_look_up.specs.Spots.{placeOf}
 use Rattle.dues_rules.specs.Listed.{weightAt, isFound, isWeight, pays}
@@ -32,7 +32,7 @@ located :
     let i = c .bucket .given .0 .1 .0 in
     some (place k i (getD (slotsOf (a .table .now) k) i [])) ≡ find (a .table .now) (a .tag)
 unfolding placeOf
-located c = ap (placeOf (c .before .before .before .args .table .now)) (sym (c .bucket .given .1)) ∙ c .before .before .find .ensures
+located c = ap (placeOf (c .before .before .before .args .table .now)) (sym (c .bucket .given .1)) ∙ c .before .before .find .ensures .0
 
 stands :
     (c : tie.After-bucket)
@@ -42,8 +42,8 @@ stands :
     Found (a .table .now) (a .tag) (place k i (getD (slotsOf (a .table .now) k) i []))
 stands c = let a = c .before .before .before .args in found (a .table .now) (a .tag) _ (sym (located c))
 
-inside : (c : tie.After-slots-of) → c .before .before .before .bucket .given .0 .1 .0 < length (c .slots-of .result .now)
-inside c = omega (arith, stands (c .before .before .before) .within, ap length (c .slots-of .ensures))
+inside : (c : tie.After-slots-of) → c .before .before .bucket .given .0 .1 .0 < length (c .slots-of .result .now)
+inside c = omega (arith, stands (c .before .before) .within, ap length (c .slots-of .ensures))
 
 -- the weight, by where the tag was found
 by-place : (t : Table) (tag : ℕ) (o : Option Place) → o ≡ find t tag → elim o [ some p ↦ some (measure (profileOf (p .row)) 0) | none ↦ none ] ≡ weightAt t tag
@@ -54,13 +54,11 @@ by-place t tag o e = ap (λ (x : Option Place). elim x as (λ y. Option ℤ) [ s
 abbrev foundOf : Option ℤ → ListedTag
 foundOf o = record { live = isFound o; weighs = isWeight o; cents = pays o }
 
-order-in-requires : tie.Need-order-in-requires
-order-in-requires c κs = framed-rows (c .before .before .before .before .pre .framed)
-
 slots-of-requires : tie.Need-slots-of-requires
 slots-of-requires c κs =
-    let at = c .before .before in
-    slots-asked (at .before .before .before .pre) (c .order-in .result .t) (at .bucket .given .0 .0) (c .order-in .ensures) (omega (arith, c .order-in .ensures, stands at .inOrder))
+    let at = c .before in
+    let s = at .before .before .before in
+    slots-asked (s .pre .1) (s .args .order .t) (at .bucket .given .0 .0) (s .pre .0) (omega (arith, s .pre .0, stands at .inOrder))
 
 mul-profile-of : tie.Need-mul-profile-of
 mul-profile-of c = omega (arith, inside c)
@@ -72,12 +70,12 @@ returns : tie.Need-returns
 unfolding placeOf isFound isWeight pays
 returns c =
     let a = c .before .before .before .args in
-    ap foundOf (by-place (a .table .now) (a .tag) none (ap (placeOf (a .table .now)) (sym (c .enum-told .given .1)) ∙ c .before .before .find .ensures))
+    ap foundOf (by-place (a .table .now) (a .tag) none (ap (placeOf (a .table .now)) (sym (c .enum-told .given .1)) ∙ c .before .before .find .ensures .0))
 
 returns-2 : tie.Need-returns-2
 unfolding isFound measure
 returns-2 c =
-    let at = c .before .before .before .before .before .before .before .before in
+    let at = c .before .before .before .before .before .before .before in
     let a = at .before .before .before .args in
     let k = at .bucket .given .0 .0 in
     let i = at .bucket .given .0 .1 .0 in
@@ -96,7 +94,6 @@ found-at-spec =
     tie.close
     (tie.spec
     (λ c κs. search needs) (λ c. search needs) (λ c. search needs)
-    order-in-requires
     slots-of-requires
     mul-profile-of
     shared-slice-copy-out-profile-of

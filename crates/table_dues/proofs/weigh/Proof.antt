@@ -12,10 +12,10 @@ use Rattle.table_dues.proofs.weigh.Statement.{statement}
 use Rattle.table_dues.proofs.weigh.Tie as tie
 
 abbrev Inv-loop : tie.InvT-loop
-Inv-loop table tags held₀ pays₀ i₀ held pays i = Weighed table tags held₀ held pays i
+Inv-loop table order tags held₀ pays₀ i₀ held pays i = Weighed table tags held₀ held pays i
 
 abbrev μ-loop : tie.MeasureT-loop
-μ-loop table tags held₀ pays₀ i₀ held pays i = length tags - i
+μ-loop table order tags held₀ pays₀ i₀ held pays i = length tags - i
 
 -- from where the item is found back to the loop
 abbrev loop-at : tie.After-found-at Inv-loop μ-loop → tie.At-loop Inv-loop μ-loop

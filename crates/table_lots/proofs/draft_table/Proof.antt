@@ -10,7 +10,6 @@ use Rattle.search_rules.specs.Range.{Entry}
 use Rattle.table_rules.specs.Geometry.{workRows}
 use Rattle.table_rules.specs.Table.{orderOf, cleared}
 use Rattle.table_rules.specs.Search.{zeroEntry}
-use Rattle.table_rules.proofs.Passing.{framed-rows}
 use Rattle.table_rules.proofs.Fill.{room-most}
 use Rattle.lots_rules.specs.Drafting.{chosenRadius, tableListing}
 use Rattle.table_lots.proofs.Refusing.{Accepted, accepted}
@@ -18,20 +17,17 @@ use Rattle.table_lots.proofs.draft_table.Statement.{statement}
 use Rattle.table_lots.proofs.draft_table.Tie as tie
 
 goes-on : (s : tie.Start) → Accepted (s .args .table .now) (s .args .work .now) (s .args .summary .now) (s .args .listing .now) (s .args .radii .now) (s .args .chosen)
-goes-on s = accepted (s .args .table .now) (s .args .work .now) (s .args .summary .now) (s .args .listing .now) (s .args .radii .now) (s .args .chosen) (s .pre)
-
-order-in-requires : tie.Need-order-in-requires
-order-in-requires c κs = framed-rows (goes-on (c .before) .items .passed .framed)
+goes-on s = accepted (s .args .table .now) (s .args .work .now) (s .args .summary .now) (s .args .listing .now) (s .args .radii .now) (s .args .chosen) (s .pre .1)
 
 work-rows-requires : tie.Need-work-rows-requires
-work-rows-requires c κs = omega (arith, c .order-in .ensures, goes-on (c .before .before) .items .passed .framed .order)
+work-rows-requires c κs = omega (arith, c .before .pre .0, goes-on (c .before) .items .passed .framed .order)
 
 module _ (c : tie.After-work-rows) where
   abbrev start : tie.Start
-  start = c .before .before .before
+  start = c .before .before
 
   rows : c .work-rows .result ≡ workRows (orderOf (start .args .table .now))
-  rows = c .work-rows .ensures ∙ ap workRows (c .before .order-in .ensures)
+  rows = c .work-rows .ensures ∙ ap workRows (start .pre .0)
 
   within : c .work-rows .result ≤ length (start .args .work .now)
   within = omega (arith, rows, goes-on start .items .roomy)
@@ -54,7 +50,7 @@ draft-items-requires c κs =
     let d = c .before .before .before in
     let g = goes-on (start d) in
     let most = room-most (orderOf (start d .args .table .now)) (g .items .passed .framed .order) in (
-      d .before .order-in .ensures,
+      start d .pre .0,
       g .items .passed,
       omega (arith, front d, rows d, g .items .few),
       omega (arith, g .items .few, most),
@@ -76,7 +72,6 @@ pub draft-table-spec : {M : Type 1} → statement M
 draft-table-spec =
     tie.close
     (tie.spec
-    order-in-requires
     work-rows-requires
     slice-relend-prefix-draft-items
     slice-aggregate-draft-items

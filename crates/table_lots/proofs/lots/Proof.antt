@@ -11,8 +11,11 @@ use Rattle.table_rules.specs.Refusals.{noRoom}
 use Rattle.table_rules.specs.Geometry.{workRows}
 use Rattle.table_rules.specs.Table.{Table, orderOf, tableSpace, cleared}
 use Rattle.table_rules.specs.Search.{zeroEntry}
+use Rattle.table_checks.specs.declared.Checked.the-variants.{Passes, Refused}
+use Rattle.table_checks.proofs.Told.{tells}
 use Rattle.lots_rules.specs.Lots.{Summary, summaryOf}
-use Rattle.lots_rules.specs.Drafting.{zeroSummary, betweenRows, draftedItems, tableLots, chosenRadius, tableSummaries, tableListing, lotsRefusal, summaryAfterLots, listingAfterLots, workAfterLots}
+use Rattle.lots_rules.specs.Drafting.{zeroSummary, betweenRows, draftedItems, tableLots, chosenRadius, tableSummaries, tableListing, lotsRefusal}
+use Rattle.lots_rules.specs.Drafting.{summaryAfterLots, listingAfterLots, workAfterLots}
 use Rattle.lots_rules.proofs.Claims.{listing-length}
 use Rattle.lots_rules.proofs.Answers.{answer-kept, answer-short, answer-all}
 use Rattle.table_lots.proofs.lots.Statement.{statement}
@@ -77,52 +80,57 @@ module _ (t : Table) (work : List Entry) (summary : List Summary) (listing : Lis
         listing-is = answer-kept zeroEntry listing (tableListing t radii chosen) refusal some other;
       }
 
-abbrev start-of : tie.After-lots-refusal → tie.Start
+abbrev start-of : tie.After-lots-check → tie.Start
 start-of c = c .before .before .before .before .before
+
+abbrev refusal-of : tie.After-lots-check → ℕ
+refusal-of c = let a = start-of c .args in lotsRefusal (a .table .now) (a .work .now) (a .summary .now) (a .listing .now) (a .radii .now) (a .chosen)
+
+goes : (c : tie.After-order) → (refusal-of (c .before .before) ≡ 0) × (c .order .given .0 .0 .t ≡ orderOf (start-of (c .before .before) .args .table .now))
+goes c = let f = c .before .before in tells (refusal-of f) (start-of f .args .table .now) (Passes (c .order .given .0 .0)) (sym (c .order .given .1) ∙ f .lots-check .ensures)
+
+stops : (c : tie.After-refusal) → (refusal-of (c .before .before) ≡ c .refusal .given .0 .0) × (c .refusal .given .0 .0 ≡ 0 → ⊥)
+stops c = let f = c .before .before in tells (refusal-of f) (start-of f .args .table .now) (Refused (c .refusal .given .0 .0)) (sym (c .refusal .given .1) ∙ f .lots-check .ensures)
+
+draft-table-requires : tie.Need-draft-table-requires
+draft-table-requires c κs = let at = c .before .before .before .before in (goes at .1, goes at .0)
 
 returns : tie.Need-returns
 returns c =
-    let f = c .before .before .before .before .before .before .before .before in
-    let a = start-of f .args in
-    let taken = c .before .before .before .before .before .before .before .if1 .taken in
-    let call = c .before .before .before .draft-table in
-    let is = sym (f .lots-refusal .ensures) ∙ taken in
-    let left = answer (a .table .now) (a .work .now) (a .summary .now) (a .listing .now) (a .radii .now) (a .chosen) is (call .last .1 .0) (call .last .1 .1 .1 .0) (call .last .1 .1 .1 .1 .0) (call .ensures .0) (call .ensures .1 .0) (call .ensures .1 .1) in
+    let taken = c .before .before .before .before .before .before in
+    let r = taken .before .before in
+    let a = start-of (r .before .before) .args in
+    let is = stops r .0 ∙ taken .if1 .taken in
+    let left = short (a .table .now) (a .work .now) (a .summary .now) (a .listing .now) (a .radii .now) (a .chosen) is (c .before .before .before .before .zero-summaries .last .0) (c .before .zero-entries .last .0) (c .before .before .before .before .zero-summaries .ensures) (c .before .zero-entries .ensures) in
     (sym is, (left .work-is, (left .summary-is, left .listing-is)))
 
 returns-2 : tie.Need-returns-2
 returns-2 c =
-    let f = c .before .before .before .before .before .before .before .before in
-    let a = start-of f .args in
-    let taken = c .before .before .before .before .before .before .if2 .taken in
-    let is = sym (f .lots-refusal .ensures) ∙ taken in
-    let left = short (a .table .now) (a .work .now) (a .summary .now) (a .listing .now) (a .radii .now) (a .chosen) is (c .before .before .before .before .zero-summaries .last .0) (c .before .zero-entries .last .0) (c .before .before .before .before .zero-summaries .ensures) (c .before .zero-entries .ensures) in
+    let call = c .before .before .before .draft-table in
+    let at = c .before .before .before .before .before .before .before .before in
+    let a = start-of (at .before .before) .args in
+    let is = goes at .0 in
+    let left = answer (a .table .now) (a .work .now) (a .summary .now) (a .listing .now) (a .radii .now) (a .chosen) is (call .last .1 .1 .0) (call .last .1 .1 .1 .1 .0) (call .last .1 .1 .1 .1 .1 .0) (call .ensures .0) (call .ensures .1 .0) (call .ensures .1 .1) in
     (sym is, (left .work-is, (left .summary-is, left .listing-is)))
 
 returns-3 : tie.Need-returns-3
 returns-3 c =
-    let f = c .before .before in
-    let a = start-of f .args in
-    let left = kept (a .table .now) (a .work .now) (a .summary .now) (a .listing .now) (a .radii .now) (a .chosen) (λ e. c .before .if1 .left (f .lots-refusal .ensures ∙ e)) (λ e. c .if2 .left (f .lots-refusal .ensures ∙ e)) in
-    (f .lots-refusal .ensures, (left .work-is, (left .summary-is, left .listing-is)))
+    let r = c .before .before in
+    let a = start-of (r .before .before) .args in
+    let told : (refusal-of (r .before .before) ≡ r .refusal .given .0 .0) × (r .refusal .given .0 .0 ≡ 0 → ⊥) = stops r in
+    let left = kept (a .table .now) (a .work .now) (a .summary .now) (a .listing .now) (a .radii .now) (a .chosen) (λ e. told .1 (sym (told .0) ∙ e)) (λ e. c .if1 .left (sym (told .0) ∙ e)) in
+    (sym (told .0), (left .work-is, (left .summary-is, left .listing-is)))
 
 pub lots-spec : {M : Type 1} → statement M
 lots-spec =
     tie.close
     (tie.spec
-    (λ c κs. search needs)
-    (λ c κs. search needs)
-    (λ c. search needs)
-    (λ c. search needs)
-    (λ c. search needs)
+    (λ c κs. search needs) (λ c. search needs)
+    draft-table-requires
+    (λ c. search needs) (λ c κs. search needs) (λ c κs. search needs)
+    (λ c. search needs) (λ c. search needs) (λ c. search needs)
     returns
-    (λ c κs. search needs)
-    (λ c κs. search needs)
-    (λ c. search needs)
-    (λ c. search needs)
-    (λ c. search needs)
+    (λ c. search needs) (λ c. search needs) (λ c. search needs)
     returns-2
-    (λ c. search needs)
-    (λ c. search needs)
-    (λ c. search needs)
+    (λ c. search needs) (λ c. search needs) (λ c. search needs)
     returns-3)

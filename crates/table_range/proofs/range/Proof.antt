@@ -11,64 +11,67 @@ use Rattle.metric_rules.proofs.Values.{is-profile}
 use Rattle.table_rules.specs.Geometry.{headerRow, firstSlot, tableRows}
 use Rattle.table_rules.specs.Table.{Table, rowAt}
 use Rattle.table_rules.specs.Search.{rangeMet}
+use Rattle.table_rules.specs.Checks.{readRefusal}
 use Rattle.table_rules.specs.Passed.{Passed}
-use Rattle.table_rules.proofs.Passing.{read-passed}
+use Rattle.table_checks.proofs.Told.{stops, Goes, goes-on}
 use Rattle.table_range.specs.Below.{metBelow}
 use Rattle.table_range.proofs.Adding.{met-all, met-pairs}
 use Rattle.table_range.proofs.Replying.{refused-table, refused-measure, answered}
 use Rattle.table_range.proofs.range.Statement.{statement}
 use Rattle.table_range.proofs.range.Tie as tie
 
+-- the table passed, and the order is its own
+goes : (c : tie.After-order) → Goes (c .before .before .before .args .table .now) (c .order .given .0 .0)
+goes c = goes-on (c .before .before .before .args .table .now) _ (c .order .given .0 .0) (c .before .before .read-check .ensures) (c .order .given .1)
+
 returns : tie.Need-returns
 returns c =
-    let a = c .before .before .before .args in
-    let stop = refused-table (a .table .now) (a .result .now) (a .query) (a .radius) (a .first-day) (c .before .before .read-refusal .result) (c .before .before .read-refusal .ensures) (c .before .if1 .taken) in
+    let r = c .before .before in
+    let a = r .before .before .before .args in
+    let n = r .refusal .given .0 .0 in
+    let told = stops (readRefusal (a .table .now)) (a .table .now) _ n (r .before .before .read-check .ensures) (r .refusal .given .1) in
+    let stop = refused-table (a .table .now) (a .result .now) (a .query) (a .radius) (a .first-day) n (told .0) (told .1) in
     (c .refused .ensures ∙ stop .0, stop .1)
 
 returns-2 : tie.Need-returns-2
 returns-2 c =
-    let a = c .before .before .before .before .before .args in
-    let passes = sym (c .before .before .before .before .read-refusal .ensures) ∙ c .before .before .before .if1 .left in
-    let stop = refused-measure (a .table .now) (a .result .now) (a .query) (a .radius) (a .first-day) passes (sym (c .before .before .valid-measures .ensures) ∙ not-true _ (c .before .if2 .taken)) in
+    let v = c .before .before in
+    let at = v .before .before in
+    let a = at .before .before .before .args in
+    let stop = refused-measure (a .table .now) (a .result .now) (a .query) (a .radius) (a .first-day) (goes at .0) (sym (v .valid-measures .ensures) ∙ not-true _ (c .before .if1 .taken)) in
     (c .refused2 .ensures ∙ stop .0, stop .1)
-
--- past both tests the table passes
-passed : (c : tie.Else2) → Passed (c .before .before .before .before .args .table .now)
-passed c = read-passed _ (sym (c .before .before .before .read-refusal .ensures) ∙ c .before .before .if1 .left)
 
 some-rows : {t : Table} → Passed t → 0 < length t
 unfolding tableRows firstSlot
 some-rows p = omega (arith, p .framed .long)
 
 shared-slice-copy-out-asked-of : tie.Need-shared-slice-copy-out-asked-of
-shared-slice-copy-out-asked-of c = some-rows (passed c)
-
-order-in-requires : tie.Need-order-in-requires
-order-in-requires c κs = some-rows (passed (c .before .before))
+shared-slice-copy-out-asked-of c = some-rows (goes (c .before .before .before) .1 .1)
 
 range-buckets-requires : tie.Need-range-buckets-requires
-range-buckets-requires c κs = (c .before .before .order-in .ensures, passed (c .before .before .before .before .before))
+range-buckets-requires c κs = goes (c .before .before .before .before .before .before .before) .1
 
 returns-3 : tie.Need-returns-3
 unfolding rowAt headerRow
 returns-3 c =
     let call = c .before .before .before .before in
-    let order = call .before .before .before .order-in in
-    let asked = call .before .before .before .before .asked-of in
-    let e = call .before .before .before .before .before .before in
-    let s = e .before .before .before .before in
+    let asked = call .before .before .before .asked-of in
+    let e = call .before .before .before .before .before in
+    let at = e .before .before .before in
+    let s = at .before .before .before in
+    let order = at .order .given .0 .0 in
     let a = s .args in
     let t = a .table .now in
-    let met = metBelow (asked .result) t (suc (order .result .t)) in
+    let met = metBelow (asked .result) t (suc (order .t)) in
     let is : met ≡ rangeMet t (a .query) (a .radius) (a .first-day) =
-    ap₂ (λ (rows : List Row) (n : ℕ). metBelow rows t (suc n)) (asked .ensures) (order .ensures)
+    ap₂ (λ (rows : List Row) (n : ℕ). metBelow rows t (suc n)) (asked .ensures) (goes at .1 .0)
     ∙ met-all t (a .query) (a .radius) (a .first-day) (is-profile (a .query) _ (s .good .1 .1 .0))
     in
     let reply = c .before .reply-with in
     answered t (a .result .now) (a .query) (a .radius) (a .first-day)
-    (sym (e .before .before .before .read-refusal .ensures) ∙ e .before .before .if1 .left)
-    (sym (e .before .valid-measures .ensures) ∙ not-false _ (e .if2 .left))
-    (call .range-buckets .result) (call .range-buckets .last .1 .1 .0) met is (met-pairs (asked .result) t (suc (order .result .t)))
+    (goes at .0)
+    (sym (e .before .valid-measures .ensures) ∙ not-false _ (e .if1 .left))
+    (call .range-buckets .result) (call .range-buckets .last .1 .1 .0) met is (met-pairs (asked .result) t (suc (order .t)))
     (call .range-buckets .ensures .0) (call .range-buckets .ensures .1 .0)
     (reply .result) (reply .last .0) (reply .ensures .0) (reply .ensures .1 .0) (reply .ensures .1 .1)
 
@@ -77,14 +80,15 @@ range-spec =
     tie.close
     (tie.spec
     (λ c κs. search needs)
+    (λ c. search needs)
     (λ c κs. search needs)
     returns
+    (λ c. search needs)
     (λ c κs. search needs)
     (λ c κs. search needs)
     returns-2
     shared-slice-copy-out-asked-of
     (λ c κs. search needs)
-    order-in-requires
     range-buckets-requires
     (λ c κs. search needs)
     (λ c. search needs)

@@ -16,7 +16,7 @@ use Rattle.table_rules.specs.Geometry.{headerRow, firstSlot, tableRows}
 use Rattle.table_rules.specs.Table.{rowAt, orderOf}
 use Rattle.table_rules.specs.Checks.{readRefusal}
 use Rattle.table_rules.specs.Passed.{Passed}
-use Rattle.table_rules.proofs.Passing.{read-passed}
+use Rattle.table_checks.proofs.Told.{stops, Goes, goes-on}
 use Rattle.batch_rules.specs.Batch.{partSize, queriesRefusal}
 use Rattle.table_range_batch.specs.Below.{askedRow, batchOf, hitsBelow, countBelow}
 use Rattle.table_range_batch.proofs.Replying.{zero-at, queries-number, refused-table, refused-queries, parts-fit, pairs, answered}
@@ -25,34 +25,41 @@ use Rattle.table_range_batch.proofs.range_batch.Tie as tie
 
 returns : tie.Need-returns
 returns c =
-    let read = c .before .before .before in
-    let a = read .before .args in
-    let stop = refused-table (a .table .now) (a .result .now) (a .queries .now) (read .read-refusal .result) (read .read-refusal .ensures) (c .before .if1 .taken) in
+    let r = c .before .before in
+    let a = r .before .before .before .args in
+    let n = r .refusal .given .0 .0 in
+    let told = stops (readRefusal (a .table .now)) (a .table .now) _ n (r .before .before .read-check .ensures) (r .refusal .given .1) in
+    let stop = refused-table (a .table .now) (a .result .now) (a .queries .now) n (told .0) (told .1) in
     (c .refused .ensures ∙ stop .0, stop .1)
 
-passes : (c : tie.Else1) → readRefusal (c .before .before .before .args .table .now) ≡ 0
-passes c = sym (c .before .before .read-refusal .ensures) ∙ c .if1 .left
+-- the table passed its tests, and the order is its own
+goes : (c : tie.After-order) → Goes (c .before .before .before .args .table .now) (c .order .given .0 .0)
+goes c = goes-on (c .before .before .before .args .table .now) _ (c .order .given .0 .0) (c .before .before .read-check .ensures) (c .order .given .1)
 
 returns-2 : tie.Need-returns-2
 returns-2 c =
-    let asked = c .before .before .before in
-    let a = asked .before .before .args in
-    let stop = refused-queries (a .table .now) (a .result .now) (a .queries .now) (passes (c .before .before)) (asked .queries-refusal .result) (asked .queries-refusal .ensures) (c .before .if2 .taken) in
+    let asked = c .before .before in
+    let at = asked .before .before in
+    let a = at .before .before .before .args in
+    let stop = refused-queries (a .table .now) (a .result .now) (a .queries .now) (goes at .0) (asked .queries-refusal .result) (asked .queries-refusal .ensures) (c .before .if1 .taken) in
     (c .refused2 .ensures ∙ stop .0, stop .1)
 
 -- past both tests: the table passes, and there are 1 to 16 queries
-module _ (c : tie.Else2) where
+module _ (c : tie.Else1) where
+  abbrev ordered : tie.After-order
+  ordered = c .before .before .before
+
   abbrev start : tie.Start
-  start = c .before .before .before .before
+  start = ordered .before .before .before
 
   queried : queriesRefusal (start .args .queries .now) ≡ 0
-  queried = sym (c .before .before .queries-refusal .ensures) ∙ c .if2 .left
+  queried = sym (c .before .queries-refusal .ensures) ∙ c .if1 .left
 
   number : (1 ≤ length (start .args .queries .now)) × (length (start .args .queries .now) ≤ 16)
   number = queries-number (start .args .queries .now) queried
 
   passed : Passed (start .args .table .now)
-  passed = read-passed _ (passes (c .before))
+  passed = goes ordered .1 .1
 
   some-rows : 0 < length (start .args .table .now)
   unfolding tableRows firstSlot
@@ -60,8 +67,8 @@ module _ (c : tie.Else2) where
 
 -- what the buckets' visit goes by
 module _ (c : tie.After-all-of) where
-  abbrev past : tie.Else2
-  past = c .before .before .before .before
+  abbrev past : tie.Else1
+  past = c .before .before .before
 
   set-first : c .all-of .result + 1 ≡ 2 ^ length (start past .args .queries .now)
   set-first = c .all-of .ensures
@@ -72,11 +79,11 @@ module _ (c : tie.After-all-of) where
   set-some : c .all-of .result ≡ 0 → ⊥
   set-some none = omega (arith, none, set-first, pow-mono {i = 1} {j = length (start past .args .queries .now)} (number past .0))
 
-  batch-is : c .before .before .batch-of .result ≡ batchOf (rowAt (start past .args .table .now) headerRow) (start past .args .queries .now)
+  batch-is : c .before .batch-of .result ≡ batchOf (rowAt (start past .args .table .now) headerRow) (start past .args .queries .now)
   unfolding rowAt headerRow
-  batch-is = c .before .before .batch-of .ensures .0
+  batch-is = c .before .batch-of .ensures .0
 
-  batch-long : length (c .before .before .batch-of .result) ≡ 17
+  batch-long : length (c .before .batch-of .result) ≡ 17
   unfolding batchOf
   batch-long = ap length batch-is ∙ length-sets (replicate 17 (rowAt (start past .args .table .now) headerRow)) 1 (map askedRow (start past .args .queries .now))
 
@@ -87,13 +94,13 @@ buckets-together-requires c κs =
     let p = past all in
     let a = start p .args in
     let n = length (a .queries .now) in (
-      all .before .order-in .ensures,
+      goes (ordered p) .1 .0,
       passed p,
       set-few all,
       set-some all,
       (λ j on.
           let less = ltb-true j n (sym (on-all n (all .all-of .result) (set-first all) j) ∙ on) in
-          omega (arith, parts-fit (a .table .now) (a .result .now) (a .queries .now) (passes (p .before)) (queried p), mul-le-mul-right {m = suc j} {n = n} (length (a .result .now) / n) less)),
+          omega (arith, parts-fit (a .table .now) (a .result .now) (a .queries .now) (goes (ordered p) .0) (queried p), mul-le-mul-right {m = suc j} {n = n} (length (a .result .now) / n) less)),
       record { sixteen = refl; each = λ j. omega (arith, zero-at 16 j) },
       batch-long all,
     )
@@ -106,8 +113,8 @@ module _ (c : tie.After-buckets-together) where
   abbrev begin : tie.Start
   begin = start (past allOf)
 
-  order-is : c .before .before .before .before .before .order-in .result .t ≡ orderOf (begin .args .table .now)
-  order-is = c .before .before .before .before .before .order-in .ensures
+  order-is : ordered (past allOf) .order .given .0 .0 .t ≡ orderOf (begin .args .table .now)
+  order-is = goes (ordered (past allOf)) .1 .0
 
   counts : c .buckets-together .result ≡ countBelow (batchOf (rowAt (begin .args .table .now) headerRow) (begin .args .queries .now)) (allOf .all-of .result) (begin .args .table .now) (suc (orderOf (begin .args .table .now)))
   counts =
@@ -127,11 +134,11 @@ reply-in-parts-requires c κs =
     let p = past (allOf b) in
     let a = start p .args in
     let t = a .table .now in
-    let fit = parts-fit t (a .result .now) (a .queries .now) (passes (p .before)) (queried p) in (
+    let fit = parts-fit t (a .result .now) (a .queries .now) (goes (ordered p) .0) (queried p) in (
       number p .1,
       omega (arith, fit, b .buckets-together .kept .1 .1 .1 .1 .0),
       b .buckets-together .ensures .1 .1,
-      pairs t (a .result .now) (a .queries .now) (passes (p .before)) (queried p) (allOf b .before .before .batch-of .ensures .1) (allOf b .all-of .result) (set-first (allOf b)) _ _ (b .buckets-together .result) (collects b) (counts b),
+      pairs t (a .result .now) (a .queries .now) (goes (ordered p) .0) (queried p) (allOf b .before .batch-of .ensures .1) (allOf b .all-of .result) (set-first (allOf b)) _ _ (b .buckets-together .result) (collects b) (counts b),
       b .buckets-together .ensures .0 .1,
     )
 
@@ -142,7 +149,7 @@ returns-3 c =
     let b = c .before .before .before .before .before in
     let p = past (allOf b) in
     let a = start p .args in
-    answered (a .table .now) (a .result .now) (a .queries .now) (passes (p .before)) (queried p) (allOf b .before .before .batch-of .ensures .1) (allOf b .all-of .result) (set-first (allOf b)) _ _ (b .buckets-together .result) (collects b) (counts b)
+    answered (a .table .now) (a .result .now) (a .queries .now) (goes (ordered p) .0) (queried p) (allOf b .before .batch-of .ensures .1) (allOf b .all-of .result) (set-first (allOf b)) _ _ (b .buckets-together .result) (collects b) (counts b)
     (b .buckets-together .kept .1 .1 .1 .1 .0) (reply .result) (reply .last .0) (reply .ensures .0) (reply .ensures .1 .0) (reply .ensures .1 .1)
 
 pub range-batch-spec : {M : Type 1} → statement M
@@ -150,16 +157,17 @@ range-batch-spec =
     tie.close
     (tie.spec
     (λ c κs. search needs)
-    (λ c κs. search needs)
+    (λ c. search needs)
     (λ c κs. search needs)
     returns
+    (λ c. search needs)
+    (λ c κs. search needs)
     (λ c κs. search needs)
     returns-2
     (λ c. number c .0)
     some-rows
     (λ c κs. number (c .before) .1)
-    (λ c κs. some-rows (c .before .before))
-    (λ c κs. number (c .before .before .before) .1)
+    (λ c κs. number (c .before .before) .1)
     buckets-together-requires
     reply-in-parts-requires
     (λ c. search needs)

@@ -1,5 +1,5 @@
 -- `text_read::measure` meets its contract: the next part, without its sign and with it.
-use mathlib.Core.Path.{ap, _∙_}
+use mathlib.Core.Path.{refl, ap, _∙_}
 use native.Mathlib.Omega.{arith}
 use borrow.Author.Needs.{needs}
 use Rattle.text_read.specs.Found.{sizeIn}
@@ -8,7 +8,7 @@ use Rattle.text_read.proofs.measure.Statement.{statement}
 use Rattle.text_read.proofs.measure.Tie as tie
 
 returns : tie.Need-returns
-returns c = none-measured _ _ _ _ (c .if1 .taken)
+returns c = (refl, none-measured _ _ _ _ (c .if1 .taken))
 
 signed-requires : tie.Need-signed-requires
 signed-requires c κs = size-fits _ _ (c .before .hundredths .ensures)

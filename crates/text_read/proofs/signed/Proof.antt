@@ -5,9 +5,12 @@ use mir.Syntax.{w32}
 use mir.Facts.{toZ-ofZ, toZ-pos}
 use borrow.Author.Needs.{needs}
 use Rattle.text_rules.proofs.Signs.{negated, negated-fits}
-use Rattle.text_read.proofs.Forms.{size-small, negative-size, plain-size}
+use Rattle.text_read.proofs.Forms.{size-small, no-size, negative-size, plain-size}
 use Rattle.text_read.proofs.signed.Statement.{statement}
 use Rattle.text_read.proofs.signed.Tie as tie
+
+returns : tie.Need-returns
+returns c = no-size _ _ (c .enum-told .given .1)
 
 cast-t6 : tie.Need-cast-t6
 cast-t6 c =
@@ -37,4 +40,4 @@ returns-3 c =
 pub signed-spec : {M : Type 1} → statement M
 signed-spec =
     tie.close
-    (tie.spec (λ c. search needs) (λ c. search needs) (λ c. search needs) cast-t6 sub-t7 returns-2 cast-t8 returns-3)
+    (tie.spec (λ c. search needs) (λ c. search needs) returns cast-t6 sub-t7 returns-2 cast-t8 returns-3)

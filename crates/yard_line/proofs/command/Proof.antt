@@ -5,6 +5,7 @@ use lib.ListN.{take}
 use borrow.Author.Needs.{needs}
 use Rattle.yard_rules.specs.Line.{onlyByte}
 use Rattle.yard_line.specs.declared.WordRead.the-variants.{Word, NoWord}
+use Rattle.yard_line.specs.Found.{wordAnswerOf}
 use Rattle.yard_line.proofs.Fields.{two-fields, first-byte, long-letter, one-field, whole-is}
 use Rattle.yard_line.proofs.command.Statement.{statement}
 use Rattle.yard_line.proofs.command.Tie as tie
@@ -28,7 +29,7 @@ returns-3 c =
     let line = start-of read .args .line .now in
     let parts = two-fields line (first-end read .part-end .ensures) (omega arith) (read .before .before .part-end2 .ensures) in
     let letter = first-byte line (omega arith) ∙ ap (λ k. onlyByte (take k line)) (sym (read .before .before .before .before .if1 .left)) in
-    whole-is line parts letter NoWord (sym (c .enum-told .given .1) ∙ read .day-for .ensures)
+    whole-is line parts letter (wordAnswerOf NoWord) (ap wordAnswerOf (sym (c .enum-told .given .1)) ∙ read .day-for .ensures)
 
 returns-4 : tie.Need-returns-4
 returns-4 c =
@@ -36,7 +37,8 @@ returns-4 c =
     let line = start-of read .args .line .now in
     let parts = two-fields line (first-end read .part-end .ensures) (omega arith) (read .before .before .part-end2 .ensures) in
     let letter = first-byte line (omega arith) ∙ ap (λ k. onlyByte (take k line)) (sym (read .before .before .before .before .if1 .left)) in
-    c .command-of .ensures ∙ whole-is line parts letter (Word _) (sym (c .before .before .before .day .given .1) ∙ read .day-for .ensures)
+    c .command-of .ensures
+    ∙ whole-is line parts letter (wordAnswerOf (Word _)) (ap wordAnswerOf (sym (c .before .before .before .day .given .1)) ∙ read .day-for .ensures)
 
 pub command-spec : {M : Type 1} → statement M
 command-spec =

@@ -7,12 +7,16 @@ use vpindex::{ImageFault, ImageRefusal, Refusal, Table};
 use super::told;
 use crate::args::Args;
 use crate::file;
-use crate::json::{Json, list, number, object, text};
+use crate::json::{Json, list, number, text};
 use crate::report::{Outcome, Report};
 use crate::words;
 
 // Of a line of bytes.
 const WIDTH: usize = 16;
+
+// What "accepted" does not say.
+const NOT_SAID: &str = "Accepted means that no rule of an image is broken, not that no byte was changed since it was \
+                        written:\nan image has no checksum. sha256sum beside a copy tells that.\n";
 
 pub fn run(args: &Args) -> Outcome {
     let path = args.name(0);
@@ -20,12 +24,16 @@ pub fn run(args: &Args) -> Outcome {
     Ok(match Table::load(&bytes) {
         Ok(table) => {
             let (form, order, head) = (words::form(&bytes), table.order(), table.len());
-            let text = || format!("{path} is accepted: form {form}, order {order}, {head} head\n");
-            told(args, text, || object([("accepted", Json::Bool(true)), ("refusal", number(0))]))
+            let text = || format!("{path} is accepted: form {form}, order {order}, {head} head\n{NOT_SAID}");
+            let json = || {
+                let front = [("accepted", Json::Bool(true)), ("refusal", number(0)), ("form", number(form))];
+                Json::Object(front.into_iter().chain([("order", number(order)), ("head", number(head))]).collect())
+            };
+            told(args, text, json)
         }
         Err(refused) => {
             let report = told(args, || in_words(&bytes, &refused), || json(&refused));
-            Report { refused: vec![format!("{path}: {refused}")], ..report }
+            Report { refused: vec![format!("{path}: {}", file::why_no_image(&bytes, &refused))], ..report }
         }
     })
 }
@@ -64,7 +72,7 @@ fn in_words(bytes: &[u8], refused: &ImageRefusal) -> String {
     let place = fault.iter().flat_map(|fault| {
         let bucket = fault.bucket.map(|bucket| ("bucket", bucket.to_string()));
         let slot = fault.slot.map(|at| ("slot", format!("{}, slot {} of its bucket", at.slot, at.place)));
-        let field = [("field", fault.field.to_string()), ("bytes", span(&fault.bytes))];
+        let field = [("field", words::of_herd(fault.field)), ("bytes", span(&fault.bytes))];
         bucket.into_iter().chain(slot).chain(field)
     });
     let lines: String = front.into_iter().chain(place).map(|(name, value)| format!("{name:<9}{value}\n")).collect();
@@ -109,7 +117,7 @@ fn json(refused: &ImageRefusal) -> Json {
         ("refusal", number(refusal.number())),
         ("name", text(name(*refusal))),
         ("rule", text(rule(refused))),
-        ("words", text(refused)),
+        ("words", text(words::of_herd(refused))),
     ];
     Json::Object(front.into_iter().chain(fault.iter().flat_map(place)).collect())
 }
@@ -117,7 +125,7 @@ fn json(refused: &ImageRefusal) -> Json {
 fn place(fault: &ImageFault) -> [(&'static str, Json); 5] {
     let maybe = |value: Option<u32>| value.map_or(Json::None, number);
     [
-        ("field", text(fault.field)),
+        ("field", text(words::of_herd(fault.field))),
         ("bytes", list([number(fault.bytes.start), number(fault.bytes.end)])),
         ("bucket", maybe(fault.bucket)),
         ("slot", maybe(fault.slot.map(|at| at.slot))),

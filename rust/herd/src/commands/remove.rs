@@ -1,7 +1,5 @@
 //! `herd remove`: head removed, all of them or none.
 
-use vpindex::Tag;
-
 use super::told;
 use crate::args::{Args, misuse};
 use crate::file::Image;
@@ -10,7 +8,7 @@ use crate::report::Outcome;
 use crate::words;
 
 pub fn run(args: &Args) -> Outcome {
-    let tags: Vec<Tag> = args.rest(1, "TAG")?;
+    let tags = args.tags(1)?;
     if let Some(twice) = tags.iter().enumerate().find(|(at, tag)| tags[..*at].contains(tag)) {
         return misuse(format!("TAG `{}` is there twice", twice.1));
     }
@@ -19,7 +17,9 @@ pub fn run(args: &Args) -> Outcome {
         let removed = image.table.remove(*tag);
         removed.map_err(|refusal| image.refused(format!("{}; none was removed", words::refused(*tag, refusal))))?;
     }
-    image.replace()?;
+    if !tags.is_empty() {
+        image.replace()?;
+    }
     let (removed, head) = (tags.len(), image.table.len());
     let text = || format!("{removed} removed from {}, {head} head now\n", args.name(0));
     Ok(told(args, text, || object([("removed", number(removed)), ("head", number(head))])))

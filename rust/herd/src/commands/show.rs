@@ -37,10 +37,10 @@ fn buckets(table: &Table) -> String {
         let (room, built, live) = (bucket.room(), bucket.built(), bucket.live());
         let [number, room_of, built_of, live_of, dead] =
             [bucket.number() as usize, room, built, live, built - live].map(|count| count.to_string());
-        [number, room_of, built_of, live_of, dead, bucket_bar(live, built, room)]
+        vec![number, room_of, built_of, live_of, dead, bucket_bar(live, built, room)]
     };
     let rows: Vec<_> = table.buckets().map(row).collect();
-    columns([" bucket", " room", " built", " live", " dead", ""], &rows)
+    columns(&[" bucket", " room", " built", " live", " dead", ""], &rows)
 }
 
 fn json(image: &Image) -> Json {
