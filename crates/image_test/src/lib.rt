@@ -20,7 +20,7 @@ use image_entries::tag_entry;
 use image_layout::tree_fault;
 use image_read::Header;
 use image_read::Slots;
-use image_read::built_in;
+use image_read::sizes_in;
 use image_read::slot_in;
 use image_read::some_of;
 use image_rules::Loaded;
@@ -78,7 +78,8 @@ fn each_tree_fault(
     let mut first = 0;
     let mut k = 0;
     while k < buckets {
-        let count = built_in(image, form, k) as usize;
+        let sizes = sizes_in(image, form, k);
+        let count = sizes.built as usize;
         let at = some_of(all, first, count);
         let fault = tree_fault(image, at, row, &mut entries[..count]);
         if fault.refusal != 0 {

@@ -123,8 +123,8 @@ fn print_object(i: usize) {
     print_number(rows::threshold_of(row) as u64);
     print_number(rows::mark_of(row) as u64);
     print_number(rows::day_of(row) as u64);
-    print_number(metric::valid_tag(tag_at(i)) as u64);
-    print_last(metric::valid_measures(profile_at(i)) as u64);
+    print_number(validity::valid_tag(tag_at(i)) as u64);
+    print_last(validity::valid_measures(profile_at(i)) as u64);
 }
 
 fn print_objects() {
@@ -190,7 +190,7 @@ fn print_distances() {
 
 fn print_tag(tag: u64) {
     print_number(tag);
-    print_last(metric::valid_tag(tag) as u64);
+    print_last(validity::valid_tag(tag) as u64);
 }
 
 fn print_tags() {

@@ -6,7 +6,7 @@ ghost use lib.ListN.{length};
 ghost use lib.Seq.{sets};
 ghost use Rattle.lists.specs.Lists.{countFrom};
 ghost use Rattle.metric_rules.specs.Row.{zeroRow};
-ghost use Rattle.table_rules.specs.Geometry.{workRows};
+ghost use Rattle.table_rules.specs.Geometry.{mostOrder, room, workRows};
 ghost use Rattle.table_rules.specs.Table.{orderOf, emptied, cleared};
 ghost use Rattle.table_rules.specs.Rebuild.{liveItems};
 ghost use Rattle.table_rules.specs.Add.{addRefusal, lowestEmpty, addBucket, addTarget, added};
@@ -66,7 +66,7 @@ fn empty_below(table: &mut [Row], order: Order, k: u32)
 
 // Line 2 of Algorithm 2: n items whose lowest empty bucket is k are built in k if they are more than 2^(k-1), half its room, else in k - 1.
 fn add_bucket(k: u32, n: usize) -> u32
-    requires { ⌜ (k < 32) × (1 ≤ n) × (n ≤ 4096) ⌝ }
+    requires { ⌜ (k < 32) × (1 ≤ n) × (n ≤ room mostOrder) ⌝ }
     ensures { λ r. ⌜ r ≡ addBucket k n ⌝ }
 {
     if Order::room(k) < 2 * n { k } else { k - 1 }

@@ -10,7 +10,6 @@ ghost use Rattle.table_rules.specs.Table.{orderOf};
 ghost use Rattle.table_rules.specs.Passed.{Passed};
 ghost use Rattle.table_rules.specs.Search.{nearestReply, resultAfterNearest};
 ghost use Rattle.table_nearest.specs.Tallies.{noneKept, reportedBelow, tallyBelow};
-use metric::valid_measures;
 use metric_rules::Profile;
 use metric_rules::Row;
 use rows::threshold_of;
@@ -33,6 +32,7 @@ use tree_nearest::Nearby;
 use tree_nearest::UNBOUNDED;
 use tree_nearest::kept_under;
 use tree_nearest_tally::visited;
+use validity::valid_measures;
 
 // How many of these slots a search by this query may report.
 fn count_reported(slots: &[Row], query: &Row) -> usize

@@ -18,26 +18,25 @@ ghost use Rattle.table_range_batch.specs.Below.{askedRow, batchOf, hitsB
 use batch_rules::BAD_BATCH;
 use batch_rules::MOST_QUERIES;
 use batch_rules::Ranges;
-use metric::valid_measures;
 use metric_rules::Row;
-use row_store::row_of;
 use rows::day_of;
 use rows::profile_of;
 use rows::threshold_of;
+use search_asked::query_row;
 use search_reply::zero_entries;
 use search_rules::Entry;
 use table_checks::Checked;
 use table_checks::read_check;
 use table_order::Order;
-use table_range::reply_with;
+use table_range::put_in_order;
 use table_rules::BAD_MEASURE;
 use table_rules::NO_ROOM;
 use table_views::HEADER_ROW;
 use table_views::slots_of;
-use tree_range::Found;
 use tree_range_batch::Batch;
 use tree_range_batch::Numbers;
 use tree_range_batch::range_together;
+use validity::valid_measures;
 
 // A day has 16 bits.
 const DAYS: u32 = 65536;
@@ -71,13 +70,7 @@ fn queries_refusal(queries: &[Row]) -> u32
 fn asked_row(query: Row) -> Row
     ensures { λ r. ⌜ (r ≡ askedRow query) × IsProfile (profileOf query) ⌝ }
 {
-    row_of(
-        0,
-        profile_of(query),
-        threshold_of(query),
-        0,
-        day_of(query) % DAYS,
-    )
+    query_row(profile_of(query), threshold_of(query), day_of(query) % DAYS)
 }
 
 // What a batch goes by, made once.
@@ -152,10 +145,10 @@ fn order_parts(area: &mut [Entry], found: &Numbers, n: usize, part: usize) -> bo
         let start = j * part;
         let end = start + part;
         let hits = found[j];
-        let reply = reply_with(&mut area[start..end], Found { hits, count: 0 });
-        if reply.refusal != 0 {
+        if part < hits {
             return false;
         }
+        put_in_order(&mut area[start..end], hits);
         j += 1;
     }
     true
@@ -219,14 +212,13 @@ pub fn range_batch(table: &[Row], result: &mut [Entry], queries: &[Row]) -> Rang
     ensures reply { λ r. ⌜ r ≡ rangeBatchReply (now (table .entry)) (now (result .entry)) (now (queries .entry)) ⌝ }
     ensures area { λ _. ⌜ now (result .exit) ≡ resultAfterBatch (now (table .entry)) (now (result .entry)) (now (queries .entry)) ⌝ }
 {
-    let checked = read_check(table);
-    let queries_stop = queries_refusal(queries);
-    let order = match checked {
+    let order = match read_check(table) {
         Checked::Refused(refusal) => return refused(refusal),
         Checked::Passes(order) => order,
     };
-    if queries_stop != 0 {
-        return refused(queries_stop);
+    let refusal = queries_refusal(queries);
+    if refusal != 0 {
+        return refused(refusal);
     }
     let n = queries.len();
     let part = result.len() / n;

@@ -7,7 +7,6 @@ ghost use Rattle.table_rules.specs.Geometry.{room, firstSlot};
 ghost use Rattle.table_rules.specs.Table.{rowAt, liveOf};
 ghost use Rattle.table_rules.specs.Remove.{marked, removeReply, tableAfterRemove, workAfterRemove};
 ghost use Rattle.table_buckets.specs.OfOrder.{OfOrder};
-use metric::valid_tag;
 use metric_rules::MARK_AT;
 use metric_rules::Row;
 use table_after_deletion::after_deletion;
@@ -22,6 +21,7 @@ use table_rules::NOT_LIVE;
 use table_rules::Removed;
 use table_views::built_of;
 use table_views::live_of;
+use validity::valid_tag;
 
 // The row of an item that is no longer live. A row by value has all its words, and says so for the rows of a table, of which nothing else does.
 fn dead(row: Row) -> Row
