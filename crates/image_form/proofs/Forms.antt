@@ -9,7 +9,8 @@ use mathlib.Core.Bool.{Bool, true, false}
 use borrow.Author.Tests.{le-leb, lt-leb}
 use Rattle.lists.specs.Lists.{total}
 use Rattle.table_rules.specs.Refusals.{badImage}
-use Rattle.image_rules.specs.Bytes.{lastForm, validForm, startFields, weightFields, headerFields, dayFields, recordFields, headerBytes, tagBytes, recordBytes, sizesEnd, imageLength}
+use Rattle.image_rules.specs.Bytes.{lastForm, validForm, startFields, weightFields, headerFields, dayFields, recordFields, headerBytes, tagBytes, recordBytes}
+use Rattle.image_rules.specs.Bytes.{sizesEnd, imageLength}
 use Rattle.image_form.specs.declared.Formed.the-variants.{Is, Unknown}
 use Rattle.image_form.specs.declared.Form.{Form}
 use Rattle.image_form.specs.Answers.{Answer, answerOf, formAnswer}

@@ -1,12 +1,14 @@
--- Load's checks before the trees, in steps: those of the start, those of the weights, those of the sizes and lengths, and those of the slots' fields, each with 0 where all pass;
--- and what the code answers to the first and the third (RULES 12.4).
+-- Load's checks before the trees, in steps: those of the start, those of the weights, those of the sizes and lengths,
+-- and those of the slots' fields, each with 0 where all pass; and what the code answers to the first and the third
+-- (RULES 12.4).
 use Prim.Native.Nat.{ℕ, zero, suc}
 use mathlib.Core.Bool.{Bool}
 use mathlib.Core.List.{List}
 use lib.ListN.{length}
 use lib.Dec.{leb, ltb, eqb}
 use Rattle.metric_rules.specs.Distance.{validMetric, validWeights}
-use Rattle.table_rules.specs.Refusals.{badOrder, badMetric, badDay, badLength, badImage, shortArea, badTable, unless, when}
+use Rattle.table_rules.specs.Refusals.{badOrder, badMetric, badDay, badLength, badImage, shortArea, badTable, unless}
+use Rattle.table_rules.specs.Refusals.{when}
 use Rattle.table_rules.specs.Geometry.{validOrder, tableRows}
 use Rattle.table_rules.specs.Checks.{sizesPass}
 use Rattle.image_rules.specs.Bytes.{validForm, startBytes, headerBytes, sizesEnd, imageLength}
@@ -62,7 +64,8 @@ startIn image = record { order = record { t = orderIn image }; metric = spaceIn 
 unfoldable pub headerIn : List ℕ → Header
 headerIn image = record { order = record { t = orderIn image }; space = spaceIn image; form = record { number = formIn image } }
 
--- what is answered by a refusal: the beginning, and where all slots stand, where it is 0, and otherwise the refusal itself
+-- what is answered by a refusal: the beginning, and where all slots stand, where it is 0, and otherwise the refusal
+-- itself
 unfoldable pub opened : ℕ → List ℕ → Opened
 opened refusal image = elim refusal [ zero ↦ start-told.Is (startIn image) | suc n ↦ start-told.Refused (suc n) ]
 

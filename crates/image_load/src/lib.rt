@@ -55,7 +55,8 @@ pub enum Placed {
     Refused(u32),
 }
 
-// Under 4 bytes 7, order 3, metric 4, form 8, weights cut 7. Nothing else of the image is read before its form is known.
+// Under 4 bytes 7, order 3, metric 4, form 8, weights cut 7. Nothing else of the image is read before its form is
+// known.
 fn start_check(image: &[u8]) -> Opened
     ensures { λ r. ⌜ r ≡ opened (startRefusal (now (image .entry))) (now (image .entry)) ⌝ }
 {

@@ -1,10 +1,12 @@
-// The numbers of an image at their places, and its slots as rows. Two that stand together are read through a reader, and one by itself at its place.
+// The numbers of an image at their places, and its slots as rows. Two that stand together are read through a reader,
+// and one by itself at its place.
 ghost use mathlib.Core.Path.{_≡_};
 ghost use Prim.Native.Nat.{_+_, _≤_, _<_, _^_};
 ghost use mathlib.Core.List.{[], _∷_, _++_};
 ghost use lib.ListN.{length};
 ghost use Rattle.table_rules.specs.Geometry.{mostOrder};
-ghost use Rattle.image_rules.specs.Bytes.{startBytes, headerBytes, tagFields, dayFields, recordFields, tagBytes, recordBytes};
+ghost use Rattle.image_rules.specs.Bytes.{startBytes, headerBytes, tagFields, dayFields, recordFields, tagBytes};
+ghost use Rattle.image_rules.specs.Bytes.{recordBytes};
 ghost use Rattle.image_rules.specs.Read.{fieldsAt, orderIn, weightsAs, dayAs, builtIn, liveIn, slotsIn};
 ghost use Rattle.image_read.specs.InImage.{Started, Headed, HasSizes, InImage, allSlots, slotIn};
 use image_form::Form;
@@ -48,8 +50,8 @@ pub struct Sizes {
     pub live: u32,
 }
 
-// Slots of an image that stand one behind the other, as all slots do and those of a bucket: the image's form, the places of all tags and of all
-// records, the number of the first slot among all, and how many there are.
+// Slots of an image that stand one behind the other, as all slots do and those of a bucket: the image's form, the
+// places of all tags and of all records, the number of the first slot among all, and how many there are.
 pub struct Slots {
     pub form: Form,
     pub tags: usize,

@@ -1,6 +1,7 @@
-// A reader of an image: it holds the image and its position. What it does is done by functions over a slice and a number, so each function over a reader
-// is thin: the borrow checker covers none that takes, makes or has one, and their proofs are walks by hand. Callers need none of them:
-// `two_from` has plain parameters, and `number_at` is what a reader's next number is read by.
+// A reader of an image: it holds the image and its position. What it does is done by functions over a slice and a
+// number, so each function over a reader is thin: the borrow checker covers none that takes, makes or has one, and
+// their proofs are walks by hand. Callers need none of them: `two_from` has plain parameters, and `number_at` is what a
+// reader's next number is read by.
 ghost use mathlib.Core.Path.{_≡_};
 ghost use mathlib.Core.Bool.{true};
 ghost use Prim.Native.Nat.{_+_, _*_, _≤_};

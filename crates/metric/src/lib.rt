@@ -30,8 +30,8 @@ const MOST_DISTANCE: u32 = 0xffff_ffff;
 // Half the range of a word.
 const HALF_RANGE: u32 = 0x8000_0000;
 
-// The absolute difference of the signed numbers that two words hold. Moved up by half the range they are unsigned, in the same order and as far
-// apart. So there is no case for each sign, and every difference fits.
+// The absolute difference of the signed numbers that two words hold. Moved up by half the range they are unsigned, in
+// the same order and as far apart. So there is no case for each sign, and every difference fits.
 fn gap_of(a: u32, b: u32) -> u32
     ensures { λ r. ⌜ r ≡ natAbs (toZ w32 a -ℤ toZ w32 b) ⌝ }
 {
@@ -57,7 +57,8 @@ fn saturate(n: u64) -> u32
     }
 }
 
-// The sum of four products, saturated once, at the end. One that is past 32 bits decides, so that no sum wraps; the four tests are one for the compiler.
+// The sum of four products, saturated once, at the end. One that is past 32 bits decides, so that no sum wraps; the
+// four tests are one for the compiler.
 fn saturated_sum(a: u64, b: u64, c: u64, d: u64) -> u32
     ensures { λ r. ⌜ r ≡ saturated (a + b + c + d) ⌝ }
 {
@@ -74,8 +75,8 @@ fn larger(a: u64, b: u64) -> u64
     if a < b { b } else { a }
 }
 
-// Metrics 0 and 2: the sum and the largest of the four measures' weighted differences. The differences stand here once, so that a distance stays small
-// enough to be inlined where it is taken.
+// Metrics 0 and 2: the sum and the largest of the four measures' weighted differences. The differences stand here once,
+// so that a distance stays small enough to be inlined where it is taken.
 fn measure_distance(header: &Row, a: Row, b: Row) -> u32
     requires { ⌜ (spaceOf (now header) .metric ≡ 1 → ⊥) ⌝ }
     ensures { λ r. ⌜ r ≡ distance (spaceOf (now (header .entry))) (profileOf a) (profileOf b) ⌝ }
@@ -114,8 +115,8 @@ fn code_distance(a: Row, b: Row) -> u32
     first + second
 }
 
-// The distance between the profiles of two rows, by the metric and the weights of a table's header row. A number that is no metric reads as 2. A search makes its query a row
-// once (`row_of`), so that each slot costs a row against a row.
+// The distance between the profiles of two rows, by the metric and the weights of a table's header row. A number that
+// is no metric reads as 2. A search makes its query a row once (`row_of`), so that each slot costs a row against a row.
 pub fn distance_between(header: &Row, a: Row, b: Row) -> u32
     ensures { λ r. ⌜ r ≡ distance (spaceOf (now (header .entry))) (profileOf a) (profileOf b) ⌝ }
 {

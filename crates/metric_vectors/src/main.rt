@@ -108,7 +108,8 @@ fn print_profile(profile: Profile, expected: [i32; 4]) {
     print_space();
 }
 
-// The row of object i's fields; then the fields of its row in the table, and whether its tag and its measures are valid.
+// The row of object i's fields; then the fields of its row in the table, and whether its tag and its measures are
+// valid.
 fn print_object(i: usize) {
     let row = row_at(i);
     print_words(row_store::row_of(
@@ -161,7 +162,8 @@ fn print_weighted(weights: [u32; 4], a: Row, b: Row) {
     print_number(weighted(2, weights, a, b));
 }
 
-// The distances of objects i and j: by each metric and by a number that is none, then from a row to a query, then with other weights.
+// The distances of objects i and j: by each metric and by a number that is none, then from a row to a query, then with
+// other weights.
 fn print_pair(i: usize, j: usize) {
     let a = row_at(i);
     let b = row_at(j);

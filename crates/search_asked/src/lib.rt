@@ -8,8 +8,8 @@ use row_store::row_of;
 use rows::day_of;
 use rows::is_live;
 
-// The table's header row, and the query as a row whose threshold word is the radius of a range search or the k of a nearest one, and whose
-// day word is the first day.
+// The table's header row, and the query as a row whose threshold word is the radius of a range search or the k of a
+// nearest one, and whose day word is the first day.
 pub type Asked = [Row; 2];
 
 // The query's row.

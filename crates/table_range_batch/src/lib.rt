@@ -1,4 +1,5 @@
-// Range for several queries over a table: one visit of the buckets, from the top down, for all of them; then each part of the area is put in order.
+// Range for several queries over a table: one visit of the buckets, from the top down, for all of them; then each part
+// of the area is put in order.
 ghost use mathlib.Core.Path.{_≡_};
 ghost use mathlib.Core.Bool.{true, false};
 ghost use Prim.Native.Nat.{ℕ, _+_, _*_, _≤_, _<_, _^_, suc};
@@ -14,7 +15,8 @@ ghost use Rattle.table_rules.specs.Table.{orderOf};
 ghost use Rattle.table_rules.specs.Passed.{Passed};
 ghost use Rattle.table_rules.specs.Search.{zeroEntry};
 ghost use Rattle.batch_rules.specs.Batch.{queriesRefusal, rangeBatchReply, resultAfterBatch};
-ghost use Rattle.table_range_batch.specs.Below.{askedRow, batchOf, hitsBelow, countBelow, hitsIn, Ordered, InParts};
+ghost use Rattle.table_range_batch.specs.Below.{askedRow, batchOf, hitsBelow, countBelow, hitsIn, Ordered};
+ghost use Rattle.table_range_batch.specs.Below.{InParts};
 use batch_rules::BAD_BATCH;
 use batch_rules::MOST_QUERIES;
 use batch_rules::Ranges;
@@ -134,7 +136,8 @@ fn buckets_together(
     count
 }
 
-// Each part with its query's hits in order and zeros after them, as the single call leaves its area; false where a part does not hold them.
+// Each part with its query's hits in order and zeros after them, as the single call leaves its area; false where a part
+// does not hold them.
 fn order_parts(area: &mut [Entry], found: &Numbers, n: usize, part: usize) -> bool
     requires { ⌜ (n ≤ 16) × (n * part ≤ length (now area)) × Fewer 0 (now found) × ((j : ℕ) → j < n → getD (now found) j 0 ≤ part → All Pair (hitsIn part (now found) (now area) j)) ⌝ }
     ensures fits { λ r. ⌜ r ≡ every (λ hits. leb hits part) (take n (now (found .entry))) ⌝ }
@@ -180,7 +183,8 @@ fn refused(refusal: u32) -> Ranges
     }
 }
 
-// The reply, once each query's hits lie in its part: the parts in order and zeros in what is left over, or 6 and zeros all over.
+// The reply, once each query's hits lie in its part: the parts in order and zeros in what is left over, or 6 and zeros
+// all over.
 fn reply_in_parts(
     area: &mut [Entry],
     found: &Numbers,
@@ -207,7 +211,8 @@ fn reply_in_parts(
     }
 }
 
-// RULES 11.12 to 11.15, range for several queries over a table: every value of every argument, a table and areas of any length and content.
+// RULES 11.12 to 11.15, range for several queries over a table: every value of every argument, a table and areas of any
+// length and content.
 pub fn range_batch(table: &[Row], result: &mut [Entry], queries: &[Row]) -> Ranges
     ensures reply { λ r. ⌜ r ≡ rangeBatchReply (now (table .entry)) (now (result .entry)) (now (queries .entry)) ⌝ }
     ensures area { λ _. ⌜ now (result .exit) ≡ resultAfterBatch (now (table .entry)) (now (result .entry)) (now (queries .entry)) ⌝ }

@@ -38,8 +38,8 @@ pub fn clear(work: &mut [Row], order: Order, n: usize)
     zero_rows(&mut work[n..end]);
 }
 
-// Bucket k is built of the first n rows of the work area, all of them live, and the work area is left zero. At most 2^12 items are built, and so few
-// distances fit 32 bits.
+// Bucket k is built of the first n rows of the work area, all of them live, and the work area is left zero. At most
+// 2^12 items are built, and so few distances fit 32 bits.
 pub fn build_bucket(table: &mut [Row], order: Order, k: u32, work: &mut [Row], n: usize) -> u32
     requires { ⌜ OfOrder (now table) (order .t) × (k ≤ order .t) × (n ≤ room k) × (workRows (order .t) ≤ length (now work)) ⌝ }
     ensures table { λ _. ⌜ now (table .exit) ≡ putBucket k (layout (distance (tableSpace (now (table .entry)))) (take n (now (work .entry)))) n (now (table .entry)) ⌝ }

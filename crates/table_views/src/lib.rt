@@ -1,4 +1,5 @@
-// What a table's header and size rows show: its order, whether its metric is one, its weights, and the sizes of its buckets.
+// What a table's header and size rows show: its order, whether its metric is one, its weights, and the sizes of its
+// buckets.
 ghost use mathlib.Core.Path.{_≡_};
 ghost use mathlib.Core.List.{map};
 ghost use Prim.Native.Nat.{_+_, _≤_, _<_};

@@ -1,5 +1,5 @@
-// Up to seven slots of a tree at once. Their distances are worked out with no branch that depends on one, so that the processor works on several at
-// a time; a search then goes by them.
+// Up to seven slots of a tree at once. Their distances are worked out with no branch that depends on one, so that the
+// processor works on several at a time; a search then goes by them.
 ghost use mathlib.Core.Path.{_≡_};
 ghost use Prim.Native.Nat.{_+_, _≤_, _<_, _^_};
 ghost use lib.Dec.{leb};
@@ -16,7 +16,8 @@ pub type Distances = [u64; 8];
 
 const MOST_DISTANCE: u64 = 0xffff_ffff;
 
-// The distances of at most seven slots. The reply is the least of them. The number 7 in the loop lets the compiler write it out.
+// The distances of at most seven slots. The reply is the least of them. The number 7 in the loop lets the compiler
+// write it out.
 pub fn distances_of(slots: &[Row], asked: &Asked, into: &mut Distances) -> u64
     requires { ⌜ (length (now slots) < 8) × (length (now into) ≡ 8) ⌝ }
     ensures each { λ _. ⌜ take (length (now (slots .entry))) (now (into .exit)) ≡ distancesAsked (now (asked .entry)) (now (slots .entry)) ⌝ }
@@ -33,8 +34,8 @@ pub fn distances_of(slots: &[Row], asked: &Asked, into: &mut Distances) -> u64
     least
 }
 
-// The n slots of the left half below a slot at distance d and of threshold m count where the half is entered. The right half's test is this with d
-// and m exchanged.
+// The n slots of the left half below a slot at distance d and of threshold m count where the half is entered. The right
+// half's test is this with d and m exchanged.
 fn half_count(d: u64, m: u64, bound: u64, n: usize) -> usize
     requires { ⌜ (m < 2 ^ 32) × (bound < 2 ^ 32) ⌝ }
     ensures { λ r. ⌜ r ≡ countIf (leb d (m + bound)) n ⌝ }

@@ -20,7 +20,8 @@ use Rattle.tree_leaf.proofs.Known.{short}
 use Rattle.tree_leaf.proofs.Halves.{leftPart, rightPart, left-part, right-part, left-part-size, right-part-size}
 use Rattle.tree_nearest.specs.declared.Nearby.{Nearby}
 use Rattle.tree_nearest.specs.Nearby.{tallyOf, Leaves, reportedIn, Ready, takenAt, nearInHalves}
-use Rattle.tree_nearest.proofs.Steps.{leaves-as, leaves-same, ready-less, reported-append, near-first, halves-none, halves-near, halves-far, nearThenFar, second-ready, second-none, second-far, second-within, tree-ready, tree-leave}
+use Rattle.tree_nearest.proofs.Steps.{leaves-as, leaves-same, ready-less, reported-append, near-first, halves-none, halves-near, halves-far, nearThenFar}
+use Rattle.tree_nearest.proofs.Steps.{second-ready, second-none, second-far, second-within, tree-ready, tree-leave}
 
 -- the test on the far half of one to three slots, as facts: it has a slot and its gap is within the bound, or not
 pub third-within : (n gap bound : ℕ) → eqb n 3 && leb gap bound ≡ true → (n ≡ 3) × (gap ≤ bound)

@@ -20,7 +20,8 @@ use Rattle.tree_leaf.proofs.Known.{all-beyond}
 use Rattle.tree_leaf.proofs.Halves.{leftPart, rightPart, left-part, right-part, left-part-size, right-part-size}
 use Rattle.tree_range.specs.declared.Found.{Found}
 use Rattle.tree_range.specs.Collected.{Room, foundAfter, collected, metAlone, metInHalves, rangeAsked}
-use Rattle.tree_range.proofs.Collecting.{found-nothing, collected-nothing, found-without-hits, collected-without-hits, two-steps, entered, skipped, empty-half, half-found, alone-found, tree-first}
+use Rattle.tree_range.proofs.Collecting.{found-nothing, collected-nothing, found-without-hits, collected-without-hits, two-steps, entered, skipped}
+use Rattle.tree_range.proofs.Collecting.{empty-half, half-found, alone-found, tree-first}
 
 -- a visit that met this leaves these numbers and this area
 abbrev pub Leaves : Found → List Entry → Met → Found → List Entry → Type 0

@@ -48,8 +48,8 @@ fn meet(found: Found, row: &Row, d: u64, query: &Row, area: &mut [Entry]) -> Fou
     }
 }
 
-// The slots of one tree: up to seven at once, more slot by slot. The counts go first and what never changes goes behind one reference, so that a call
-// passes nearly all in registers.
+// The slots of one tree: up to seven at once, more slot by slot. The counts go first and what never changes goes behind
+// one reference, so that a call passes nearly all in registers.
 pub fn range_tree(found: Found, slots: &[Row], area: &mut [Entry], asked: &Asked) -> Found
     requires { ⌜ Room found (length (now slots)) ⌝ }
     ensures reply { λ r. ⌜ r ≡ foundAfter found (rangeAsked (now (asked .entry)) (now (slots .entry))) ⌝ }
@@ -76,7 +76,8 @@ fn range_slots(found: Found, slots: &[Row], area: &mut [Entry], asked: &Asked) -
     range_halves(met, &slots[1..], d, threshold_of(*row), area, asked)
 }
 
-// The halves below a slot at distance d from the query and of threshold m, each where its test lets it be entered. Both sums are exact.
+// The halves below a slot at distance d from the query and of threshold m, each where its test lets it be entered. Both
+// sums are exact.
 fn range_halves(
     found: Found,
     rest: &[Row],

@@ -5,7 +5,8 @@ use mathlib.Core.Path.{_≡_, refl, sym, ap, ap₂, subst, _∙_}
 use mathlib.Core.Bool.{Bool, true, false, _&&_}
 use mathlib.Core.List.{List, [], _∷_, _++_, append-nil}
 use lib.ListN.{length, take, drop, getD, set, length-append, length-take, length-drop, length-set, take-append-drop}
-use lib.Seq.{sets, length-sets, length-take-le, drop-at, take-at, drop-drop, take-append-le, drop-append-le, take-set-lt, drop-set-add, drop-set-lt, take-set-le, getD-set-same, getD-set-other, set-out}
+use lib.Seq.{sets, length-sets, length-take-le, drop-at, take-at, drop-drop, take-append-le, drop-append-le, take-set-lt, drop-set-add, drop-set-lt}
+use lib.Seq.{take-set-le, getD-set-same, getD-set-other, set-out}
 use lib.Dec.{eqb, ltb, leb}
 use borrow.Author.Tests.{eqb-true, eqb-false, lt-ltb, le-ltb}
 use native.Mathlib.Nat.{suc-mul, mul-le-mul-right, lt-of-not-le}

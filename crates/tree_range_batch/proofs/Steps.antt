@@ -23,7 +23,8 @@ use Rattle.tree_range.specs.Collected.{metInHalves, rangeAsked}
 use Rattle.tree_range.proofs.Collecting.{tree-empty, tree-first}
 use Rattle.batch_rules.specs.Batch.{reachedBySome}
 use Rattle.batch_rules.proofs.Together.{goesLeft, goesRight, together-no-query, together-no-slot, together-le, together-step, together-one}
-use Rattle.tree_range_batch.specs.Together.{isOn, askedAt, chosen, goesLeftAt, goesRightAt, hitsAlone, aloneOn, hitsOn, countOn, hitsInHalves, countInHalves, partAt, only, Fewer, Collects}
+use Rattle.tree_range_batch.specs.Together.{isOn, askedAt, chosen, goesLeftAt, goesRightAt, hitsAlone, aloneOn, hitsOn, countOn, hitsInHalves}
+use Rattle.tree_range_batch.specs.Together.{countInHalves, partAt, only, Fewer, Collects}
 use Rattle.tree_range_batch.proofs.Sets.{on-none, on-some, chosen-none, chosen-selected, Single, chosen-one}
 use Rattle.tree_range_batch.proofs.Parts.{alone-one, collects-none, collects-both}
 

@@ -1,5 +1,5 @@
-// Range for several queries over one tree: a slot is read once and compared with each query that would visit it, and each half is entered with those
-// whose test lets them in. Each query's hits go to its own part of the area.
+// Range for several queries over one tree: a slot is read once and compared with each query that would visit it, and
+// each half is entered with those whose test lets them in. Each query's hits go to its own part of the area.
 ghost use mathlib.Core.Path.{_≡_};
 ghost use mathlib.Core.Bool.{_&&_};
 ghost use mathlib.Core.List.{[], _∷_};
@@ -7,7 +7,9 @@ ghost use Prim.Native.Nat.{ℕ, _+_, _*_, _/_, _<_, _≤_, _^_, suc};
 ghost use lib.ListN.{length};
 ghost use Rattle.metric_rules.specs.Row.{mayReport, thresholdOf};
 ghost use Rattle.tree_range.specs.Collected.{metAlone, rangeAsked};
-ghost use Rattle.tree_range_batch.specs.Together.{isOn, Lowest, bitIf, only, askedAt, goesLeftAt, goesRightAt, hitsAlone, aloneOn, hitsOn, countOn, hitsInHalves, countInHalves, Parts, Fewer, Collects};
+ghost use Rattle.tree_range_batch.specs.Together.{isOn, Lowest, bitIf, only, askedAt, goesLeftAt, goesRightAt};
+ghost use Rattle.tree_range_batch.specs.Together.{hitsAlone, aloneOn, hitsOn, countOn, hitsInHalves};
+ghost use Rattle.tree_range_batch.specs.Together.{countInHalves, Parts, Fewer, Collects};
 use metric::distance_between;
 use metric_rules::Row;
 use rows::tag_of;
@@ -23,8 +25,8 @@ pub type Batch = [Row; 17];
 // How many hits each query has found.
 pub type Numbers = [usize; 16];
 
-// The queries that enter the left half below a slot, and those that enter the right half. A set of queries is a number, whose bit j says whether query
-// j is in it.
+// The queries that enter the left half below a slot, and those that enter the right half. A set of queries is a number,
+// whose bit j says whether query j is in it.
 struct Ways {
     left: u32,
     right: u32,
@@ -168,8 +170,8 @@ fn range_alone(
     met.count
 }
 
-// The slots of one tree, for the queries of a set that is not empty: one query alone by its single search, and for more the first slot, and then its
-// halves. The reply is the count.
+// The slots of one tree, for the queries of a set that is not empty: one query alone by its single search, and for more
+// the first slot, and then its halves. The reply is the count.
 pub fn range_together(
     count: usize,
     on: u32,

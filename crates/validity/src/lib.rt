@@ -6,7 +6,8 @@ use metric_rules::Profile;
 use metric_rules::Space;
 use metric_rules::Weights;
 
-// A tag is country · 10^12 + national: the least of country 1, the first of no country, and the last national, of 38 bits.
+// A tag is country · 10^12 + national: the least of country 1, the first of no country, and the last national, of 38
+// bits.
 const NATIONALS: u64 = 1_000_000_000_000;
 
 const PAST_TAGS: u64 = 1_000_000_000_000_000;

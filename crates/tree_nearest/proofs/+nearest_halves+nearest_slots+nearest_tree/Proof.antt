@@ -13,7 +13,8 @@ use Rattle.search_asked.specs.Asked.{distanceAsked, queryAsked, reportsAsked, k
 use Rattle.tree_leaf.proofs.Known.{short}
 use Rattle.tree_nearest.specs.declared.Nearby.{Nearby}
 use Rattle.tree_nearest.specs.Nearby.{Leaves, nearInHalves}
-use Rattle.tree_nearest.proofs.Steps.{leaves-as, ready-less, leftHalf, rightHalf, left-is, right-is, halves-slots, halves-reported, halves-near, halves-far, tree-ready, tree-leave, first-reported, nearThenFar}
+use Rattle.tree_nearest.proofs.Steps.{leaves-as, ready-less, leftHalf, rightHalf, left-is, right-is, halves-slots, halves-reported, halves-near}
+use Rattle.tree_nearest.proofs.Steps.{halves-far, tree-ready, tree-leave, first-reported, nearThenFar}
 use Rattle.tree_nearest.proofs.LeafSteps.{tally, reported, Starts, Left, then-ready, then-far, then-within}
 use Rattle.tree_nearest.proofs.nearest_halves.Reads as nearest-halves
 use Rattle.tree_nearest.proofs.nearest_halves.Kinds as nearest-halves-kinds

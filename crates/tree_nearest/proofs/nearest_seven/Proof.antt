@@ -12,7 +12,8 @@ use Rattle.tree_leaf.proofs.Known.{known-asked, known-at, at-map, part-map, res
 use Rattle.tree_leaf.proofs.Halves.{leftPart, rightPart, left-part-size, right-part-size}
 use Rattle.tree_nearest.specs.declared.Nearby.{Nearby}
 use Rattle.tree_nearest.proofs.Steps.{ready-less, first-reported, nearThenFar}
-use Rattle.tree_nearest.proofs.LeafSteps.{toAsked, tree, tally, taken, Starts, reported, Left, then-ready, then-far, then-within, halves-ready, halves-ready-far, leaf-near, leaf-far}
+use Rattle.tree_nearest.proofs.LeafSteps.{toAsked, tree, tally, taken, Starts, reported, Left, then-ready, then-far, then-within, halves-ready}
+use Rattle.tree_nearest.proofs.LeafSteps.{halves-ready-far, leaf-near, leaf-far}
 use Rattle.tree_nearest.proofs.nearest_seven.Statement.{statement}
 use Rattle.tree_nearest.proofs.nearest_seven.Tie as tie
 

@@ -13,7 +13,8 @@ use Rattle.tree_leaf.proofs.Known.{known-asked, known-at, at-map}
 use Rattle.tree_leaf.proofs.Halves.{leftPart, rightPart, right-part-size, left-one, right-one}
 use Rattle.tree_nearest.specs.declared.Nearby.{Nearby}
 use Rattle.tree_nearest.proofs.Steps.{ready-less, first-reported, leaves-as, leaves-same, near-empty}
-use Rattle.tree_nearest.proofs.LeafSteps.{third-within, third-not, toAsked, tree, tally, Starts, reported, Left, one-ready, one-left, then-ready, then-none, then-far, then-within, halves-ready, halves-ready-far, leaf-one, leaf-near, leaf-far}
+use Rattle.tree_nearest.proofs.LeafSteps.{third-within, third-not, toAsked, tree, tally, Starts, reported, Left, one-ready, one-left, then-ready}
+use Rattle.tree_nearest.proofs.LeafSteps.{then-none, then-far, then-within, halves-ready, halves-ready-far, leaf-one, leaf-near, leaf-far}
 use Rattle.tree_nearest.proofs.nearest_three.Statement.{statement}
 use Rattle.tree_nearest.proofs.nearest_three.Tie as tie
 

@@ -14,7 +14,8 @@ use Rattle.tree_range.specs.declared.Found.{Found}
 use Rattle.tree_range.specs.Collected.{rangeAsked}
 use Rattle.tree_leaf.proofs.Known.{known-asked, known-at, at-map}
 use Rattle.tree_leaf.proofs.Halves.{leftPart, rightPart, left-part-size, right-part-size, left-one, right-one}
-use Rattle.tree_range.proofs.Leaves.{Leaves, leaves-as, leaves-nothing, two-tests, toAsked, one-entered, one-skipped, leftMet, rightMet, room-first, room-left, leaf-visit}
+use Rattle.tree_range.proofs.Leaves.{Leaves, leaves-as, leaves-nothing, two-tests, toAsked, one-entered, one-skipped, leftMet, rightMet, room-first}
+use Rattle.tree_range.proofs.Leaves.{room-left, leaf-visit}
 use Rattle.tree_range.proofs.range_three.Statement.{statement}
 use Rattle.tree_range.proofs.range_three.Tie as tie
 

@@ -17,7 +17,8 @@ use Rattle.tree_rules.specs.Layout.{leftSize}
 use Rattle.tree_rules.proofs.Parts.{left-size, part-rest}
 use Rattle.tree_range_batch.specs.Together.{isOn, Parts}
 use Rattle.tree_range_batch.proofs.Sets.{single-alone}
-use Rattle.tree_range_batch.proofs.Steps.{Turn, turn-skipped, fewer-less, alone-fewer, turn-fewer, turn-few, both-halves, tree-visit, tree-alone, tree-none}
+use Rattle.tree_range_batch.proofs.Steps.{Turn, turn-skipped, fewer-less, alone-fewer, turn-fewer, turn-few, both-halves, tree-visit, tree-alone}
+use Rattle.tree_range_batch.proofs.Steps.{tree-none}
 use Rattle.tree_range_batch.proofs.halves_together.Reads as halves-together
 use Rattle.tree_range_batch.proofs.halves_together.Kinds as halves-together-kinds
 use Rattle.tree_range_batch.proofs.+halves_together+range_together.Lts-halves_together as halves-together-lts
