@@ -86,8 +86,9 @@ class Herd {
     this.name = name;
     this.image = index.write();
     this.table = index.table();
-    const found = index.range(ANY_PROFILE, ANY_DISTANCE, ANY_DAY);
-    this.head = found.map(({ tag }) => ({ tag, ...index.lookUp(tag), dues: duesOf(index, [tag]) }));
+    const tags = index.range(ANY_PROFILE, ANY_DISTANCE, ANY_DAY).map(({ tag }) => tag);
+    const dues = duesOf(index, tags)?.each ?? tags.map(tag => duesOf(index, [tag])?.total ?? null);
+    this.head = tags.map((tag, i) => ({ tag, ...index.lookUp(tag), dues: dues[i] }));
     this.head.sort((a, b) => a.tag < b.tag ? -1 : 1);
     this.byTag = new Map(this.head.map(head => [head.tag, head]));
     // How far the others are from the head of the lowest tag, which leads the first lot.
@@ -121,10 +122,11 @@ function draftFacts(index, tags, byTag) {
     head: tags.length, leader: tags[0], tags,
     least: Math.min(...kilos), most: Math.max(...kilos),
     mean: Math.round(kilos.reduce((sum, kilo) => sum + kilo, 0) / kilos.length),
-    dues: duesOf(index, tags),
+    dues: duesOf(index, tags)?.total ?? null,
   };
 }
 
+// What head pay, each and in all; null where one weighs below 0.
 function duesOf(index, tags) {
   try {
     return index.dues(tags);

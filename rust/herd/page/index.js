@@ -63,11 +63,12 @@ class Index {
     return this.calls.nearest(this.rows, this.result, profile, count, since).found;
   }
 
-  // In cents.
+  // In cents, of each and of all.
   dues(tags) {
     const listed = this.listed.first(tags.length);
     listed.put(tags);
-    return this.calls.dues(this.rows, listed, this.each).total;
+    const { total } = this.calls.dues(this.rows, listed, this.each);
+    return { each: [...this.each.get(0, tags.length)], total };
   }
 
   // By each radius the number of lots and the head of the largest; by the first of them the lots, as lists of tags.

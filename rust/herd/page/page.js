@@ -429,7 +429,7 @@ function showSummary() {
     ["Head", `${grouped(head.length)} of at most ${grouped(herd.capacity)}`],
     ["Kilos", fromTo(head.map(({ measures }) => measures[0]), measureText)],
     ["Days", fromTo(head.map(({ day }) => day), dayText)],
-    ["Dues of all", duesText(duesOf(index, head.map(({ tag }) => tag)), "none: a head is ")],
+    ["Dues of all", duesText(duesOf(index, head.map(({ tag }) => tag))?.total ?? null, "none: a head is ")],
     ["Likeness", `${metric.name}: ${metric.words}, in ${metric.unit}`],
     ["Weights", MEASURES.map((name, i) => `${name} ${table.weights[i]}`).join(", ")],
     ["Image", `${grouped(image.length)} bytes, ${grouped(herd.removed)} removed head not cleared yet`],
@@ -479,7 +479,11 @@ function lotSheet({ lot, head, least, mean, most, dues, tags }) {
 
 // The page
 
-const fromBase64 = text => Uint8Array.from(atob(text.trim()), character => character.charCodeAt(0));
+function fromBase64(text) {
+  const characters = atob(text.trim()), bytes = new Uint8Array(characters.length);
+  for (let i = 0; i < bytes.length; i++) bytes[i] = characters.charCodeAt(i);
+  return bytes;
+}
 
 function listen() {
   const on = (id, event, act) => at(id).addEventListener(event, act);
