@@ -16,7 +16,7 @@
  *   - areas lent to the same call do not overlap;
  *   - no other thread uses an area while a call has it, except that several may read the same table;
  *   - the stack has room: on x86-64 at most 73 KB for vpindex_load and vpindex_restore, whatever the order, 17 KB for
- *     vpindex_dues and 5 KB for the others, as worked out from the compiled code; docs/OUTSIDE.md has the table by
+ *     vpindex_dues and 5 KB for the others, as worked out from the compiled code; docs/TESTING.md has the table by
  *     processor, of which no figure is above 80, 17 and 14 KB.
  */
 #ifndef VPINDEX_H
@@ -225,7 +225,8 @@ typedef struct {
 typedef struct {
     uint32_t refusal;
     uint32_t found;                      /* entries at the front of the result area */
-    uint32_t distances;                  /* slots met by the rule, each of which counts one distance */
+    uint32_t distances;                  /* slots met by the rule, each of which counts one distance; those worked out in
+                                            fact are 1.0 to 1.4 times as many, as up to seven are at once */
 } vpindex_searched;
 
 typedef struct {

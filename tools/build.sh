@@ -5,10 +5,12 @@
 # VPINDEX_LIB_DIR, a full path, names the folder of another libvpindex.a, and then no archive is built.
 set -eu
 cd "$(dirname "$0")/.."
+. tools/under_way.sh
 if [ "${1:-} ${2:-}" = 'vpindex --target' ]; then
     sh tools/cross.sh --words "${3:-}" > /dev/null
     VPINDEX_LIB_DIR='' sh tools/build.sh vpindex
-    exec sh tools/cross.sh "$3"
+    under_way "the calls for $3" sh tools/cross.sh "$3"
+    exit 0
 fi
 case ${1:-} in
     vpindex)
@@ -62,29 +64,21 @@ if ! mkdir -p target || [ ! -w target ]; then
     exit 1
 fi
 echo "proving $crates crates and building $built: some minutes the first time, less after a change; the log is $log" >&2
-start=$(date +%s)
-: > "$log.start"
-# Every 20 seconds what is under way: crates that were begun since and have no verdict yet, or what follows them.
-under_way() {
-    while sleep 20 > /dev/null 2>&1 && kill -0 $$ 2> /dev/null; do
-        begun=$(find target/log -name '*.res' -newer "$log.start" -exec grep -lx failed {} + 2> /dev/null |
-            sed 's,.*/\(.*\)\.res$,\1,' | LC_ALL=C sort | tr '\n' ' ')
-        echo "  under way: ${begun:-$built } ($(($(date +%s) - start)) s so far)"
+# Of the lines of a build it shows each crate that is proved and each further step, at once (an awk may wait for more).
+shown() {
+    start=$(date +%s) n=0
+    while IFS= read -r line; do
+        told=
+        case $line in
+            'rt: '*' proved (unchanged '*) n=$((n + 1)) ;;
+            'rt: '*' proved ('*) n=$((n + 1)) line=${line#rt: } told="$n of $crates  ${line%% *}" ;;
+            'step: '*) told=${line#step: } ;;
+        esac
+        [ -z "$told" ] || echo "  $told  ($(($(date +%s) - start)) s so far)" >&2
     done
 }
-under_way >&2 &
-{ build 2>&1 || echo 'rt: not built'; } | tee "$log" | awk -v all="$crates" -v start="$start" '
-    function so_far() {
-        "date +%s" | getline now; close("date +%s")
-        return "(" now - start " s so far)"
-    }
-    / proved \(/ && $1 == "rt:" {
-        n++
-        if (!/unchanged/) print "  " n " of " all "  " $2 "  " so_far()
-        fflush()
-    }
-    /^step: / { print "  " substr($0, 7) "  " so_far(); fflush() }' >&2
-kill $! 2> /dev/null || true
+build_and_show() { { build 2>&1 || echo 'rt: not built'; } | tee "$log" | shown; }
+under_way "$built" build_and_show
 if tail -n 1 "$log" | grep -q '^rt: not built$'; then
     cat "$log"
     exit 1

@@ -72,6 +72,7 @@ read_only() {
         [ -f "$(tail -n 1 "$out/written")" ] && rm -r "$out/reader"
 }
 
+step first-build sh tools/try_build.sh
 step archive sh tools/build.sh vpindex
 if [ -z "${VPINDEX_WASM:-}" ]; then
     step wasm sh tools/build.sh vpindex --target wasm32

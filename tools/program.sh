@@ -23,7 +23,9 @@ if mkdir -p "$folder" 2> /dev/null && [ -w "$folder" ]; then
     # cargo says what it compiles when it does so for the first time
     quiet=--quiet
     [ -x "$program" ] || quiet=
-    (cd rust && CARGO_TARGET_DIR=$folder cargo build --offline $quiet --release $of)
+    build() { (cd rust && CARGO_TARGET_DIR=$folder cargo build --offline $quiet --release $of); }
+    . tools/under_way.sh
+    under_way "cargo's build of $1" build
 elif [ ! -x "$program" ]; then
     echo "$program is not there, and its folder cannot be written: CARGO_TARGET_DIR names another" >&2
     exit 1

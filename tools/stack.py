@@ -4,8 +4,8 @@ their proved bounds let them go; and how many bytes of code all calls have.
 
     tools/stack.py [ARCHIVE]          a line for each call: its name and the bytes, the return address included
     tools/stack.py --target NAME      the same for another processor, whose archive is built (tools/cross.sh)
-    either with --check               nothing may be more than docs/OUTSIDE.md says
-    tools/stack.py --table            the table of docs/OUTSIDE.md, with every target built
+    either with --check               nothing may be more than docs/TESTING.md says
+    tools/stack.py --table            the table of docs/TESTING.md, with every target built
 
 For x86-64 the instructions are read. For the others the compiler tells each frame, and its module, as it is when only
 the processor's instructions are left to be chosen, tells the calls. A function that is reached again from itself must
@@ -165,8 +165,8 @@ def bounds_in(archive):
 
 
 def stated_for(target):
-    """KiB by call, from the column of docs/OUTSIDE.md."""
-    text = (HOME / "docs/OUTSIDE.md").read_text()
+    """KiB by call, from the column of docs/TESTING.md."""
+    text = (HOME / "docs/TESTING.md").read_text()
     names = re.search(r"^\| call \| (.* )\|$", text, re.M)[1].split(" | ")
     column = [name.strip() for name in names].index(target)
     rows = re.findall(r"^\| `?(vpindex_\w+|code)`? \| ([\d |]+) \|$", text, re.M)
@@ -201,7 +201,7 @@ def main(words):
     stated = stated_for(target)
     wrong = [f"{name} {size}" for name, size in bounds.items() if size > 1024 * stated.get(name, 0)]
     for line in wrong:
-        print(f"more than docs/OUTSIDE.md says of {target}: {line}")
+        print(f"more than docs/TESTING.md says of {target}: {line}")
     return 1 if wrong or stated.keys() != bounds.keys() else 0
 
 

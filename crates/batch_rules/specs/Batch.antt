@@ -1,4 +1,5 @@
--- RULES 11.12 to 11.15, range for several queries in one call: each query's answer is the single call's, and a slot is visited once if any of them visits it.
+-- RULES 11.12 to 11.15, range for several queries in one call: each query's answer is the single call's, and a slot is
+-- visited once if any of them visits it.
 use Prim.Native.Nat.{ℕ, zero, suc, _-_, _*_, _/_, _%_, _^_}
 use mathlib.Core.Bool.{Bool, true, false, _&&_}
 use mathlib.Core.List.{List, [], _∷_, _++_, map}
@@ -27,7 +28,8 @@ mostQueries = 16
 unfoldable pub validNumber : ℕ → Bool
 validNumber n = leb 1 n && leb n mostQueries
 
--- RULES 11.12: a query is a row. The profile and the radius are at the places of a slot's profile and threshold, the first day is the lowest 16 bits of the day's word
+-- RULES 11.12: a query is a row. The profile and the radius are at the places of a slot's profile and threshold, the
+-- first day is the lowest 16 bits of the day's word
 unfoldable pub firstDayOf : Row → ℕ
 firstDayOf query = dayOf query % 2 ^ 16
 
@@ -78,7 +80,8 @@ unfoldable pub rangesReply : ℕ → List Answer → ℕ → Ranges
 rangesReply zero answers count = record { refusal = 0; distances = count; found = foundBy answers }
 rangesReply (suc n) answers count = record { refusal = suc n; distances = 0; found = replicate mostQueries 0 }
 
--- RULES 11.13: a part has its query's entries, and zeros to its end; the parts follow each other in the order of the queries
+-- RULES 11.13: a part has its query's entries, and zeros to its end; the parts follow each other in the order of the
+-- queries
 unfoldable pub partWith : ℕ → Answer → List Entry
 partWith size a = a .entries ++ replicate (size - length (a .entries)) zeroEntry
 
@@ -86,7 +89,8 @@ unfoldable pub partsWith : ℕ → List Answer → List Entry
 partsWith size [] = []
 partsWith size (a ∷ answers) = partWith size a ++ partsWith size answers
 
--- RULES 11.13, 14.2, the result area by the refusal: the parts, and zeros in what is left over; all zero at 6; else as it was
+-- RULES 11.13, 14.2, the result area by the refusal: the parts, and zeros in what is left over; all zero at 6; else as
+-- it was
 unfoldable pub resultAfterParts : ℕ → List Entry → ℕ → List Answer → List Entry
 resultAfterParts zero area size answers = partsWith size answers ++ replicate (length area - length answers * size) zeroEntry
 resultAfterParts (suc n) area size answers = elim (eqb (suc n) noRoom) [ true ↦ replicate (length area) zeroEntry | false ↦ area ]

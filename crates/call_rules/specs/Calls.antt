@@ -1,5 +1,6 @@
--- The calls on a table, in four groups: those that begin a table, those that change it, those that only ask, and those that write it. Each with its arguments, the
--- areas lent to it, and what it leaves: its reply, the table and the areas. The contracts of `vpindex` are these definitions, and the demands speak of them.
+-- The calls on a table, in four groups: those that begin a table, those that change it, those that only ask, and those
+-- that write it. Each with its arguments, the areas lent to it, and what it leaves: its reply, the table and the areas.
+-- The contracts of `vpindex` are these definitions, and the demands speak of them.
 use Prim.Native.Nat.{ℕ}
 use mathlib.Core.List.{List}
 use lib.ListN.{length}
@@ -32,8 +33,8 @@ use Rattle.dues_rules.specs.Listed.{duesReply, duesAfter}
 use Rattle.lots_rules.specs.Lots.{Summary}
 use Rattle.lots_rules.specs.Drafting.{lotsRefusal, workAfterLots, summaryAfterLots, listingAfterLots}
 
--- RULES 7, 12.3, 19.6: the calls that begin a table. They read nothing of what lay there but its length; a load's image and the states that a restore reads are
--- arguments
+-- RULES 7, 12.3, 19.6: the calls that begin a table. They read nothing of what lay there but its length; a load's image
+-- and the states that a restore reads are arguments
 pub data Begin : Type 0 where
   fresh : (order : ℕ) (space : Space) → Begin
   load : (image : List ℕ) → Begin
@@ -89,8 +90,8 @@ pub record DraftAreas : Type 0 where
 abbrev pub draftAreas : List Entry → List Summary → List Entry → DraftAreas
 draftAreas work summary listing = record { work = work; summary = summary; listing = listing }
 
--- RULES 10, 11, 20, 21: the calls that only ask. They leave the table as it is. Each is lent areas of its own to answer in; the list of tags whose dues are asked and the
--- radii of a drafting are arguments
+-- RULES 10, 11, 20, 21: the calls that only ask. They leave the table as it is. Each is lent areas of its own to answer
+-- in; the list of tags whose dues are asked and the radii of a drafting are arguments
 pub data Ask : Type 0 where
   lookUp : (tag : ℕ) → Ask
   range : (query : Profile) (radius : ℕ) (firstDay : ℕ) → Ask
@@ -136,7 +137,8 @@ areasAnswered (lots radii chosen) t areas =
       listing = listingAfterLots t (areas .work) (areas .summary) (areas .listing) radii chosen;
     }
 
--- RULES 12.2, 19.4: the calls that write a table. They leave it as it is. Each is lent bytes to write in: an area for the image, or the states
+-- RULES 12.2, 19.4: the calls that write a table. They leave it as it is. Each is lent bytes to write in: an area for
+-- the image, or the states
 pub data Write : Type 0 where
   image : Write
   save : (name : ℕ) → Write

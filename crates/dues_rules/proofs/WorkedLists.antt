@@ -15,7 +15,8 @@ use Rattle.table_rules.specs.Refusals.{noRoom, unless, orElse}
 use Rattle.table_rules.specs.Table.{Table}
 use Rattle.table_rules.specs.Checks.{readRefusal}
 use Rattle.dues_rules.specs.Board.{board, within, rateBy, duesAt, duesBy}
-use Rattle.dues_rules.specs.Listed.{isFound, isWeight, pays, weightsRefusal, weightAt, weightsAt, duesOf, totalOf, areaAfter, duesRefusal, duesReply, duesAfter}
+use Rattle.dues_rules.specs.Listed.{isFound, isWeight, pays, weightsRefusal, weightAt, weightsAt, duesOf, totalOf, areaAfter, duesRefusal, duesReply}
+use Rattle.dues_rules.specs.Listed.{duesAfter}
 use Rattle.dues_rules.proofs.Replies.{paid-each, refused, accepted}
 
 unfoldable refusal : List (Option ℤ) → ℕ → ℕ

@@ -1,4 +1,5 @@
--- RULES 20.1 to 20.3: the board at the gate, and what a weight pays by it. Weights are in hundredths of a kilo, rates in cents a kilo.
+-- RULES 20.1 to 20.3: the board at the gate, and what a weight pays by it. Weights are in hundredths of a kilo, rates
+-- in cents a kilo.
 use Prim.Native.Nat.{ℕ, _+_, _*_, _/_}
 use mathlib.Core.Bool.{Bool, true, false, _&&_}
 use mathlib.Core.List.{List, [], _∷_}

@@ -1,8 +1,10 @@
--- Sizes that are each 0 or 2^k, as the digits of their sum in binary: bit k of the sum is one exactly where the size is 2^k. Each item in place k having cost at
--- most k·(k+1)/2 distances, what a carry into the first empty place costs is covered, and all have cost at most L·(L+1)/2 each, L being the highest place.
+-- Sizes that are each 0 or 2^k, as the digits of their sum in binary: bit k of the sum is one exactly where the size is
+-- 2^k. Each item in place k having cost at most k·(k+1)/2 distances, what a carry into the first empty place costs is
+-- covered, and all have cost at most L·(L+1)/2 each, L being the highest place.
 use Prim.Native.Nat.{ℕ, zero, suc, _+_, _-_, _*_, _/_, _%_, _^_, _≤_, _<_}
 use native.Mathlib.Omega.{arith}
-use native.Mathlib.Nat.{pow-suc, zero-mul, mul-add, add-mul, suc-mul, mul-comm, mul-assoc, mul-le-mul-left, mul-le-mul-right, mul-le-mul, div-eq-of-lt, lt-of-not-le}
+use native.Mathlib.Nat.{pow-suc, zero-mul, mul-add, add-mul, suc-mul, mul-comm, mul-assoc, mul-le-mul-left, mul-le-mul-right, mul-le-mul, div-eq-of-lt}
+use native.Mathlib.Nat.{lt-of-not-le}
 use native.Mathlib.Decide.{ℕ-discrete, decLe}
 use mathlib.Core.Path.{_≡_, sym, _∙_, ap, subst}
 use mathlib.Core.Logic.{_⊎_, inl, inr}

@@ -1,5 +1,6 @@
--- A table that was only added to: every bucket is empty or holds 2^k live items and no dead one, as many in all as were added, and what all builds took is within
--- what the items in their places may have cost. Fresh begins it; an add fills the lowest empty bucket with all below it and the new item.
+-- A table that was only added to: every bucket is empty or holds 2^k live items and no dead one, as many in all as were
+-- added, and what all builds took is within what the items in their places may have cost. Fresh begins it; an add fills
+-- the lowest empty bucket with all below it and the new item.
 use Prim.Native.Nat.{ℕ, suc, _+_, _-_, _*_, _/_, _^_, _≤_, _<_}
 use native.Mathlib.Omega.{arith}
 use native.Mathlib.Nat.{mul-assoc, zero-mul}

@@ -12,7 +12,8 @@ use Rattle.call_rules.specs.Calls.{Begin, tableBegun, Call, Areas, replyTo, are
 use Rattle.call_rules.specs.Calls.Begin.{fresh}
 use Rattle.call_rules.specs.Calls.Change.{add, remove, readList}
 use Rattle.call_rules.specs.Calls.Call.{begin, change, ask, write}
-use Rattle.history.specs.Trace.{Step, State, Sums, starting, begunSums, sumsAfter, beginShown, changeShown, shown, overlaid, leftBy, stateAfter, shownAt, stateAfterAll}
+use Rattle.history.specs.Trace.{Step, State, Sums, starting, begunSums, sumsAfter, beginShown, changeShown, shown, overlaid, leftBy, stateAfter, shownAt}
+use Rattle.history.specs.Trace.{stateAfterAll}
 use Rattle.history.specs.Model.{Model, answerAt}
 use Rattle.history.specs.History.{IsBegin, IsCall, before, blankModel, opening, steps, finalState}
 use Rattle.history.specs.Counter.{OnlyAdds, OnlyAdded}

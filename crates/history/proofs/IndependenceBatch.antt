@@ -1,5 +1,6 @@
--- Batches of two tables of which each query's single search has the same entries: the lists of all queries are the same, so the numbers found are, and each part of a
--- result area begins with its query's list. Up to the fit of the parts the batches are refused alike, and parts that hold the lists fit alike.
+-- Batches of two tables of which each query's single search has the same entries: the lists of all queries are the
+-- same, so the numbers found are, and each part of a result area begins with its query's list. Up to the fit of the
+-- parts the batches are refused alike, and parts that hold the lists fit alike.
 use Prim.Native.Nat.{ℕ, zero, suc, _+_, _-_, _*_, _≤_, _<_}
 use native.Mathlib.Omega.{arith}
 use native.Mathlib.Nat.{suc-mul}
@@ -20,7 +21,8 @@ use Rattle.table_rules.specs.Refusals.{noRoom, unless, orElse}
 use Rattle.table_rules.specs.Table.{Table}
 use Rattle.table_rules.specs.Checks.{readRefusal}
 use Rattle.table_rules.specs.Search.{Answer, rangeAnswer, zeroEntry}
-use Rattle.batch_rules.specs.Batch.{mostQueries, firstDayOf, singleAnswer, singleAnswers, partSize, queriesRefusal, partsRefusal, batchRefusal, foundBy, rangesReply, partWith, partsWith, resultAfterParts, rangeBatchReply, resultAfterBatch, batchCount}
+use Rattle.batch_rules.specs.Batch.{mostQueries, firstDayOf, singleAnswer, singleAnswers, partSize, queriesRefusal, partsRefusal, batchRefusal, foundBy}
+use Rattle.batch_rules.specs.Batch.{rangesReply, partWith, partsWith, resultAfterParts, rangeBatchReply, resultAfterBatch, batchCount}
 use Rattle.history.specs.Agreement.{BatchesAgree, PartsHold}
 
 -- the lists of some answers

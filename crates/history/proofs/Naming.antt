@@ -1,5 +1,6 @@
--- The bucket in a reply is the one that has the tag. A slot with it was found there, and no tag is live twice; what an add brought in is found in the bucket that was
--- built, for the others are empty or as they were, when none had the tag.
+-- The bucket in a reply is the one that has the tag. A slot with it was found there, and no tag is live twice; what an
+-- add brought in is found in the bucket that was built, for the others are empty or as they were, when none had the
+-- tag.
 use Prim.Native.Nat.{ℕ, zero, suc, _≤_, _<_}
 use native.Mathlib.Omega.{arith}
 use native.Mathlib.Decide.{ℕ-discrete}

@@ -1,5 +1,5 @@
--- The answers of every table and of every model ascend by distance, then tag: range sorts what it met, and nearest keeps nothing but the first k of a sorted list,
--- from bucket to bucket.
+-- The answers of every table and of every model ascend by distance, then tag: range sorts what it met, and nearest
+-- keeps nothing but the first k of a sorted list, from bucket to bucket.
 use Prim.Native.Nat.{ℕ}
 use mathlib.Core.List.{List, [], _∷_, foldl}
 use Rattle.metric_rules.specs.declared.Profile.{Profile}

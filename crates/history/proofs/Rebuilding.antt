@@ -1,5 +1,5 @@
--- A rebuild keeps the invariant: the tree of the items gathered is good, the buckets gathered from are empty, the rest is kept; the live items are permuted, the
--- new ones with them, whatever a row has besides threshold and mark.
+-- A rebuild keeps the invariant: the tree of the items gathered is good, the buckets gathered from are empty, the rest
+-- is kept; the live items are permuted, the new ones with them, whatever a row has besides threshold and mark.
 use Prim.Native.Nat.{ℕ, _^_, _≤_, _<_}
 use mathlib.Core.Path.{_≡_, refl, sym, _∙_, ap, ap₂, subst}
 use mathlib.Core.Bool.{true, _&&_}

@@ -19,7 +19,8 @@ use Rattle.call_rules.specs.Calls.{Begin, beginReply, tableBegun, Change, table
 use Rattle.call_rules.specs.Calls.Change.{add, remove, readList}
 use Rattle.call_rules.specs.Calls.Call.{begin, change, ask, write}
 use Rattle.history.specs.Trace.{Step, State, Shown, overlaid, leftBy, beginShown, stateAfter}
-use Rattle.history.specs.Model.{Model, ListAnswered, lengthsOf, canChange, tagRefusal, itemRefusal, addRefusalOf, removeRefusalOf, afterUnless, stopsAt, oneMoreAdded, modelBegun, beginAnswer, changeAnswer, answer, answerAt}
+use Rattle.history.specs.Model.{Model, ListAnswered, lengthsOf, canChange, tagRefusal, itemRefusal, addRefusalOf, removeRefusalOf, afterUnless, stopsAt}
+use Rattle.history.specs.Model.{oneMoreAdded, modelBegun, beginAnswer, changeAnswer, answer, answerAt}
 use Rattle.history.specs.History.{IsBegin, IsChange, IsCall}
 use Rattle.history.proofs.RefinesItems.{Matches}
 use Rattle.history.proofs.RefinesRefusals.{changeable, long-accepts, add-refusal, remove-refusal, begun-alike}

@@ -57,7 +57,8 @@ use Rattle.call_rules.specs.Calls.Ask.{lookUp, range, nearest, dues, rangeBatch
 use Rattle.call_rules.specs.Calls.Write.{image, save}
 use Rattle.call_rules.specs.Calls.Call.{begin, change, ask, write}
 use Rattle.history.specs.Reports.{tableAfterAdds}
-use Rattle.history.specs.Leaves.{refusalOf, numberAndZeros, zeros, HasSlot, ChangesNothing, Excepted, AllAdded, workAfterAdds, KeepsLines, EndsAt, Exceptions}
+use Rattle.history.specs.Leaves.{refusalOf, numberAndZeros, zeros, HasSlot, ChangesNothing, Excepted, AllAdded, workAfterAdds, KeepsLines, EndsAt}
+use Rattle.history.specs.Leaves.{Exceptions}
 use Rattle.history.specs.Demands.{RefusalsKeep}
 use Rattle.history.proofs.TreeTests.{load-within, restore-within}
 

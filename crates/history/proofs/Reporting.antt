@@ -1,5 +1,6 @@
--- What add, remove and the lines of a herd list report, of whatever they are lent: c(n) for the n items that they built, the other buckets being kept or emptied, but for a slot
--- marked. By the sizes, whatever the slots hold: a row too short to be marked dead is gathered again, and a rebuild may then be of more rows than its bucket has room for.
+-- What add, remove and the lines of a herd list report, of whatever they are lent: c(n) for the n items that they
+-- built, the other buckets being kept or emptied, but for a slot marked. By the sizes, whatever the slots hold: a row
+-- too short to be marked dead is gathered again, and a rebuild may then be of more rows than its bucket has room for.
 use Prim.Native.Nat.{ℕ, zero, suc, _+_, _-_, _*_, _≤_, _<_}
 use native.Mathlib.Omega.{arith}
 use native.Mathlib.Decide.{ℕ-discrete}

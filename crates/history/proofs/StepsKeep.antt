@@ -1,5 +1,6 @@
--- A property of a table with its sums that is one of the table's own rows and that every accepted add keeps: a call that is refused, asks or writes keeps it, and a
--- herd list does line by line. So only what an accepted beginning and an accepted removal make of it is left to each property (`Left`).
+-- A property of a table with its sums that is one of the table's own rows and that every accepted add keeps: a call
+-- that is refused, asks or writes keeps it, and a herd list does line by line. So only what an accepted beginning and
+-- an accepted removal make of it is left to each property (`Left`).
 use Prim.Native.Nat.{ℕ, zero, suc, _+_, _≤_}
 use native.Mathlib.Omega.{arith}
 use native.Mathlib.Nat.{add-zero}

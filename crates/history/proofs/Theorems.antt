@@ -13,7 +13,8 @@ use Rattle.image_rules.proofs.Translating.{translates}
 use Rattle.dues_rules.proofs.Replies.{total-of-area}
 use Rattle.lots_rules.proofs.Claims.{lots-of, drafts-lots, one-lot-each, one-lot-of-all}
 use Rattle.history.specs.Model.{betweenItems, modelLots}
-use Rattle.history.specs.Demands.{KeepsEnough, AnswersAscend, AnyDistance, EachMetric, WeightsOne, LotsHold, RadiiExtreme, EveryList, EveryReport, DuesAddUp, WrittenLoads, SavedRestores, OlderTranslates, AcceptsTrees}
+use Rattle.history.specs.Demands.{KeepsEnough, AnswersAscend, AnyDistance, EachMetric, WeightsOne, LotsHold, RadiiExtreme, EveryList, EveryReport}
+use Rattle.history.specs.Demands.{DuesAddUp, WrittenLoads, SavedRestores, OlderTranslates, AcceptsTrees}
 use Rattle.history.proofs.AnyDistance.{tree-facts}
 use Rattle.history.proofs.RefinesTable.{reported-slots}
 use Rattle.history.proofs.RefinesHistory.{history-traces, history-matches, history-represents}

@@ -1,4 +1,5 @@
-// The entries of a part of a bucket arranged as its layout wants them: the first slot's first, and the others by their distance from it.
+// The entries of a part of a bucket arranged as its layout wants them: the first slot's first, and the others by their
+// distance from it.
 ghost use mathlib.Core.Path.{_≡_};
 ghost use Prim.Native.Nat.{_≤_, _<_};
 ghost use mathlib.Core.List.{[], map};

@@ -10,7 +10,8 @@ use lib.Dec.{leb, ltb, eqb}
 use lib.ListN.{length, length-map, getD, take, drop}
 use borrow.Author.Tests.{ltb-true, ltb-false, leb-true, le-leb}
 use Rattle.lists.specs.Lists.{last, All}
-use Rattle.lists.proofs.Lists.{Pairs, all-always, all-weaken, all-both, all-map, all-perm, all-take, pairs-map, pairs-of-all, perm-map, map-take, map-drop, map-alike, map-where}
+use Rattle.lists.proofs.Lists.{Pairs, all-always, all-weaken, all-both, all-map, all-perm, all-take, pairs-map, pairs-of-all, perm-map, map-take, map-drop}
+use Rattle.lists.proofs.Lists.{map-alike, map-where}
 use Rattle.lists.proofs.Tests.{pass-alike}
 use Rattle.metric_rules.specs.declared.Profile.{Profile}
 use Rattle.metric_rules.specs.Row.{Row, profileOf}

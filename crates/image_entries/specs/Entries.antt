@@ -1,5 +1,6 @@
--- Slots as entries: the first word of an entry is tag · 2^13 + place, the place being the slot's number, in its bucket or among all, and the second
--- a distance. Sorted as entries are, they stand by distance, tag and place. A row is read by the place when it is asked for.
+-- Slots as entries: the first word of an entry is tag · 2^13 + place, the place being the slot's number, in its bucket
+-- or among all, and the second a distance. Sorted as entries are, they stand by distance, tag and place. A row is read
+-- by the place when it is asked for.
 use Prim.Native.Nat.{ℕ, suc, _+_, _*_, _/_, _%_, _^_, _<_}
 use mathlib.Core.Path.{_≡_}
 use mathlib.Core.Bool.{Bool}
@@ -81,7 +82,7 @@ module _ (slot : ℕ → Row) where
         let l = leftSize (suc (length near)) in
         placed (lastOf (take l near)) (slot (entryPlace v)) ∷ laidOut (take l near) ++ laidOut (drop l near)
 
-    -- the slots from a place on, one for each entry, beside the layout of the entries' slots: the first that 37 or 38 refuses, slot 0 having number `first`
-    -- among all
+    -- the slots from a place on, one for each entry, beside the layout of the entries' slots: the first that 37 or 38
+    -- refuses, slot 0 having number `first` among all
     unfoldable pub partFault : ℕ → ℕ → List Entry → Loaded
     partFault first place es = firstRefused (first + place) (placeRefusals (laidOut es) (map slot (countFrom place (length es))))

@@ -1,4 +1,5 @@
--- What tests of some slots find: the first that is refused, as load replies it, and zeros where none is. The tests of an image's trees, one at a time.
+-- What tests of some slots find: the first that is refused, as load replies it, and zeros where none is. The tests of
+-- an image's trees, one at a time.
 use Prim.Native.Nat.{ℕ, zero, suc}
 use mathlib.Core.Bool.{Bool, true, false, not, _||_}
 use mathlib.Core.List.{List, [], _∷_, _++_}

@@ -1,5 +1,6 @@
-// An image's slots as entries, the first slot whose tag an earlier one has, and which of two faults is earlier.
-// An entry's first word is tag · 2^13 + place, the place being the slot's number in its bucket or among all, and its second a distance.
+// An image's slots as entries, the first slot whose tag an earlier one has, and which of two faults is earlier. An
+// entry's first word is tag · 2^13 + place, the place being the slot's number in its bucket or among all, and its
+// second a distance.
 ghost use mathlib.Core.Path.{_≡_};
 ghost use Prim.Native.Nat.{_+_, _≤_, _<_, _^_};
 ghost use mathlib.Core.List.{map};
@@ -65,8 +66,8 @@ fn least_repeated(entries: &[Entry]) -> u64
     least
 }
 
-// The first slot whose tag an earlier one has, of entries without a distance; place 0 is slot `first` among all. Sorted, the entries of one tag stand
-// side by side, by place.
+// The first slot whose tag an earlier one has, of entries without a distance; place 0 is slot `first` among all.
+// Sorted, the entries of one tag stand side by side, by place.
 pub fn duplicate_fault(entries: &mut [Entry], first: usize) -> Loaded
     requires { ⌜ All Fresh (now entries) × (first + places ≤ 2 ^ 32) ⌝ }
     ensures fault { λ r. ⌜ r ≡ duplicateFault first (ordered (now (entries .entry))) ⌝ }

@@ -1,24 +1,20 @@
 // What an image's sizes and its slots one by one must pass. Tags and layouts of whole buckets come after this.
 ghost use mathlib.Core.Path.{_≡_};
-ghost use mathlib.Core.List.{map};
 ghost use Prim.Native.Nat.{_≤_};
-ghost use Rattle.lists.specs.Lists.{total, every};
+ghost use Rattle.lists.specs.Lists.{every};
 ghost use Rattle.metric_rules.specs.Row.{dayOf};
 ghost use Rattle.metric_rules.specs.Validity.{validDay};
-ghost use Rattle.table_rules.specs.Geometry.{bucketsOf};
-ghost use Rattle.table_rules.specs.Checks.{sizePasses, sizesPass};
+ghost use Rattle.table_rules.specs.Geometry.{mostOrder};
+ghost use Rattle.table_rules.specs.Checks.{sizesPass};
 ghost use Rattle.image_rules.specs.Read.{builtIn, liveIn, slotsIn};
 ghost use Rattle.image_rules.specs.Load.{fieldsPass, bucketFieldsPass, allFieldsPass, daysPass};
 ghost use Rattle.image_read.specs.InImage.{HasSizes, Whole, InImage, slotsAt};
 use image_form::Form;
 use image_read::Header;
 use image_read::Slots;
-use image_read::built_in;
-use image_read::live_in;
+use image_read::sizes_in;
 use image_read::slot_in;
 use image_read::some_of;
-use metric::valid_measures;
-use metric::valid_tag;
 use metric_rules::Row;
 use rows::day_of;
 use rows::mark_of;
@@ -26,44 +22,27 @@ use rows::profile_of;
 use rows::tag_of;
 use table_checks::size_passes;
 use table_order::Order;
+use validity::valid_day;
+use validity::valid_measures;
+use validity::valid_tag;
 
-// Every bucket's sizes.
-fn each_size_passes(image: &[u8], form: Form, t: u32) -> bool
-    requires { ⌜ (t ≤ 12) × HasSizes (now image) form t ⌝ }
-    ensures { λ r. ⌜ r ≡ every (λ k. sizePasses k (builtIn (now (image .entry)) k) (liveIn (now (image .entry)) k)) (bucketsOf t) ⌝ }
+// Every bucket's sizes, and the live items in all, in one pass.
+pub fn sizes_pass(image: &[u8], form: Form, order: Order) -> bool
+    requires { ⌜ (order .t ≤ mostOrder) × HasSizes (now image) form (order .t) ⌝ }
+    ensures { λ r. ⌜ r ≡ sizesPass (order .t) (builtIn (now (image .entry))) (liveIn (now (image .entry))) ⌝ }
 {
-    let mut k = 0;
-    while k <= t {
-        if !size_passes(k, built_in(image, form, k), live_in(image, form, k)) {
-            return false;
-        }
-        k += 1;
-    }
-    true
-}
-
-// The live sizes of all buckets.
-fn live_total(image: &[u8], form: Form, t: u32) -> usize
-    requires { ⌜ (t ≤ 12) × HasSizes (now image) form t ⌝ }
-    ensures { λ r. ⌜ r ≡ total (map (liveIn (now (image .entry))) (bucketsOf t)) ⌝ }
-{
+    let t = order.t;
     let mut sum: usize = 0;
     let mut k = 0;
     while k <= t {
-        sum += live_in(image, form, k) as usize;
+        let sizes = sizes_in(image, form, k);
+        if !size_passes(k, sizes.built, sizes.live) {
+            return false;
+        }
+        sum += sizes.live as usize;
         k += 1;
     }
-    sum
-}
-
-pub fn sizes_pass(image: &[u8], form: Form, t: u32) -> bool
-    requires { ⌜ (t ≤ 12) × HasSizes (now image) form t ⌝ }
-    ensures { λ r. ⌜ r ≡ sizesPass t (builtIn (now (image .entry))) (liveIn (now (image .entry))) ⌝ }
-{
-    if !each_size_passes(image, form, t) {
-        return false;
-    }
-    live_total(image, form, t) <= Order::room(t)
+    sum <= Order::room(t)
 }
 
 // A slot's own fields.
@@ -77,7 +56,7 @@ fn slot_passes(row: Row) -> bool
 fn has_day(row: Row) -> bool
     ensures { λ r. ⌜ r ≡ validDay (dayOf row) ⌝ }
 {
-    1 <= day_of(row)
+    valid_day(day_of(row))
 }
 
 // The day of every slot, dead ones too.
@@ -125,8 +104,9 @@ pub fn buckets_read(image: &[u8], header: Header, all: Slots) -> bool
     let mut first = 0;
     let mut k = 0;
     while k <= t {
-        let count = built_in(image, form, k) as usize;
-        if !slots_read(image, some_of(all, first, count), live_in(image, form, k)) {
+        let sizes = sizes_in(image, form, k);
+        let count = sizes.built as usize;
+        if !slots_read(image, some_of(all, first, count), sizes.live) {
             return false;
         }
         first += count;

@@ -12,8 +12,7 @@ ghost use Rattle.table_buckets.specs.OfOrder.{OfOrder};
 ghost use Rattle.image_fill.specs.IsBucket.{IsBucket};
 use image_read::Header;
 use image_read::Slots;
-use image_read::built_in;
-use image_read::live_in;
+use image_read::sizes_in;
 use image_read::slot_in;
 use image_read::some_of;
 use metric_rules::ROW_WIDTH;
@@ -43,16 +42,15 @@ fn fill_room(rows: &mut [Row], image: &[u8], at: Slots)
     }
 }
 
-// Bucket k, whose slots these are.
-fn put_bucket(table: &mut [Row], order: Order, k: u32, image: &[u8], at: Slots)
+// Bucket k, whose slots these are, so many of them live.
+fn put_bucket(table: &mut [Row], order: Order, k: u32, image: &[u8], at: Slots, live: u32)
     requires { ⌜ OfOrder (now table) (order .t) × (k ≤ order .t) × IsBucket (now image) k at ⌝ }
-    ensures { λ _. ⌜ now (table .exit) ≡ putBucket k (bucketIn (now (image .entry)) k) (liveIn (now (image .entry)) k) (now (table .entry)) ⌝ }
+    ensures { λ _. ⌜ now (table .exit) ≡ putBucket k (bucketIn (now (image .entry)) k) live (now (table .entry)) ⌝ }
 {
     let first = order.first_slot(k);
     let end = first + Order::room(k);
     fill_room(&mut table[first..end], image, at);
-    let form = at.form;
-    put_sizes(table, k, at.count as u32, live_in(image, form, k));
+    put_sizes(table, k, at.count as u32, live);
 }
 
 // Every bucket.
@@ -66,8 +64,16 @@ pub fn put_buckets(table: &mut [Row], image: &[u8], header: Header, all: Slots)
     let mut first = 0;
     let mut k = 0;
     while k <= t {
-        let count = built_in(image, form, k) as usize;
-        put_bucket(table, order, k, image, some_of(all, first, count));
+        let sizes = sizes_in(image, form, k);
+        let count = sizes.built as usize;
+        put_bucket(
+            table,
+            order,
+            k,
+            image,
+            some_of(all, first, count),
+            sizes.live,
+        );
         first += count;
         k += 1;
     }

@@ -9,7 +9,8 @@ use mathlib.Core.Bool.{Bool, true, false}
 use borrow.Author.Tests.{le-leb, lt-leb}
 use Rattle.lists.specs.Lists.{total}
 use Rattle.table_rules.specs.Refusals.{badImage}
-use Rattle.image_rules.specs.Bytes.{lastForm, validForm, startFields, weightFields, headerFields, dayFields, recordFields, headerBytes, tagBytes, recordBytes, sizesEnd, imageLength}
+use Rattle.image_rules.specs.Bytes.{lastForm, validForm, startFields, weightFields, headerFields, dayFields, recordFields, headerBytes, tagBytes, recordBytes}
+use Rattle.image_rules.specs.Bytes.{sizesEnd, imageLength}
 use Rattle.image_form.specs.declared.Formed.the-variants.{Is, Unknown}
 use Rattle.image_form.specs.declared.Form.{Form}
 use Rattle.image_form.specs.Answers.{Answer, answerOf, formAnswer}
@@ -28,12 +29,12 @@ unfolding validForm
 answer-above n h = answers n false (lt-leb n lastForm h)
 
 -- by the case: the number is a form, or it is none
-is-when : (form : Form) (n : ℕ) (b : Bool) → validForm n ≡ b → answerOf (Is form) ≡ formAnswer n → b ≡ true
+is-when : (form : Form) (n : ℕ) (b : Bool) → validForm n ≡ b → answerOf (Is form) ≡ formAnswer n → (form .number ≡ n) × (b ≡ true)
 unfolding answerOf
-is-when form n true v e = refl
+is-when form n true v e = (ap (λ (a : Answer). a .form) (e ∙ answers n true v), refl)
 is-when form n false v e = let z : _≡_ {A = ℕ} 0 8 = ap (λ (a : Answer). a .refusal) (e ∙ answers n false v) in absurd (omega arith)
 
-pub is-form : (form : Form) (n : ℕ) → answerOf (Is form) ≡ formAnswer n → validForm n ≡ true
+pub is-form : (form : Form) (n : ℕ) → answerOf (Is form) ≡ formAnswer n → (form .number ≡ n) × (validForm n ≡ true)
 is-form form n e = is-when form n (validForm n) refl e
 
 above-when : (n : ℕ) (b : Bool) → validForm n ≡ b → answerOf Unknown ≡ formAnswer n → b ≡ false

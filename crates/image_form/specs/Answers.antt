@@ -1,4 +1,5 @@
--- RULES 12.4: what asking for a form answers: the refusal's number and the form, for each case of `Formed`. The refusal is 8.
+-- RULES 12.4: what asking for a form answers: the refusal's number and the form, for each case of `Formed`. The refusal
+-- is 8.
 use Prim.Native.Nat.{ℕ}
 use mathlib.Core.Bool.{true, false}
 use Rattle.table_rules.specs.Refusals.{badImage}

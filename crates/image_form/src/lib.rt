@@ -1,7 +1,8 @@
 // The form of an image. Every length and place that goes by the form is worked out here and nowhere else.
 ghost use mathlib.Core.Path.{_≡_};
 ghost use Prim.Native.Nat.{_+_, _*_, _<_, _^_};
-ghost use Rattle.image_rules.specs.Bytes.{writtenForm, headerBytes, tagBytes, recordBytes, pairBytes, sizesEnd, imageLength};
+ghost use Rattle.image_rules.specs.Bytes.{writtenForm, headerBytes, tagBytes, recordBytes, pairBytes, sizesEnd};
+ghost use Rattle.image_rules.specs.Bytes.{imageLength};
 ghost use Rattle.image_form.specs.Answers.{answerOf, formAnswer};
 use image_rules::DAY_BYTES;
 use image_rules::PAIR_BYTES;
@@ -85,7 +86,8 @@ impl Form {
         self.sizes_at(t) + PAIR_BYTES
     }
 
-    // The place behind the tags of so many slots, where their records begin, and the one behind the records, where the image ends.
+    // The place behind the tags of so many slots, where their records begin, and the one behind the records, where the
+    // image ends.
     pub fn tags_end(self, t: u32, slots: usize) -> usize
         requires { ⌜ slots < 2 ^ 32 ⌝ }
         ensures { λ r. ⌜ r ≡ sizesEnd (self .number) t + tagBytes * slots ⌝ }

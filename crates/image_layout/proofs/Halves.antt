@@ -10,7 +10,8 @@ use Rattle.lists.proofs.Lists.{all-at, all-take, all-drop}
 use Rattle.metric_rules.specs.declared.Profile.{Profile}
 use Rattle.metric_rules.specs.Row.{Row}
 use Rattle.tree_rules.specs.Layout.{leftSize, placed}
-use Rattle.tree_rules.proofs.Parts.{leftPart, left-part, left-part-length, leftBack, left-back-length, rightPart, right-part, right-part-length, rightBack, right-back-length}
+use Rattle.tree_rules.proofs.Parts.{leftPart, left-part, left-part-length, leftBack, left-back-length, rightPart, right-part, right-part-length, rightBack}
+use Rattle.tree_rules.proofs.Parts.{right-back-length}
 use Rattle.search_rules.specs.Range.{Entry}
 use Rattle.image_rules.specs.declared.Loaded.{Loaded}
 use Rattle.image_rules.specs.Trees.{placeRefusal}

@@ -1,4 +1,5 @@
-// The test of a bucket of an image with a slice of entries: the first slot whose tag an earlier one has, or that is not what the layout puts there.
+// The test of a bucket of an image with a slice of entries: the first slot whose tag an earlier one has, or that is not
+// what the layout puts there.
 ghost use mathlib.Core.Path.{_≡_};
 ghost use Prim.Native.Nat.{_+_, _≤_, _<_};
 ghost use mathlib.Core.List.{[]};
@@ -88,8 +89,8 @@ fn first_refusal(image: &[u8], at: Slots, entries: &[Entry], place: usize) -> u3
     0
 }
 
-// The first slot from `place` on that is not what the layout of a part's entries puts there. What the part holds then is left free: it keeps its length,
-// and its entries are needed no more.
+// The first slot from `place` on that is not what the layout of a part's entries puts there. What the part holds then
+// is left free: it keeps its length, and its entries are needed no more.
 fn first_fault(image: &[u8], at: Slots, header: &Row, entries: &mut [Entry], place: usize) -> Loaded
     requires { ⌜ InImage (now image) at × (at .first + at .count ≤ places) × (place + length (now entries) ≤ at .count) × All (IsEntry (slotIn (now image) at) (at .count)) (now entries) ⌝ }
     ensures { λ r. ⌜ r ≡ partFault (slotIn (now (image .entry)) at) (distance (spaceOf (now (header .entry)))) (at .first) place (now (entries .entry)) ⌝ }
@@ -117,7 +118,8 @@ fn first_fault(image: &[u8], at: Slots, header: &Row, entries: &mut [Entry], pla
     first_fault(image, at, header, &mut entries[end..], place + end)
 }
 
-// The first fault of a bucket's tree, 36 before 37 and 38 in a slot. What `entries` holds then is left free; it keeps its length.
+// The first fault of a bucket's tree, 36 before 37 and 38 in a slot. What `entries` holds then is left free; it keeps
+// its length.
 pub fn tree_fault(image: &[u8], at: Slots, header: &Row, entries: &mut [Entry]) -> Loaded
     requires { ⌜ InImage (now image) at × (at .first + at .count ≤ places) × (length (now entries) ≡ at .count) × TagsFit (slotIn (now image) at) (at .count) ⌝ }
     ensures { λ r. ⌜ r ≡ treeFault (spaceOf (now (header .entry))) (at .first) (slotsAt (now (image .entry)) at) ⌝ }

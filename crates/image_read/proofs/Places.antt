@@ -1,5 +1,5 @@
 -- The slots of an image by their numbers: which row stands at a place of a run of slots, and that a bucket's slots and sizes are in the image.
-use Prim.Native.Nat.{ℕ, zero, suc, _+_, _^_, _≤_, _<_}
+use Prim.Native.Nat.{ℕ, zero, suc, _+_, _*_, _^_, _≤_, _<_}
 use mathlib.Core.Path.{_≡_, refl, ap, ap₂, _∙_}
 use mathlib.Core.Bool.{true}
 use mathlib.Core.List.{List, _∷_, map}
@@ -11,7 +11,7 @@ use lib.ListN.{length, getD, length-map}
 use lib.Pow.{pow-mono}
 use Rattle.lists.specs.Lists.{total, countFrom}
 use Rattle.metric_rules.specs.Row.{Row, rowWidth}
-use Rattle.table_rules.specs.Geometry.{room}
+use Rattle.table_rules.specs.Geometry.{mostOrder, room}
 use Rattle.table_rules.specs.Checks.{sizesPass}
 use Rattle.table_rules.proofs.Sizes.{size-room, sizes-at}
 use Rattle.image_rules.specs.Bytes.{tagFields, tagBytes, sizeBytes, pairBytes, sizesEnd, imageLength}
@@ -23,7 +23,7 @@ use Rattle.image_form.specs.declared.Form.{Form}
 use Rattle.image_form.proofs.Forms.{length-by-parts}
 use Rattle.image_read.specs.declared.Header.{Header}
 use Rattle.image_read.specs.declared.Slots.{Slots}
-use Rattle.image_read.specs.InImage.{HasSizes, Whole, InImage, slotIn, slotsAt}
+use Rattle.image_read.specs.InImage.{HasSizes, Whole, InImage, allSlots, slotIn, slotsAt}
 
 pub counted-at : {A : Type 0} (f : ℕ → A) (a n i : ℕ) (d : A) → i < n → getD (map f (countFrom a n)) i d ≡ f (a + i)
 unfolding countFrom
@@ -52,6 +52,18 @@ slots-sizes {image} p k l = sizes-below {t = orderIn image} (record { formed = p
 pub few-slots : {image : List ℕ} {at : Slots} → InImage image at → slotsIn image ≤ length image
 unfolding tagBytes tagFields total
 few-slots {image} p = omega (arith, p .whole, length-by-parts (formIn image) (orderIn image) (slotsIn image))
+
+-- all slots of a whole image
+pub all-in : {image : List ℕ} {header : Header} → Whole image header → (count : ℕ) → count ≡ slotsIn image → InImage image (allSlots header count)
+unfolding allSlots
+all-in {image} {header} w count e =
+    record {
+      formed = w .headed .form;
+      tagsAt = ap₂ sizesEnd (w .headed .form) (w .headed .order);
+      recordsAt = ap (λ (n : ℕ). sizesEnd (header .form .number) (header .order .t) + tagBytes * n) e;
+      whole = w .long;
+      within = omega (arith, e);
+    }
 
 -- the slots of a part are in the image where they are among all
 pub some-in : {image : List ℕ} {all : Slots} → InImage image all → (first count : ℕ) → first + count ≤ slotsIn image
@@ -85,7 +97,7 @@ unfolding total countFrom
 total-below f zero h = omega arith
 total-below f (suc n) h = omega (arith, total-more f n, total-below f n (λ k l. h k (omega arith)), h n (omega arith))
 
-pub slots-few : (image : List ℕ) → orderIn image ≤ 12 → sizesPass (orderIn image) (builtIn image) (liveIn image) ≡ true → slotsIn image < 8192
+pub slots-few : (image : List ℕ) → orderIn image ≤ mostOrder → sizesPass (orderIn image) (builtIn image) (liveIn image) ≡ true → slotsIn image < 8192
 unfolding slotsIn slotsBefore room
 slots-few image order pass =
     omega (

@@ -11,15 +11,17 @@ use Rattle.table_rules.specs.Checks.{sizesPass}
 use Rattle.image_rules.specs.Bytes.{tagBytes, sizesEnd, imageLength}
 use Rattle.image_rules.specs.Read.{formIn, orderIn, spaceIn, builtIn, liveIn, slotsIn, rowIn}
 use Rattle.image_form.specs.declared.Form.{Form}
+use Rattle.image_read.specs.declared.Start.{Start}
 use Rattle.image_read.specs.declared.Header.{Header}
 use Rattle.image_read.specs.declared.Slots.{Slots}
 
--- a header has an image's order, metric and form; and its weights, too
-pub record Started (image : List ℕ) (header : Header) : Type 0 where
-  pub order : header .order .t ≡ orderIn image
-  pub metric : header .space .metric ≡ spaceIn image .metric
-  pub form : header .form .number ≡ formIn image
+-- the numbers that an image begins with
+pub record Started (image : List ℕ) (start : Start) : Type 0 where
+  pub order : start .order ≡ orderIn image
+  pub metric : start .metric ≡ spaceIn image .metric
+  pub form : start .form ≡ formIn image
 
+-- a header has an image's order, space and form
 pub record Headed (image : List ℕ) (header : Header) : Type 0 where
   pub order : header .order .t ≡ orderIn image
   pub space : header .space ≡ spaceIn image
@@ -36,6 +38,12 @@ pub record Whole (image : List ℕ) (header : Header) : Type 0 where
   pub order : orderIn image ≤ mostOrder
   pub sizes : sizesPass (orderIn image) (builtIn image) (liveIn image) ≡ true
   pub long : length image ≡ imageLength (formIn image) (orderIn image) (slotsIn image)
+
+-- all slots of an image with this header, which are so many
+unfoldable pub allSlots : Header → ℕ → Slots
+allSlots header count =
+    let tags = sizesEnd (header .form .number) (header .order .t) in
+    record { form = header .form; tags = tags; records = tags + tagBytes * count; first = 0; count = count }
 
 -- slot i of some, and all of them
 unfoldable pub slotIn : List ℕ → Slots → ℕ → Row

@@ -1,14 +1,19 @@
-// The numbers of an image at their places, and its slots as rows. All are read through a reader, two at a time.
+// The numbers of an image at their places, and its slots as rows. Two that stand together are read through a reader,
+// and one by itself at its place.
 ghost use mathlib.Core.Path.{_≡_};
-ghost use Prim.Native.Nat.{_+_, _*_, _≤_, _<_};
+ghost use Prim.Native.Nat.{_+_, _≤_, _<_, _^_};
 ghost use mathlib.Core.List.{[], _∷_, _++_};
 ghost use lib.ListN.{length};
-ghost use Rattle.image_rules.specs.Bytes.{startBytes, headerBytes, tagFields, dayFields, recordFields, tagBytes, recordBytes};
-ghost use Rattle.image_rules.specs.Read.{numberAt, fieldsAt, orderIn, formIn, weightsAs, dayAs, builtIn, liveIn, slotsIn};
-ghost use Rattle.image_read.specs.InImage.{Started, Headed, HasSizes, Whole, InImage, slotIn};
+ghost use Rattle.table_rules.specs.Geometry.{mostOrder};
+ghost use Rattle.image_rules.specs.Bytes.{startBytes, headerBytes, tagFields, dayFields, recordFields, tagBytes};
+ghost use Rattle.image_rules.specs.Bytes.{recordBytes};
+ghost use Rattle.image_rules.specs.Read.{fieldsAt, orderIn, weightsAs, dayAs, builtIn, liveIn, slotsIn};
+ghost use Rattle.image_read.specs.InImage.{Started, Headed, HasSizes, InImage, allSlots, slotIn};
 use image_form::Form;
+use image_reader::number_at;
 use image_reader::two_from;
 use image_rules::DAY_BYTES;
+use image_rules::RECORD_WORDS_BYTES;
 use image_rules::SIZE_BYTES;
 use image_rules::START_BYTES;
 use image_rules::TAG_BYTES;
@@ -18,20 +23,35 @@ use metric_rules::WEIGHTS_ONE;
 use metric_rules::Weights;
 use table_order::Order;
 
-// The bytes of a word, and where the last word of a record, its mark, stands before the day.
+// The bytes of a word, and the place of the form behind order and metric, with its bytes.
 const WORD_BYTES: usize = 4;
 
-const MARK_AT: usize = 36;
+const FORM_AT: usize = 2;
 
-// An image's header, its numbers as they stand there: they are tested when they are known.
+const FORM_BYTES: usize = 2;
+
+// What an image of any form begins with, its numbers as they stand there.
+pub struct Start {
+    pub order: u32,
+    pub metric: u32,
+    pub form: u32,
+}
+
+// An image's header once its tests have passed.
 pub struct Header {
     pub order: Order,
     pub space: Space,
     pub form: Form,
 }
 
-// Slots of an image that stand one behind the other, as all slots do and those of a bucket: the image's form, the places of all tags and of all
-// records, the number of the first slot among all, and how many there are.
+// The sizes of a bucket.
+pub struct Sizes {
+    pub built: u32,
+    pub live: u32,
+}
+
+// Slots of an image that stand one behind the other, as all slots do and those of a bucket: the image's form, the
+// places of all tags and of all records, the number of the first slot among all, and how many there are.
 pub struct Slots {
     pub form: Form,
     pub tags: usize,
@@ -40,28 +60,21 @@ pub struct Slots {
     pub count: usize,
 }
 
-// What an image of any form begins with. Its weights stay 1 until they are read.
-pub fn start_in(image: &[u8]) -> Header
+pub fn start_in(image: &[u8]) -> Start
     requires { ⌜ startBytes ≤ length (now image) ⌝ }
     ensures { λ r. ⌜ Started (now (image .entry)) r ⌝ }
 {
     let first = two_from(image, 0, 1, 1);
-    let last = two_from(image, 1, 1, 2);
-    let weights = WEIGHTS_ONE;
-    Header {
-        order: Order { t: first.first },
-        space: Space {
-            metric: first.second,
-            weights,
-        },
-        form: Form {
-            number: last.second,
-        },
+    let form = number_at(image, FORM_AT, FORM_BYTES);
+    Start {
+        order: first.first,
+        metric: first.second,
+        form,
     }
 }
 
 // The weights, which are 1 in a form that does not have them.
-fn weights_in(image: &[u8], form: Form) -> Weights
+pub fn weights_in(image: &[u8], form: Form) -> Weights
     requires { ⌜ headerBytes (form .number) ≤ length (now image) ⌝ }
     ensures { λ r. ⌜ r ≡ weightsAs (form .number) (now (image .entry)) ⌝ }
 {
@@ -75,44 +88,21 @@ fn weights_in(image: &[u8], form: Form) -> Weights
     }
 }
 
-// The whole header.
-pub fn header_in(image: &[u8], start: Header) -> Header
-    requires { ⌜ Started (now image) start × (headerBytes (formIn (now image)) ≤ length (now image)) ⌝ }
-    ensures { λ r. ⌜ Headed (now (image .entry)) r ⌝ }
-{
-    let order = start.order;
-    let form = start.form;
-    let weights = weights_in(image, form);
-    Header {
-        order,
-        space: Space {
-            metric: start.space.metric,
-            weights,
-        },
-        form,
-    }
-}
-
 // The sizes of bucket k.
-pub fn built_in(image: &[u8], form: Form, k: u32) -> u32
+pub fn sizes_in(image: &[u8], form: Form, k: u32) -> Sizes
     requires { ⌜ HasSizes (now image) form k ⌝ }
-    ensures { λ r. ⌜ r ≡ builtIn (now (image .entry)) k ⌝ }
+    ensures { λ r. ⌜ (r .built ≡ builtIn (now (image .entry)) k) × (r .live ≡ liveIn (now (image .entry)) k) ⌝ }
 {
     let sizes = two_from(image, form.sizes_at(k), SIZE_BYTES, SIZE_BYTES);
-    sizes.first
-}
-
-pub fn live_in(image: &[u8], form: Form, k: u32) -> u32
-    requires { ⌜ HasSizes (now image) form k ⌝ }
-    ensures { λ r. ⌜ r ≡ liveIn (now (image .entry)) k ⌝ }
-{
-    let sizes = two_from(image, form.sizes_at(k), SIZE_BYTES, SIZE_BYTES);
-    sizes.second
+    Sizes {
+        built: sizes.first,
+        live: sizes.second,
+    }
 }
 
 // The built slots of all buckets.
 pub fn slots_in(image: &[u8], header: Header) -> usize
-    requires { ⌜ Headed (now image) header × (orderIn (now image) ≤ 12) × HasSizes (now image) (header .form) (orderIn (now image)) ⌝ }
+    requires { ⌜ Headed (now image) header × (orderIn (now image) ≤ mostOrder) × HasSizes (now image) (header .form) (orderIn (now image)) ⌝ }
     ensures { λ r. ⌜ r ≡ slotsIn (now (image .entry)) ⌝ }
 {
     let form = header.form;
@@ -120,20 +110,20 @@ pub fn slots_in(image: &[u8], header: Header) -> usize
     let mut slots: usize = 0;
     let mut k = 0;
     while k < buckets {
-        slots += built_in(image, form, k) as usize;
+        let sizes = sizes_in(image, form, k);
+        slots += sizes.built as usize;
         k += 1;
     }
     slots
 }
 
-// All slots of a whole image.
-pub fn all_slots(image: &[u8], header: Header) -> Slots
-    requires { ⌜ Whole (now image) header ⌝ }
-    ensures { λ r. ⌜ InImage (now (image .entry)) r × (r .first ≡ 0) × (r .count ≡ slotsIn (now (image .entry))) ⌝ }
+// All slots of an image with this header, which are so many.
+pub fn all_slots(header: Header, count: usize) -> Slots
+    requires { ⌜ count < 2 ^ 32 ⌝ }
+    ensures { λ r. ⌜ r ≡ allSlots header count ⌝ }
 {
     let form = header.form;
     let t = header.order.t;
-    let count = slots_in(image, header);
     Slots {
         form,
         tags: form.sizes_end(t),
@@ -165,8 +155,7 @@ fn day_at(image: &[u8], form: Form, r: usize) -> u32
     if form.number < Form::FIRST_WITH_DAYS {
         return 1;
     }
-    let last = two_from(image, r + MARK_AT, WORD_BYTES, DAY_BYTES);
-    last.second
+    number_at(image, r + RECORD_WORDS_BYTES, DAY_BYTES)
 }
 
 // The row whose tag stands at t and whose record, of a form, stands at r: two words at a time.

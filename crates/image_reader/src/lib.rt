@@ -1,10 +1,10 @@
-// A reader of an image: it holds the image and its position. What it does is done by functions over a slice and a number, so each function over a reader
-// is thin: the borrow checker covers none that takes, makes or has one, and their proofs are walks by hand. Callers need none of them:
-// `two_from` and `has_bytes` have plain parameters.
+// A reader of an image: it holds the image and its position. What it does is done by functions over a slice and a
+// number, so each function over a reader is thin: the borrow checker covers none that takes, makes or has one, and
+// their proofs are walks by hand. Callers need none of them: `two_from` has plain parameters, and `number_at` is what a
+// reader's next number is read by.
 ghost use mathlib.Core.Path.{_≡_};
 ghost use mathlib.Core.Bool.{true};
 ghost use Prim.Native.Nat.{_+_, _*_, _≤_};
-ghost use lib.Dec.{leb};
 ghost use lib.ListN.{length};
 ghost use Rattle.image_rules.specs.Read.{numberAt};
 ghost use Rattle.image_reader.specs.Widths.{isWidth};
@@ -54,27 +54,10 @@ pub fn number_at(image: &[u8], at: usize, w: usize) -> u32
     of_four(image[at], image[at + 1], image[at + 2], image[at + 3])
 }
 
-// Whether n bytes are left at a place.
-pub fn bytes_left(image: &[u8], at: usize, n: usize) -> bool
-    ensures { λ r. ⌜ r ≡ leb (at + n) (length (now (image .entry))) ⌝ }
-{
-    if image.len() < at {
-        return false;
-    }
-    n <= image.len() - at
-}
-
 pub fn reader_at<'a>(image: &'a [u8], at: usize) -> Reader<'a>
     ensures { λ r. ⌜ (r .image ≡ image .entry) × (r .at ≡ at) ⌝ }
 {
     Reader { image, at }
-}
-
-// Whether n bytes are left.
-pub fn left<'a>(r: Reader<'a>, n: usize) -> bool
-    ensures { λ b. ⌜ b ≡ leb (r .entry .at + n) (length (now (r .entry .image))) ⌝ }
-{
-    bytes_left(r.image, r.at, n)
 }
 
 // The next number of w bytes; the reader is moved on behind it.
@@ -96,11 +79,4 @@ pub fn two_from(image: &[u8], at: usize, v: usize, w: usize) -> Two
     let first = next(&mut r, v);
     let second = next(&mut r, w);
     Two { first, second }
-}
-
-// Whether n bytes are left at a place.
-pub fn has_bytes(image: &[u8], at: usize, n: usize) -> bool
-    ensures { λ b. ⌜ b ≡ leb (at + n) (length (now (image .entry))) ⌝ }
-{
-    left(reader_at(image, at), n)
 }

@@ -12,7 +12,8 @@ use Rattle.metric_rules.specs.Row.{Row}
 use Rattle.table_rules.specs.Geometry.{bucketsOf}
 use Rattle.table_rules.specs.Table.{Table, orderOf, tableSpace, builtOf, liveOf, slotsOf}
 use Rattle.table_rules.proofs.ByNumber.{map-count}
-use Rattle.image_rules.specs.Bytes.{writtenForm, bytesOf, bytesOfFields, startFields, weightFields, headerFields, tagFields, recordFields, startBytes, headerBytes, tagBytes, recordBytes, sizeBytes, pairBytes, sizesEnd, tagWords, imageLength}
+use Rattle.image_rules.specs.Bytes.{writtenForm, bytesOf, bytesOfFields, startFields, weightFields, headerFields, tagFields, recordFields, startBytes}
+use Rattle.image_rules.specs.Bytes.{headerBytes, tagBytes, recordBytes, sizeBytes, pairBytes, sizesEnd, tagWords, imageLength}
 use Rattle.image_rules.specs.Write.{headerBytesOf, sizesOf, tagsOf, recordsOf, allSlots, imageAs, imageOf}
 use Rattle.image_rules.specs.Read.{fieldsAt, startNumbers, orderIn, weightsAs, spaceIn, formIn, builtIn, liveIn, slotsIn, dayAs, rowIn, bucketIn}
 use Rattle.image_rules.proofs.Bytes.{fields-past}

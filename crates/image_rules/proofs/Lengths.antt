@@ -16,7 +16,8 @@ use Rattle.metric_rules.specs.Row.{Row, IsRow, rowWidth, word, dayAt, dayOf}
 use Rattle.table_rules.specs.Geometry.{bucketsOf}
 use Rattle.table_rules.specs.Table.{Table, orderOf, tableSpace, builtOf, liveOf, slotsOf}
 use Rattle.table_rules.proofs.ByNumber.{length-flatten}
-use Rattle.image_rules.specs.Bytes.{writtenForm, bytesOf, bytesOfFields, headerFields, tagFields, dayFields, recordFields, headerBytes, tagBytes, recordBytes, sizeBytes, pairBytes, sizesEnd, tagWords, imageLength}
+use Rattle.image_rules.specs.Bytes.{writtenForm, bytesOf, bytesOfFields, headerFields, tagFields, dayFields, recordFields, headerBytes, tagBytes}
+use Rattle.image_rules.specs.Bytes.{recordBytes, sizeBytes, pairBytes, sizesEnd, tagWords, imageLength}
 use Rattle.image_rules.specs.Write.{headerBytesOf, sizesOf, tagsOf, recordsOf, allSlots, imageAs, imageOf}
 use Rattle.image_rules.specs.Read.{numberAt, fieldsAt, formIn, orderIn, slotsIn, slotsBefore, builtIn, liveIn, dayAs, rowIn, bucketIn}
 use Rattle.image_rules.proofs.Blocks.{length-blocks, length-count}

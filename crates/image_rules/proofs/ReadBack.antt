@@ -15,11 +15,14 @@ use Rattle.metric_rules.specs.declared.Space.{Space}
 use Rattle.metric_rules.specs.Distance.{weight, weightsOf, spaceOf}
 use Rattle.table_rules.specs.Geometry.{bucketsOf}
 use Rattle.table_rules.specs.Table.{Table, orderOf, tableSpace, builtOf, liveOf, slotsOf}
-use Rattle.image_rules.specs.Bytes.{writtenForm, bytesOf, startFields, weightFields, headerFields, tagFields, dayFields, recordFields, bytesOfFields, startBytes, headerBytes, tagBytes, recordBytes, sizeBytes, pairBytes, sizesEnd, tagWords}
+use Rattle.image_rules.specs.Bytes.{writtenForm, bytesOf, startFields, weightFields, headerFields, tagFields, dayFields, recordFields, bytesOfFields}
+use Rattle.image_rules.specs.Bytes.{startBytes, headerBytes, tagBytes, recordBytes, sizeBytes, pairBytes, sizesEnd, tagWords}
 use Rattle.image_rules.specs.Write.{headerBytesOf, sizesOf, tagsOf, recordsOf, allSlots, imageAs, imageOf}
-use Rattle.image_rules.specs.Read.{fieldsAt, startNumbers, orderIn, weightsAs, spaceIn, formIn, builtIn, liveIn, slotsBefore, slotsIn, dayAs, rowIn, bucketIn}
+use Rattle.image_rules.specs.Read.{fieldsAt, startNumbers, orderIn, weightsAs, spaceIn, formIn, builtIn, liveIn, slotsBefore, slotsIn, dayAs, rowIn}
+use Rattle.image_rules.specs.Read.{bucketIn}
 use Rattle.image_rules.proofs.Bytes.{length-bytes, length-fields, number-at, alike-fill, fields-in}
-use Rattle.image_rules.proofs.Blocks.{all-flatten, all-at, all-below, Block, block-at, length-blocks, length-count, getD-count, part-at, length-flatten, map-count, picked}
+use Rattle.image_rules.proofs.Blocks.{all-flatten, all-at, all-below, Block, block-at, length-blocks, length-count, getD-count, part-at, length-flatten}
+use Rattle.image_rules.proofs.Blocks.{map-count, picked}
 
 -- what a table shows and an image says: order, metric and weights, and of each bucket its sizes and its slots
 pub record Fields : Type 0 where

@@ -1,5 +1,6 @@
--- An image of an older form, of the length that its sizes give, is refused or loads as its translation does. The translation is the bytes in which the newest form
--- writes what the image says, so it reads back as that, and a load goes by what is read alone where no length is wrong.
+-- An image of an older form, of the length that its sizes give, is refused or loads as its translation does. The
+-- translation is the bytes in which the newest form writes what the image says, so it reads back as that, and a load
+-- goes by what is read alone where no length is wrong.
 use Prim.Native.Nat.{ℕ, zero, suc, _+_, _*_, _^_, _≤_, _<_}
 use mathlib.Core.Path.{_≡_, refl, sym, ap, ap₂, _∙_}
 use mathlib.Core.Bool.{true}
@@ -17,9 +18,11 @@ use Rattle.table_rules.specs.Table.{Table, putBucket}
 use Rattle.table_rules.specs.Checks.{sizesPass}
 use Rattle.table_rules.specs.Fresh.{freshTable}
 use Rattle.table_rules.proofs.ByNumber.{map-count}
-use Rattle.image_rules.specs.Bytes.{lastForm, validForm, writtenForm, bytesOf, bytesOfFields, startFields, weightFields, headerFields, dayFields, recordFields, startBytes, headerBytes, tagBytes, pairBytes, sizesEnd, tagWords, imageLength}
+use Rattle.image_rules.specs.Bytes.{lastForm, validForm, writtenForm, bytesOf, bytesOfFields, startFields, weightFields, headerFields, dayFields}
+use Rattle.image_rules.specs.Bytes.{recordFields, startBytes, headerBytes, tagBytes, pairBytes, sizesEnd, tagWords, imageLength}
 use Rattle.image_rules.specs.Write.{headerBytesOf, sizesOf, tagsOf, recordsOf}
-use Rattle.image_rules.specs.Read.{numberAt, fieldsAt, startNumbers, orderIn, formIn, weightsAs, spaceIn, builtIn, liveIn, slotsIn, dayAs, rowIn, bucketIn}
+use Rattle.image_rules.specs.Read.{numberAt, fieldsAt, startNumbers, orderIn, formIn, weightsAs, spaceIn, builtIn, liveIn, slotsIn, dayAs, rowIn}
+use Rattle.image_rules.specs.Read.{bucketIn}
 use Rattle.image_rules.specs.Load.{fieldsRefusal, orLoaded, treesIn, loadReply, loadRefusal, loadedTable, tableAfterLoad}
 use Rattle.image_rules.specs.declared.Loaded.{Loaded}
 use Rattle.image_rules.specs.Translate.{weightBytes, recordWithDay, translated}

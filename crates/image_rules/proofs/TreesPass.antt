@@ -26,7 +26,8 @@ use Rattle.tree_rules.proofs.Placed.{placed-with-mark, placed-again, placed-own
 use Rattle.search_rules.proofs.Selecting.{select-append}
 use Rattle.table_rules.specs.Refusals.{unless}
 use Rattle.table_rules.specs.Geometry.{bucketsOf}
-use Rattle.image_rules.specs.Trees.{duplicateTag, misplacedItem, badThreshold, noneHas, tagIsNew, sameItem, placeRefusal, slotRefusal, refusalsFrom, bucketRefusals, slotRefusals, firstRefused, treesReply, treesPass}
+use Rattle.image_rules.specs.Trees.{duplicateTag, misplacedItem, badThreshold, noneHas, tagIsNew, sameItem, placeRefusal, slotRefusal, refusalsFrom}
+use Rattle.image_rules.specs.Trees.{bucketRefusals, slotRefusals, firstRefused, treesReply, treesPass}
 use Rattle.image_rules.proofs.Blocks.{all-flatten}
 use Rattle.image_rules.proofs.Counting.{flatten-more}
 use Rattle.image_rules.proofs.EachBucket.{all-buckets, buckets-all}

@@ -8,7 +8,8 @@ use Rattle.lists.specs.Lists.{every, select, countFrom}
 use Rattle.metric_rules.specs.Row.{Row, tagOf, profileOf, dayOf, isLive}
 use Rattle.metric_rules.specs.Validity.{validTag, validMeasures, validDay, validMark}
 use Rattle.metric_rules.specs.Distance.{validMetric, validWeights}
-use Rattle.table_rules.specs.Refusals.{badOrder, badMetric, badWeight, badDay, badLength, badImage, shortArea, badTable, unless, when}
+use Rattle.table_rules.specs.Refusals.{badOrder, badMetric, badWeight, badDay, badLength, badImage, shortArea, badTable}
+use Rattle.table_rules.specs.Refusals.{unless, when}
 use Rattle.table_rules.specs.Geometry.{validOrder, bucketsOf, tableRows}
 use Rattle.table_rules.specs.Table.{Table, putBucket}
 use Rattle.table_rules.specs.Checks.{sizesPass, liveSizeHolds}
@@ -37,9 +38,10 @@ daysPass image = every (λ i. validDay (dayOf (rowIn image i))) (countFrom 0 (sl
 unfoldable pub liveRows : List ℕ → List Row
 liveRows image = flatten (map (λ k. select isLive (bucketIn image k)) (bucketsOf (orderIn image)))
 
--- RULES 12.4, before any tree: under 4 bytes 7; order 3; metric 4; a form that is not known 8; weights cut 7; a weight 32; size pairs cut 7; sizes 24; total
--- length 7; the table's room 23, of which only its number of rows is read; a day 33; then the fields of any slot 8. An image of form 0 has no weights, and
--- passes their two tests; one of form 0 or 1 has no days, and passes theirs
+-- RULES 12.4, before any tree: under 4 bytes 7; order 3; metric 4; a form that is not known 8; weights cut 7; a weight
+-- 32; size pairs cut 7; sizes 24; total length 7; the table's room 23, of which only its number of rows is read; a day
+-- 33; then the fields of any slot 8. An image of form 0 has no weights, and passes their two tests; one of form 0 or 1
+-- has no days, and passes theirs
 unfoldable pub fieldsRefusal : ℕ → List ℕ → ℕ
 fieldsRefusal rows image =
     when (ltb (length image) startBytes) badLength

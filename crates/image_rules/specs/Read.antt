@@ -7,7 +7,8 @@ use Rattle.metric_rules.specs.Row.{Row}
 use Rattle.metric_rules.specs.declared.Weights.{Weights}
 use Rattle.metric_rules.specs.declared.Space.{Space}
 use Rattle.metric_rules.specs.Distance.{weightsOne}
-use Rattle.image_rules.specs.Bytes.{numberOf, startFields, weightFields, tagFields, recordFields, startBytes, headerBytes, tagBytes, recordBytes, sizeBytes, pairBytes, sizesEnd}
+use Rattle.image_rules.specs.Bytes.{numberOf, startFields, weightFields, tagFields, recordFields, startBytes}
+use Rattle.image_rules.specs.Bytes.{headerBytes, tagBytes, recordBytes, sizeBytes, pairBytes, sizesEnd}
 
 -- the w bytes at a place as a number, and the numbers of some fields from a place on
 unfoldable pub numberAt : List ℕ → ℕ → ℕ → ℕ

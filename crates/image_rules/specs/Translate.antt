@@ -1,9 +1,11 @@
--- RULES 12.7: an image of an older form translated into the newest: the same bytes with form 2, weights 1 where it has none, and day 1 at the end of every record.
+-- RULES 12.7: an image of an older form translated into the newest: the same bytes with form 2, weights 1 where it has
+-- none, and day 1 at the end of every record.
 use Prim.Native.Nat.{ℕ, zero, suc, _+_, _*_}
 use mathlib.Core.List.{List, [], _∷_, _++_, map, flatten}
 use lib.ListN.{take, drop}
 use Rattle.lists.specs.Lists.{total, countFrom}
-use Rattle.image_rules.specs.Bytes.{writtenForm, bytesOf, weightFields, startBytes, headerBytes, tagBytes, recordBytes, pairBytes, sizesEnd}
+use Rattle.image_rules.specs.Bytes.{writtenForm, bytesOf, weightFields, startBytes, headerBytes, tagBytes}
+use Rattle.image_rules.specs.Bytes.{recordBytes, pairBytes, sizesEnd}
 use Rattle.image_rules.specs.Read.{orderIn, formIn, slotsIn}
 
 -- the weights' bytes as they stand, or a 1 for each where the form has none

@@ -12,7 +12,8 @@ use Rattle.table_rules.specs.Refusals.{unless}
 use Rattle.table_rules.specs.Geometry.{bucketsOf}
 use Rattle.image_rules.specs.declared.Loaded.{Loaded}
 
--- RULES 14.1: a tag that an earlier slot has; a slot that is not the item that the layout puts there; a threshold other than the layout's
+-- RULES 14.1: a tag that an earlier slot has; a slot that is not the item that the layout puts there; a threshold other
+-- than the layout's
 abbrev pub duplicateTag : ℕ
 duplicateTag = 36
 
@@ -26,7 +27,8 @@ badThreshold = 38
 unfoldable pub noneHas : ℕ → List Row → Bool
 noneHas tag rows = every (λ row. not (eqb (tagOf row) tag)) rows
 
--- 36: no earlier slot of its bucket has the slot's tag; and if it is live, no live one of all slots before it, those of the buckets `before` its own too
+-- 36: no earlier slot of its bucket has the slot's tag; and if it is live, no live one of all slots before it, those of
+-- the buckets `before` its own too
 unfoldable pub tagIsNew : List Row → List Row → Row → Bool
 tagIsNew before earlier row =
     noneHas (tagOf row) earlier && (not (isLive row) || noneHas (tagOf row) (select isLive (before ++ earlier)))
@@ -48,14 +50,16 @@ slotRefusal before earlier laid row =
     unless (tagIsNew before earlier row) duplicateTag
     (placeRefusal laid row)
 
--- those of a bucket's slots from one on, with those that are earlier in the bucket, and what the layout puts from that one on
+-- those of a bucket's slots from one on, with those that are earlier in the bucket, and what the layout puts from that
+-- one on
 unfoldable pub refusalsFrom : List Row → List Row → List Row → List Row → List ℕ
 refusalsFrom before earlier laid [] = []
 refusalsFrom before earlier [] (row ∷ rows) = []
 refusalsFrom before earlier (l ∷ laid) (row ∷ rows) = slotRefusal before earlier l row ∷ refusalsFrom before (earlier ++ (row ∷ [])) laid rows
 
 module _ (space : Space) where
-  -- of all slots of a bucket. The layout is that of all its built items, and of equal tags the earlier slot's goes first
+  -- of all slots of a bucket. The layout is that of all its built items, and of equal tags the earlier slot's goes
+  -- first
   unfoldable pub bucketRefusals : List Row → List Row → List ℕ
   bucketRefusals before slots = refusalsFrom before [] (layout (distance space) slots) slots
 
@@ -73,8 +77,8 @@ firstRefused at (suc n ∷ ns) = record { refusal = suc n; slot = at }
 unfoldable pub treesReply : Space → ℕ → (ℕ → List Row) → Loaded
 treesReply space order slots = firstRefused 0 (slotRefusals space order slots)
 
--- RULES 12.9, what no slot is refused of, in other words: in every bucket no tag occurs twice and the slots are a layout, marks aside, and no live tag occurs
--- twice at all
+-- RULES 12.9, what no slot is refused of, in other words: in every bucket no tag occurs twice and the slots are a
+-- layout, marks aside, and no live tag occurs twice at all
 unfoldable pub treesPass : Space → ℕ → (ℕ → List Row) → Bool
 treesPass space order slots =
     every (λ k. distinct (map tagOf (slots k)) && isLayout (distance space) (slots k)) (bucketsOf order)

@@ -10,7 +10,8 @@ use Rattle.table_rules.specs.Geometry.{bucketsOf}
 use Rattle.table_rules.specs.Table.{Table, orderOf, tableSpace, builtOf, liveOf, slotsOf}
 use Rattle.table_rules.specs.Checks.{readRefusal}
 use Rattle.image_rules.specs.declared.Written.{Written}
-use Rattle.image_rules.specs.Bytes.{writtenForm, bytesOf, bytesOfFields, headerFields, sizeBytes, tagFields, recordFields, tagWords}
+use Rattle.image_rules.specs.Bytes.{writtenForm, bytesOf, bytesOfFields, headerFields, sizeBytes, tagFields}
+use Rattle.image_rules.specs.Bytes.{recordFields, tagWords}
 
 -- order, metric, form, weights; in form 0 the weights are left out
 unfoldable pub headerBytesOf : ℕ → ℕ → Space → List ℕ

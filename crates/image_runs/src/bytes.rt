@@ -1,5 +1,5 @@
-// A sound image of each form, all of the same slots, and behind it one byte that is no part of it, as tools/image_runs.py writes them: its length, the
-// lengths from 0 to one more than that, and the bytes.
+// A sound image of each form, all of the same slots, and behind it one byte that is no part of it, as
+// tools/image_runs.py writes them: its length, the lengths from 0 to one more than that, and the bytes.
 
 // Of form 2.
 pub const LENGTH: usize = 370;

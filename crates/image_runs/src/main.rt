@@ -1,6 +1,7 @@
-// Loads damaged images and prints the replies that tools/image_runs.py worked out apart from the code: a sound image of each form cut at every length,
-// into a table one row short and into one of the rows that it needs, and with each of its bits flipped, that of form 2 by each metric. An accepted image is
-// written again: `=` where its bytes come back, `+` where those of its translation to form 2 do.
+// Loads damaged images and prints the replies that tools/image_runs.py worked out apart from the code: a sound image of
+// each form cut at every length, into a table one row short and into one of the rows that it needs, and with each of
+// its bits flipped, that of form 2 by each metric. An accepted image is written again: `=` where its bytes come back,
+// `+` where those of its translation to form 2 do.
 mod bytes;
 
 use bytes::CUTS;

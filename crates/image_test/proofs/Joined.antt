@@ -16,7 +16,8 @@ use Rattle.tree_rules.proofs.Layouts.{layout-length}
 use Rattle.search_rules.proofs.Selecting.{select-all}
 use Rattle.table_rules.specs.Refusals.{unless, orElse}
 use Rattle.table_rules.specs.Geometry.{bucketsOf}
-use Rattle.image_rules.specs.Trees.{duplicateTag, noneHas, tagIsNew, placeRefusal, slotRefusal, refusalsFrom, bucketRefusals, slotRefusals, firstRefused, treesReply}
+use Rattle.image_rules.specs.Trees.{duplicateTag, noneHas, tagIsNew, placeRefusal, slotRefusal, refusalsFrom, bucketRefusals, slotRefusals, firstRefused}
+use Rattle.image_rules.specs.Trees.{treesReply}
 use Rattle.image_rules.proofs.Counting.{flatten-more}
 use Rattle.image_entries.specs.Faults.{firstOf, earlier, tagRefusal, tagRefusals, anySlot, placeRefusals, treeFault}
 use Rattle.image_entries.proofs.Faults.{both, first-both, first-runs}

@@ -1,4 +1,5 @@
-// The first fault of an image's trees, found with one array of entries: every bucket's tags and layout, and a live tag that an earlier live slot has.
+// The first fault of an image's trees, found with one array of entries: every bucket's tags and layout, and a live tag
+// that an earlier live slot has.
 ghost use mathlib.Core.Path.{_≡_};
 ghost use Prim.Native.Nat.{ℕ, _≤_, _<_, _^_};
 ghost use mathlib.Core.Bool.{true};
@@ -20,7 +21,7 @@ use image_entries::tag_entry;
 use image_layout::tree_fault;
 use image_read::Header;
 use image_read::Slots;
-use image_read::built_in;
+use image_read::sizes_in;
 use image_read::slot_in;
 use image_read::some_of;
 use image_rules::Loaded;
@@ -32,8 +33,8 @@ use search_rules::Entry;
 // As many entries as a bucket has slots, and as there are live slots in all.
 const ENTRIES: usize = 4096;
 
-// The entries of the live ones of some slots, from the first place on. The reply is their number. What `entries` holds behind them is left free;
-// it keeps its length.
+// The entries of the live ones of some slots, from the first place on. The reply is their number. What `entries` holds
+// behind them is left free; it keeps its length.
 fn enter_live(image: &[u8], at: Slots, entries: &mut [Entry]) -> usize
     requires { ⌜ InImage (now image) at × (at .count ≤ places) × (length (countedEntries (slotIn (now image) at) isLive (at .count)) ≤ length (now entries)) × TagsFit (slotIn (now image) at) (at .count) ⌝ }
     ensures counted { λ r. ⌜ r ≡ length (countedEntries (slotIn (now (image .entry)) at) isLive (at .count)) ⌝ }
@@ -61,8 +62,8 @@ fn live_fault(image: &[u8], at: Slots, entries: &mut [Entry]) -> Loaded
     duplicate_fault(&mut entries[..count], 0)
 }
 
-// The first fault of the buckets' trees, one after the other; `row` is a header row with the image's space. What `entries` holds then is left free;
-// it keeps its length.
+// The first fault of the buckets' trees, one after the other; `row` is a header row with the image's space. What
+// `entries` holds then is left free; it keeps its length.
 fn each_tree_fault(
     image: &[u8],
     header: Header,
@@ -78,7 +79,8 @@ fn each_tree_fault(
     let mut first = 0;
     let mut k = 0;
     while k < buckets {
-        let count = built_in(image, form, k) as usize;
+        let sizes = sizes_in(image, form, k);
+        let count = sizes.built as usize;
         let at = some_of(all, first, count);
         let fault = tree_fault(image, at, row, &mut entries[..count]);
         if fault.refusal != 0 {

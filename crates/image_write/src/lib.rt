@@ -8,8 +8,10 @@ ghost use Rattle.metric_rules.specs.Row.{word};
 ghost use Rattle.metric_rules.specs.Distance.{spaceOf};
 ghost use Rattle.table_rules.specs.Table.{orderOf, builtOf, liveOf};
 ghost use Rattle.table_rules.specs.Passed.{Passed};
-ghost use Rattle.image_rules.specs.Bytes.{writtenForm, bytesOf, bytesOfFields, weightFields, startBytes, headerBytes, sizeBytes, pairBytes, sizesEnd};
-ghost use Rattle.image_rules.specs.Write.{headerBytesOf, sizesOf, tagsOf, recordsOf, allSlots, imageOf, writeReply, imageAfterWrite};
+ghost use Rattle.image_rules.specs.Bytes.{writtenForm, bytesOf, bytesOfFields, weightFields, startBytes, headerBytes};
+ghost use Rattle.image_rules.specs.Bytes.{sizeBytes, pairBytes, sizesEnd};
+ghost use Rattle.image_rules.specs.Write.{headerBytesOf, sizesOf, tagsOf, recordsOf, allSlots, imageOf, writeReply};
+ghost use Rattle.image_rules.specs.Write.{imageAfterWrite};
 use image_form::Form;
 use image_put::put_records;
 use image_put::put_tags;
@@ -79,7 +81,8 @@ fn put_sizes(image: &mut [u8], table: &[Row], order: Order)
     }
 }
 
-// The slots of all buckets, one bucket after the other: their tags from one place on, and behind all of them their records from another on.
+// The slots of all buckets, one bucket after the other: their tags from one place on, and behind all of them their
+// records from another on.
 fn put_all_slots(image: &mut [u8], tags: usize, records: usize, table: &[Row], order: Order)
     requires { ⌜ (order .t ≡ orderOf (now table)) × Passed (now table) × (tags + length (tagsOf (allSlots (now table))) ≤ records) × (records + length (recordsOf writtenForm (allSlots (now table))) ≤ length (now image)) ⌝ }
     ensures { λ _. ⌜ now (image .exit) ≡ sets (sets (now (image .entry)) tags (tagsOf (allSlots (now (table .entry))))) records (recordsOf writtenForm (allSlots (now (table .entry)))) ⌝ }

@@ -13,7 +13,8 @@ pub struct LineRead {
     pub next: usize,
 }
 
-// The reply to a line not of the form. Its tag, profile and next place are left free: all that holds of them is their type.
+// The reply to a line not of the form. Its tag, profile and next place are left free: all that holds of them is their
+// type.
 fn malformed() -> LineRead
     ensures { λ r. ⌜ r .item ≡ false ⌝ }
 {
@@ -56,8 +57,8 @@ fn item(line: &[u8], next: usize) -> LineRead
     }
 }
 
-// The line that begins at a place, with its line feed. Of a line that is no item, tag, profile and next place are left free: all that holds of them is
-// their type.
+// The line that begins at a place, with its line feed. Of a line that is no item, tag, profile and next place are left
+// free: all that holds of them is their type.
 pub fn line(list: &[u8], at: usize) -> LineRead
     ensures { λ r. ⌜ LineAt (now (list .entry)) at r ⌝ }
 {

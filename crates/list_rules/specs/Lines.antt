@@ -1,4 +1,5 @@
--- RULES 13.1: the lines of a herd list. Every string of bytes has the header or not, and its lines are items or malformed.
+-- RULES 13.1: the lines of a herd list. Every string of bytes has the header or not, and its lines are items or
+-- malformed.
 use Prim.Native.Nat.{ℕ}
 use mathlib.Core.Bool.{Bool, true, false, _&&_}
 use mathlib.Core.List.{List, [], _∷_}

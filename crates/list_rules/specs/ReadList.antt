@@ -41,7 +41,8 @@ oneMore distances r =
       work = r .work;
     }
 
--- RULES 13.4, 13.5, the lines from number n on, all of one day: the form first, then the add's own refusals; the first line refused ends the reading
+-- RULES 13.4, 13.5, the lines from number n on, all of one day: the form first, then the add's own refusals; the first
+-- line refused ends the reading
 unfoldable pub reading : ℕ → Table → List Row → ℕ → List ListLine → Reading
 reading day t work n [] = stopped 0 0 t work
 reading day t work n (malformed ∷ lines) = stopped badListLine n t work

@@ -1,10 +1,12 @@
--- What a step leaves to be drafted. Of the entries behind a leader those that join it are the first lot of the places without one, and the others are left; so what has a lot,
--- with the lots that are left numbered behind it, stays the same, permuted.
+-- What a step leaves to be drafted. Of the entries behind a leader those that join it are the first lot of the places
+-- without one, and the others are left; so what has a lot, with the lots that are left numbered behind it, stays the
+-- same, permuted.
 use Prim.Native.Nat.{ℕ, suc, _+_, _≤_, _<_, max}
 use native.Mathlib.Omega.{arith}
 use mathlib.Core.Path.{_≡_, refl, sym, ap, ap₂, _∙_}
 use mathlib.Core.Bool.{Bool, true, false, not, _&&_}
-use mathlib.Core.List.{List, [], _∷_, _++_, map, append-assoc, List·Permᴰ, List·Permᴰ·nil, List·Permᴰ·cons, List·Permᴰ·trans, Permᴰ·symm, Permᴰ·middle, Permᴰ·append-right, List·Permᴰ·append-comm}
+use mathlib.Core.List.{List, [], _∷_, _++_, map, append-assoc, List·Permᴰ, List·Permᴰ·nil, List·Permᴰ·cons, List·Permᴰ·trans, Permᴰ·symm, Permᴰ·middle}
+use mathlib.Core.List.{Permᴰ·append-right, List·Permᴰ·append-comm}
 use borrow.Author.Tests.{ne-eqb}
 use lib.ListN.{length, take, drop}
 use Rattle.lists.specs.Lists.{select}

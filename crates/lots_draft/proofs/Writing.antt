@@ -1,4 +1,5 @@
--- A list whose elements a loop maps in place: the first i are mapped, and the others stand as they did. An area whose front is given back, with zeros behind it.
+-- A list whose elements a loop maps in place: the first i are mapped, and the others stand as they did. An area whose
+-- front is given back, with zeros behind it.
 use Prim.Native.Nat.{ℕ, _+_, _-_, _≤_, _<_}
 use native.Mathlib.Omega.{arith}
 use borrow.Rule.Slice.PartMut.{putMid}

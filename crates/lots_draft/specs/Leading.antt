@@ -1,4 +1,5 @@
--- Entries that stand for items while they are drafted: a place in the table, and the number of its lot, 0 where it has none yet.
+-- Entries that stand for items while they are drafted: a place in the table, and the number of its lot, 0 where it has
+-- none yet.
 use Prim.Native.Nat.{ℕ, suc, _<_, max}
 use mathlib.Core.Bool.{Bool, true, false, _&&_}
 use mathlib.Core.List.{List, [], _∷_, map}

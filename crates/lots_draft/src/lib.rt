@@ -1,4 +1,5 @@
-// The drafting of a table's live items by one radius, over entries of their places by tag. An entry's second word is the number of its lot, 0 where it has none yet.
+// The drafting of a table's live items by one radius, over entries of their places by tag. An entry's second word is
+// the number of its lot, 0 where it has none yet.
 ghost use mathlib.Core.Path.{_≡_};
 ghost use mathlib.Core.List.{map, _++_, List·Permᴰ};
 ghost use Prim.Native.Nat.{_+_, _-_, _≤_, _<_, max};
@@ -8,7 +9,8 @@ ghost use Rattle.metric_rules.specs.Distance.{spaceOf};
 ghost use Rattle.search_rules.specs.Range.{ordered};
 ghost use Rattle.table_rules.specs.Search.{zeroEntry};
 ghost use Rattle.lots_rules.specs.Lots.{summaryOf, numbered};
-ghost use Rattle.lots_draft.specs.Leading.{placeOf, Placed, joins, followed, withoutLot, placeLots, entriesLed, draftLed, tagLot};
+ghost use Rattle.lots_draft.specs.Leading.{placeOf, Placed, joins, followed, withoutLot, placeLots, entriesLed};
+ghost use Rattle.lots_draft.specs.Leading.{draftLed, tagLot};
 use entry_sort::sort_entries;
 use lots_rules::Summary;
 use metric::distance_between;
@@ -112,7 +114,8 @@ fn clear_lots(entries: &mut [Entry])
     }
 }
 
-// The entries drafted by a radius: each gets its lot's number, and the places stay. The reply is the number of lots and the size of the largest.
+// The entries drafted by a radius: each gets its lot's number, and the places stay. The reply is the number of lots and
+// the size of the largest.
 pub fn draft_by(table: &[Row], header: &Row, entries: &mut [Entry], radius: u32) -> Summary
     requires { ⌜ All (Placed (now table)) (now entries) × (length (now entries) ≤ 4096) ⌝ }
     ensures summary { λ r. ⌜ r ≡ summaryOf (placeLots (now (table .entry)) (spaceOf (now (header .entry))) radius (map placeOf (now (entries .entry)))) ⌝ }

@@ -1,4 +1,5 @@
--- Places ascend bucket by bucket, so that sorting them by tag and place is sorting them by tag. The rows there are the table's live items, and by tag they are those drafted.
+-- Places ascend bucket by bucket, so that sorting them by tag and place is sorting them by tag. The rows there are the
+-- table's live items, and by tag they are those drafted.
 use Prim.Native.Nat.{ℕ, zero, suc, _+_, _≤_, _<_}
 use native.Mathlib.Omega.{arith}
 use mathlib.Core.Path.{_≡_, refl, sym, ap, ap₂, _∙_}

@@ -1,4 +1,5 @@
--- The places of a table's live slots, and the entries that stand for them while a table is drafted: a place and its tag.
+-- The places of a table's live slots, and the entries that stand for them while a table is drafted: a place and its
+-- tag.
 use Prim.Native.Nat.{ℕ, zero, suc}
 use mathlib.Core.List.{List, [], _++_}
 use Rattle.lists.specs.Lists.{countFrom, select}

@@ -15,7 +15,8 @@ use search_rules::Entry;
 use table_order::Order;
 use table_views::built_of;
 
-// The live ones of the table's rows from `first` to before `end`, behind the first n entries. The reply is the number of entries there now.
+// The live ones of the table's rows from `first` to before `end`, behind the first n entries. The reply is the number
+// of entries there now.
 fn enter_live(table: &[Row], first: usize, end: usize, entries: &mut [Entry], n: usize) -> usize
     requires { ⌜ (first ≤ end) × (end ≤ length (now table)) × (n + length (livePlaces (now table) first (end - first)) ≤ length (now entries)) ⌝ }
     ensures { λ r. ⌜ (r ≡ n + length (livePlaces (now (table .entry)) first (end - first))) × (now (entries .exit) ≡ sets (now (entries .entry)) n (map (placeEntry (now (table .entry))) (livePlaces (now (table .entry)) first (end - first)))) ⌝ }
@@ -50,7 +51,8 @@ fn enter_buckets(table: &[Row], order: Order, entries: &mut [Entry]) -> usize
     found
 }
 
-// The places of the live items by tag, equal tags by bucket, then slot, at the front of the entries. The reply is their number.
+// The places of the live items by tag, equal tags by bucket, then slot, at the front of the entries. The reply is their
+// number.
 pub fn enter_by_tag(table: &[Row], order: Order, entries: &mut [Entry]) -> usize
     requires { ⌜ (order .t ≡ orderOf (now table)) × Passed (now table) × (length (allPlaces (now table)) ≤ length (now entries)) ⌝ }
     ensures { λ r. ⌜ (r ≡ length (placesByTag (now (table .entry)))) × (take r (now (entries .exit)) ≡ map (placeEntry (now (table .entry))) (placesByTag (now (table .entry)))) ⌝ }

@@ -1,5 +1,6 @@
 -- RULES 21.9: what "the lots" are, in claims about the definition. `Lots` is of any items and any distance, so of a
--- table's live items and of the model's. That they hold of every table is `lots-hold` and `radii-extreme` of the demands.
+-- table's live items and of the model's. That they hold of every table is `lots-hold` and `radii-extreme` of the
+-- demands.
 use Prim.Native.Nat.{ℕ, suc, _≤_, _<_}
 use mathlib.Core.Path.{_≡_}
 use mathlib.Core.Logic.{_⊎_}
@@ -36,8 +37,8 @@ module _ {A : Type 0} (dist : A → A → ℕ) (radius : ℕ) (tag : A → ℕ) 
   Led [] = ⊥
   Led (leader ∷ others) = All (λ item. (dist leader item ≤ radius) × (tag leader ≤ tag item)) others
 
-  -- no item of a later lot, its leader among them, is within the radius of an earlier lot's leader, and none has a lower
-  -- tag
+  -- no item of a later lot, its leader among them, is within the radius of an earlier lot's leader, and none has a
+  -- lower tag
   abbrev pub LedApart : List A → List A → Type 0
   LedApart [] later = ⊥
   LedApart (leader ∷ others) later = All (λ item. (radius < dist leader item) × (tag leader ≤ tag item)) later

@@ -1,4 +1,5 @@
--- RULES 21, over a table: the lots of its live items, the refusals, and every area after the call. The table is only read.
+-- RULES 21, over a table: the lots of its live items, the refusals, and every area after the call. The table is only
+-- read.
 use Prim.Native.Nat.{ℕ, zero, suc, _-_}
 use mathlib.Core.Bool.{Bool, true, false, _&&_}
 use mathlib.Core.List.{List, [], _∷_, _++_, map}

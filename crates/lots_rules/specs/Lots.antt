@@ -1,4 +1,5 @@
--- RULES 21: items drafted into lots by a radius. In the field's words leader clustering: the first item not yet in a lot leads one.
+-- RULES 21: items drafted into lots by a radius. In the field's words leader clustering: the first item not yet in a
+-- lot leads one.
 use Prim.Native.Nat.{ℕ, zero, suc, max}
 use mathlib.Core.Bool.{Bool, not}
 use mathlib.Core.List.{List, [], _∷_, _++_, map, foldr}
@@ -25,8 +26,9 @@ module _ {A : Type 0} (dist : A → A → ℕ) (radius : ℕ) where
   unfoldable pub near : A → A → Bool
   near leader item = leb (dist leader item) radius
 
-  -- RULES 21.2: of items in their order the first leads a lot of itself and every other within the radius of it, and those left are drafted in the same way. The first
-  -- argument bounds the number of lots, and the number of items is enough
+  -- RULES 21.2: of items in their order the first leads a lot of itself and every other within the radius of it, and
+  -- those left are drafted in the same way. The first argument bounds the number of lots, and the number of items is
+  -- enough
   unfoldable pub lotsWithin : ℕ → List A → List (List A)
   unfolding near select
   lotsWithin zero items = []

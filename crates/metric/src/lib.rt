@@ -1,12 +1,11 @@
-// The distance between two rows by a table's metric, and which tags and measures are valid.
+// The distance between two rows by a table's metric.
 ghost use mathlib.Core.Path.{_≡_};
 ghost use lib.IntN.{_-ℤ_, natAbs};
 ghost use mir.Syntax.{w32};
 ghost use mir.Val.{toZ};
 ghost use Prim.Native.Nat.{_+_, _*_, max};
 ghost use Rattle.metric_rules.specs.Row.{profileOf};
-ghost use Rattle.metric_rules.specs.Distance.{saturated, differing, codeDistance, distance, spaceOf, validWeights};
-ghost use Rattle.metric_rules.specs.Validity.{validTag, validMeasure, validMeasures};
+ghost use Rattle.metric_rules.specs.Distance.{saturated, differing, codeDistance, distance, spaceOf};
 use metric_rules::CODE_0_HIGH;
 use metric_rules::CODE_0_LOW;
 use metric_rules::CODE_1_HIGH;
@@ -16,13 +15,11 @@ use metric_rules::MEASURE_1;
 use metric_rules::MEASURE_2;
 use metric_rules::MEASURE_3;
 use metric_rules::METRIC_AT;
-use metric_rules::Profile;
 use metric_rules::Row;
 use metric_rules::WEIGHT_0;
 use metric_rules::WEIGHT_1;
 use metric_rules::WEIGHT_2;
 use metric_rules::WEIGHT_3;
-use metric_rules::Weights;
 use rows::joined;
 
 // The first number past a distance, and what a larger product or sum is taken as.
@@ -33,8 +30,8 @@ const MOST_DISTANCE: u32 = 0xffff_ffff;
 // Half the range of a word.
 const HALF_RANGE: u32 = 0x8000_0000;
 
-// The absolute difference of the signed numbers that two words hold. Moved up by half the range they are unsigned, in the same order and as far
-// apart. So there is no case for each sign, and every difference fits.
+// The absolute difference of the signed numbers that two words hold. Moved up by half the range they are unsigned, in
+// the same order and as far apart. So there is no case for each sign, and every difference fits.
 fn gap_of(a: u32, b: u32) -> u32
     ensures { λ r. ⌜ r ≡ natAbs (toZ w32 a -ℤ toZ w32 b) ⌝ }
 {
@@ -60,7 +57,8 @@ fn saturate(n: u64) -> u32
     }
 }
 
-// The sum of four products, saturated once, at the end. One that is past 32 bits decides, so that no sum wraps; the four tests are one for the compiler.
+// The sum of four products, saturated once, at the end. One that is past 32 bits decides, so that no sum wraps; the
+// four tests are one for the compiler.
 fn saturated_sum(a: u64, b: u64, c: u64, d: u64) -> u32
     ensures { λ r. ⌜ r ≡ saturated (a + b + c + d) ⌝ }
 {
@@ -77,8 +75,8 @@ fn larger(a: u64, b: u64) -> u64
     if a < b { b } else { a }
 }
 
-// Metrics 0 and 2: the sum and the largest of the four measures' weighted differences. The differences stand here once, so that a distance stays small
-// enough to be inlined where it is taken.
+// Metrics 0 and 2: the sum and the largest of the four measures' weighted differences. The differences stand here once,
+// so that a distance stays small enough to be inlined where it is taken.
 fn measure_distance(header: &Row, a: Row, b: Row) -> u32
     requires { ⌜ (spaceOf (now header) .metric ≡ 1 → ⊥) ⌝ }
     ensures { λ r. ⌜ r ≡ distance (spaceOf (now (header .entry))) (profileOf a) (profileOf b) ⌝ }
@@ -117,8 +115,8 @@ fn code_distance(a: Row, b: Row) -> u32
     first + second
 }
 
-// The distance between the profiles of two rows, by the metric and the weights of a table's header row. A number that is no metric reads as 2. A search makes its query a row
-// once (`row_of`), so that each slot costs a row against a row.
+// The distance between the profiles of two rows, by the metric and the weights of a table's header row. A number that
+// is no metric reads as 2. A search makes its query a row once (`row_of`), so that each slot costs a row against a row.
 pub fn distance_between(header: &Row, a: Row, b: Row) -> u32
     ensures { λ r. ⌜ r ≡ distance (spaceOf (now (header .entry))) (profileOf a) (profileOf b) ⌝ }
 {
@@ -127,44 +125,4 @@ pub fn distance_between(header: &Row, a: Row, b: Row) -> u32
     } else {
         measure_distance(header, a, b)
     }
-}
-
-// A tag is country · 10^12 + national: the least of country 1, the first of no country, and the last national, of 38 bits.
-const NATIONALS: u64 = 1_000_000_000_000;
-
-const PAST_TAGS: u64 = 1_000_000_000_000_000;
-
-const LAST_NATIONAL: u64 = 274_877_906_943;
-
-// The largest size of a measure, in hundredths.
-const MEASURE_LIMIT: i32 = 1_000_000;
-
-// All tests are made at once, with no branch.
-pub fn valid_tag(tag: u64) -> bool
-    ensures { λ r. ⌜ r ≡ validTag tag ⌝ }
-{
-    (NATIONALS <= tag) & (tag < PAST_TAGS) & (tag % NATIONALS <= LAST_NATIONAL)
-}
-
-fn valid_measure(measure: i32) -> bool
-    ensures { λ r. ⌜ r ≡ validMeasure measure ⌝ }
-{
-    (-MEASURE_LIMIT <= measure) & (measure <= MEASURE_LIMIT)
-}
-
-pub fn valid_measures(profile: Profile) -> bool
-    ensures { λ r. ⌜ r ≡ validMeasures profile ⌝ }
-{
-    let m = profile.measures;
-    valid_measure(m[0]) & valid_measure(m[1]) & valid_measure(m[2]) & valid_measure(m[3])
-}
-
-// The largest weight.
-const MOST_WEIGHT: u32 = 100;
-
-pub fn valid_weights(weights: Weights) -> bool
-    ensures { λ r. ⌜ r ≡ validWeights weights ⌝ }
-{
-    let w = weights.each;
-    (w[0] <= MOST_WEIGHT) & (w[1] <= MOST_WEIGHT) & (w[2] <= MOST_WEIGHT) & (w[3] <= MOST_WEIGHT)
 }

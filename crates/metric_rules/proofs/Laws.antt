@@ -1,6 +1,6 @@
--- The three distances are metrics below 2^32, for every profile and whatever the weights, and so is the distance of every space: one value of `Metric` for each.
--- One law covers a weight and a measure: the saturated product. A sum and a largest of four such keep the three laws, and so does saturation; the codes go by the digits
--- of their words.
+-- The three distances are metrics below 2^32, for every profile and whatever the weights, and so is the distance of
+-- every space: one value of `Metric` for each. One law covers a weight and a measure: the saturated product. A sum and
+-- a largest of four such keep the three laws, and so does saturation; the codes go by the digits of their words.
 use Prim.Native.Nat.{ℕ, zero, suc, _+_, _*_, _^_, _≤_, _<_, max}
 use native.Mathlib.Omega.{arith}
 use native.Mathlib.Nat.{mul-zero, mul-add, one-mul, mul-le-mul, mul-le-mul-left}
@@ -14,7 +14,8 @@ use Rattle.metric_rules.specs.Row.{IsProfile, measure, codeWord}
 use Rattle.metric_rules.specs.Validity.{validMeasure, validMeasures, measureLimit}
 use Rattle.metric_rules.specs.declared.Weights.{Weights}
 use Rattle.metric_rules.specs.declared.Space.{Space}
-use Rattle.metric_rules.specs.Distance.{Metric, saturated, gap, weight, weighted, measureDistance, differing, codeDistance, largest, worstDistance, distanceBy, distance, weightsOne, lastMetric, validMetric, mostWeight, validWeights}
+use Rattle.metric_rules.specs.Distance.{Metric, saturated, gap, weight, weighted, measureDistance, differing, codeDistance, largest, worstDistance}
+use Rattle.metric_rules.specs.Distance.{distanceBy, distance, weightsOne, lastMetric, validMetric, mostWeight, validWeights}
 use Rattle.metric_rules.proofs.Elements.{every-at}
 use Rattle.metric_rules.proofs.Apart.{abs-self, abs-swap, abs-triangle, abs-sum}
 use Rattle.metric_rules.proofs.Words.{signed-apart}

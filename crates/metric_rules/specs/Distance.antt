@@ -13,7 +13,8 @@ use Rattle.metric_rules.specs.declared.Weights.{Weights}
 use Rattle.metric_rules.specs.declared.Space.{Space}
 use Rattle.metric_rules.specs.Row.{Row, word, measure, codeWord}
 
--- RULES 3.1, 3.2, 3.7: a distance is an unsigned number of 32 bits, and a larger product or sum is taken as the largest of them
+-- RULES 3.1, 3.2, 3.7: a distance is an unsigned number of 32 bits, and a larger product or sum is taken as the largest
+-- of them
 unfoldable pub mostDistance : ℕ
 mostDistance = 2 ^ 32 - 1
 
@@ -33,16 +34,19 @@ weight weights i = getD (weights .each) i 0
 unfoldable pub weighted : Weights → Profile → Profile → ℕ → ℕ
 weighted weights p q i = saturated (weight weights i * gap p q i)
 
--- RULES 3.2, metric 0: the sum of the weighted differences of the four measures, at most 800,000,000 for valid ones (`measure-most`)
+-- RULES 3.2, metric 0: the sum of the weighted differences of the four measures, at most 800,000,000 for valid ones
+-- (`measure-most`)
 unfoldable pub measureDistance : Weights → Profile → Profile → ℕ
 measureDistance weights p q = saturated (weighted weights p q 0 + weighted weights p q 1 + weighted weights p q 2 + weighted weights p q 3)
 
--- in how many of their n lowest binary digits two numbers differ: the ones of their exclusive-or, where both have n digits (`differing-ones`)
+-- in how many of their n lowest binary digits two numbers differ: the ones of their exclusive-or, where both have n
+-- digits (`differing-ones`)
 unfoldable pub differing : ℕ → ℕ → ℕ → ℕ
 differing zero a b = 0
 differing (suc n) a b = differ (a % 2) (b % 2) + differing n (a / 2) (b / 2)
 
--- RULES 3.3, metric 1: the number of bit positions in which the two codes, of two 64-bit words each, differ, at most 128 (`code-most`)
+-- RULES 3.3, metric 1: the number of bit positions in which the two codes, of two 64-bit words each, differ, at most
+-- 128 (`code-most`)
 unfoldable pub codeDistance : Profile → Profile → ℕ
 unfolding differing codeWord
 codeDistance p q = differing 64 (codeWord p 0) (codeWord q 0) + differing 64 (codeWord p 1) (codeWord q 1)
@@ -54,7 +58,8 @@ largest f = max (max (f 0) (f 1)) (max (f 2) (f 3))
 unfoldable pub worstDistance : Weights → Profile → Profile → ℕ
 worstDistance weights p q = saturated (largest (weighted weights p q))
 
--- RULES 3.1, the distance by a metric's number. A number above 2 is no metric and every call refuses it; here it reads as 2
+-- RULES 3.1, the distance by a metric's number. A number above 2 is no metric and every call refuses it; here it reads
+-- as 2
 unfoldable pub distanceBy : ℕ → Weights → Profile → Profile → ℕ
 distanceBy zero weights = measureDistance weights
 distanceBy (suc zero) weights = codeDistance

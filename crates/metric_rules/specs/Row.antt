@@ -1,7 +1,7 @@
--- A slot's row: the thirteen words of 32 bits, the fields that they hold, and the row of given fields.
--- RULES 4.2: they are the image's fields in the image's order, each number's low word first. Decoding and encoding are inverse to each other:
--- every row is the row of its fields (`row-of-fields`), and a row of given fields has those fields (`tag-of-row`, `profile-of-row`, `threshold-of-row`,
--- `mark-of-row`, `day-of-row`).
+-- A slot's row: the thirteen words of 32 bits, the fields that they hold, and the row of given fields. RULES 4.2: they
+-- are the image's fields in the image's order, each number's low word first. Decoding and encoding are inverse to each
+-- other: every row is the row of its fields (`row-of-fields`), and a row of given fields has those fields
+-- (`tag-of-row`, `profile-of-row`, `threshold-of-row`, `mark-of-row`, `day-of-row`).
 use Prim.Native.Nat.{ℕ, _+_, _*_, _/_, _%_, _^_, _<_}
 use mathlib.Core.Path.{_≡_}
 use mathlib.Core.Bool.{Bool, _&&_}
@@ -21,7 +21,8 @@ Row = List ℕ
 unfoldable pub rowWidth : ℕ
 rowWidth = 13
 
--- RULES 4.2: the places of the tag's two words, of the four measures, of the code's four words, of the threshold, of the mark and of the day
+-- RULES 4.2: the places of the tag's two words, of the four measures, of the code's four words, of the threshold, of
+-- the mark and of the day
 unfoldable pub tagAt : ℕ
 tagAt = 0
 
@@ -55,7 +56,8 @@ wide low high = low + high * 2 ^ 32
 unfoldable pub words : ℕ → List ℕ
 words n = n % 2 ^ 32 ∷ n / 2 ^ 32 ∷ []
 
--- RULES 4.2, the fields of a row. `toZ w32` reads a word as a signed number in two's complement, and `ofZ w32` writes one
+-- RULES 4.2, the fields of a row. `toZ w32` reads a word as a signed number in two's complement, and `ofZ w32` writes
+-- one
 unfoldable pub tagOf : Row → ℕ
 unfolding word wide tagAt
 tagOf row = wide (word row tagAt) (word row (tagAt + 1))
@@ -113,7 +115,8 @@ newRow tag p day = rowOf tag p 0 0 day
 abbrev pub queryRow : Profile → ℕ → ℕ → Row
 queryRow query radius firstDay = rowOf 0 query radius 0 firstDay
 
--- RULES 11.2, what a search may report: a slot's row, by the query's row. A live item that was weighed on the first day or later
+-- RULES 11.2, what a search may report: a slot's row, by the query's row. A live item that was weighed on the first day
+-- or later
 unfoldable pub mayReport : Row → Row → Bool
 unfolding isLive dayOf
 mayReport query row = isLive row && leb (dayOf query) (dayOf row)

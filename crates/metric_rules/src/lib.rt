@@ -1,7 +1,7 @@
 // Profiles and rows: what the other crates' definitions and code name them by.
 
-// How many words a slot's row has (`rowWidth` in the definitions, VPINDEX_ROW_WORDS in C), and the place of each: the tag's two, the four measures,
-// the two of each code word, the threshold, the mark and the day.
+// How many words a slot's row has (`rowWidth` in the definitions, VPINDEX_ROW_WORDS in C), and the place of each: the
+// tag's two, the four measures, the two of each code word, the threshold, the mark and the day.
 pub const ROW_WIDTH: usize = 13;
 
 pub const TAG_LOW: usize = 0;

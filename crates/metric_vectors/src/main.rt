@@ -108,7 +108,8 @@ fn print_profile(profile: Profile, expected: [i32; 4]) {
     print_space();
 }
 
-// The row of object i's fields; then the fields of its row in the table, and whether its tag and its measures are valid.
+// The row of object i's fields; then the fields of its row in the table, and whether its tag and its measures are
+// valid.
 fn print_object(i: usize) {
     let row = row_at(i);
     print_words(row_store::row_of(
@@ -123,8 +124,8 @@ fn print_object(i: usize) {
     print_number(rows::threshold_of(row) as u64);
     print_number(rows::mark_of(row) as u64);
     print_number(rows::day_of(row) as u64);
-    print_number(metric::valid_tag(tag_at(i)) as u64);
-    print_last(metric::valid_measures(profile_at(i)) as u64);
+    print_number(validity::valid_tag(tag_at(i)) as u64);
+    print_last(validity::valid_measures(profile_at(i)) as u64);
 }
 
 fn print_objects() {
@@ -161,7 +162,8 @@ fn print_weighted(weights: [u32; 4], a: Row, b: Row) {
     print_number(weighted(2, weights, a, b));
 }
 
-// The distances of objects i and j: by each metric and by a number that is none, then from a row to a query, then with other weights.
+// The distances of objects i and j: by each metric and by a number that is none, then from a row to a query, then with
+// other weights.
 fn print_pair(i: usize, j: usize) {
     let a = row_at(i);
     let b = row_at(j);
@@ -190,7 +192,7 @@ fn print_distances() {
 
 fn print_tag(tag: u64) {
     print_number(tag);
-    print_last(metric::valid_tag(tag) as u64);
+    print_last(validity::valid_tag(tag) as u64);
 }
 
 fn print_tags() {

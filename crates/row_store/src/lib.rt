@@ -1,16 +1,13 @@
-// A row made of its fields, rows zeroed, and live ones gathered into a work area. `rows` reads what is written here.
+// A row made of its fields, and rows zeroed. `rows` reads what is written here.
 ghost use mathlib.Core.Path.{_≡_};
-ghost use Prim.Native.Nat.{_+_, _/_, _%_, _^_, _≤_};
+ghost use Prim.Native.Nat.{_/_, _%_, _^_};
 ghost use mir.Syntax.{w32};
 ghost use mir.Val.{ofZ};
 ghost use lib.ListN.{length, replicate};
-ghost use lib.Seq.{sets};
-ghost use Rattle.lists.specs.Lists.{select};
-ghost use Rattle.metric_rules.specs.Row.{isLive, rowOf, newRow, zeroRow};
+ghost use Rattle.metric_rules.specs.Row.{rowOf, newRow, zeroRow};
 use metric_rules::Profile;
 use metric_rules::ROW_WIDTH;
 use metric_rules::Row;
-use rows::is_live;
 
 // The word that holds a measure, in two's complement. The sum is not negative, so that its lowest 32 bits are the word.
 fn unsigned(measure: i32) -> u32
@@ -71,22 +68,4 @@ pub fn zero_rows(rows: &mut [Row])
         rows[i] = [0u32; ROW_WIDTH];
         i += 1;
     }
-}
-
-// The live ones of a bucket's slots, in slot order, behind the first n rows of the work area. The reply is the number of rows there now.
-pub fn gather_live(work: &mut [Row], n: usize, slots: &[Row]) -> usize
-    requires { ⌜ n + length (select isLive (now slots)) ≤ length (now work) ⌝ }
-    ensures { λ r. ⌜ (r ≡ n + length (select isLive (now (slots .entry)))) × (now (work .exit) ≡ sets (now (work .entry)) n (select isLive (now (slots .entry)))) ⌝ }
-{
-    let mut end = n;
-    let mut i = 0;
-    while i < slots.len() {
-        let row = slots[i];
-        if is_live(row) {
-            work[end] = row;
-            end += 1;
-        }
-        i += 1;
-    }
-    end
 }

@@ -20,6 +20,14 @@ pub fn zero_entries(area: &mut [Entry])
     }
 }
 
+// The entries behind the first n become zero.
+pub fn zero_behind(area: &mut [Entry], n: usize)
+    requires { ⌜ n ≤ length (now area) ⌝ }
+    ensures { λ _. ⌜ now (area .exit) ≡ take n (now (area .entry)) ++ replicate (length (now (area .entry)) - n) zeroEntry ⌝ }
+{
+    zero_entries(&mut area[n..]);
+}
+
 // A refusal returns its number and zeros.
 pub fn refused(refusal: u32) -> Searched
     ensures { λ r. ⌜ r ≡ record { refusal = refusal; found = 0; distances = 0 } ⌝ }
@@ -46,7 +54,7 @@ pub fn accepted(area: &mut [Entry], found: usize, count: usize) -> Searched
     ensures reply { λ r. ⌜ r ≡ record { refusal = 0; found = found; distances = count } ⌝ }
     ensures area { λ _. ⌜ now (area .exit) ≡ take found (now (area .entry)) ++ replicate (length (now (area .entry)) - found) zeroEntry ⌝ }
 {
-    zero_entries(&mut area[found..]);
+    zero_behind(area, found);
     Searched {
         refusal: 0,
         found: found as u32,

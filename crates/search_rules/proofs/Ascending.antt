@@ -1,5 +1,6 @@
--- What the entries' key says in plain numbers: it is the distance and, last, the tag, so it tells entries apart; and an entry whose key is not after another's has the
--- smaller distance, or the same and no larger tag. So entries in the order of their keys ascend by distance, then tag.
+-- What the entries' key says in plain numbers: it is the distance and, last, the tag, so it tells entries apart; and an
+-- entry whose key is not after another's has the smaller distance, or the same and no larger tag. So entries in the
+-- order of their keys ascend by distance, then tag.
 use Prim.Native.Nat.{ℕ, _≤_}
 use native.Mathlib.Omega.{arith}
 use mathlib.Core.Path.{_≡_, refl, sym, ap, ap₂, _∙_}

@@ -14,7 +14,8 @@ use Rattle.metric_rules.specs.Row.{Row, thresholdOf}
 use Rattle.metric_rules.specs.Distance.{Metric}
 use Rattle.tree_rules.specs.Layout.{leftSize}
 use Rattle.tree_rules.specs.Guided.{GuidedWithin, Guided}
-use Rattle.search_rules.specs.Range.{Entry, entry, Met, nothing, both, toQuery, entryOf, isHit, visited, entersLeft, entersRight, rangeWithin, rangeTree, Pair}
+use Rattle.search_rules.specs.Range.{Entry, entry, Met, nothing, both, toQuery, entryOf, isHit, visited, entersLeft, entersRight, rangeWithin, rangeTree}
+use Rattle.search_rules.specs.Range.{Pair}
 use Rattle.search_rules.proofs.Selecting.{select-append, select-none}
 use Rattle.search_rules.proofs.Pruning.{left-out, right-out}
 

@@ -25,7 +25,8 @@ unfoldable pub worst : List Entry → ℕ
 unfolding last entryDistance
 worst kept = last 0 (map entryDistance kept)
 
--- RULES 11.7: with fewer than k items found both tests pass; after that r is the worst distance kept. `enters` is a side's test
+-- RULES 11.7: with fewer than k items found both tests pass; after that r is the worst distance kept. `enters` is a
+-- side's test
 unfoldable pub opens : ℕ → (ℕ → Bool) → List Entry → Bool
 unfolding worst
 opens k enters kept = ltb (length kept) k || enters (worst kept)
@@ -52,8 +53,8 @@ module _ (dist : Profile → Profile → ℕ) (query : Profile) (reports : Row �
         | false ↦ enterHalf (entersLeft d m) left (enterHalf (entersRight d m) right t)
       ]
 
-  -- RULES 11.4, 11.8: the first slot, taken in before its halves are tested, and then its halves. The first argument bounds the depth, and the
-  -- number of slots is enough
+  -- RULES 11.4, 11.8: the first slot, taken in before its halves are tested, and then its halves. The first argument
+  -- bounds the depth, and the number of slots is enough
   unfoldable pub nearestWithin : ℕ → Tally → List Row → Tally
   unfolding taken enterHalves toQuery thresholdOf leftSize
   nearestWithin zero t slots = t

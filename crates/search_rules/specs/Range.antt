@@ -37,7 +37,8 @@ unfoldable pub ordered : List Entry → List Entry
 unfolding sortBy entryKey
 ordered es = sortBy entryKey es
 
--- the same in plain numbers, without a key: an entry and the next one have a smaller distance and a larger, or the same distance and no smaller tag
+-- the same in plain numbers, without a key: an entry and the next one have a smaller distance and a larger, or the same
+-- distance and no smaller tag
 abbrev pub Precedes : Entry → Entry → Type 0
 Precedes x y = (entryDistance x < entryDistance y) ⊎ ((entryDistance x ≡ entryDistance y) × (entryTag x ≤ entryTag y))
 
@@ -87,8 +88,8 @@ module _ (dist : Profile → Profile → ℕ) (query : Profile) where
     unfolding isHit entryOf
     visited row = record { hits = elim (isHit row) [ true ↦ entryOf row ∷ [] | false ↦ [] ]; count = 1 }
 
-    -- RULES 11.4: the first slot, then its left half and its right half where their tests let them be entered. The first argument bounds the depth,
-    -- and the number of slots is enough
+    -- RULES 11.4: the first slot, then its left half and its right half where their tests let them be entered. The
+    -- first argument bounds the depth, and the number of slots is enough
     unfoldable pub rangeWithin : ℕ → List Row → Met
     unfolding nothing both visited toQuery thresholdOf leftSize entersLeft entersRight
     rangeWithin zero slots = nothing

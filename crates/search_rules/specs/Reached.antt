@@ -1,5 +1,5 @@
--- RULES 11.6: the count of a range search is the number of slots all of whose ancestors let their side be entered. That it is so is
--- `range-count` for one tree and `range-visits` for a table.
+-- RULES 11.6: the count of a range search is the number of slots all of whose ancestors let their side be entered. That
+-- it is so is `range-count` for one tree and `range-visits` for a table.
 use Prim.Native.Nat.{ℕ, zero, suc, _-_}
 use mathlib.Core.Bool.{Bool, true, false, _&&_}
 use mathlib.Core.List.{List, [], _∷_}
@@ -12,7 +12,8 @@ use Rattle.tree_rules.specs.Layout.{leftSize}
 use Rattle.search_rules.specs.Range.{toQuery, entersLeft, entersRight}
 
 module _ (dist : Profile → Profile → ℕ) (query : Profile) (radius : ℕ) where
-  -- RULES 11.6: whether all ancestors of slot i let its side be entered. The first argument bounds the depth, and the number of slots is enough
+  -- RULES 11.6: whether all ancestors of slot i let its side be entered. The first argument bounds the depth, and the
+  -- number of slots is enough
   unfoldable pub reachedWithin : ℕ → List Row → ℕ → Bool
   unfolding toQuery thresholdOf leftSize entersLeft entersRight
   reachedWithin zero slots i = false

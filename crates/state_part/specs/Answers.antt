@@ -1,4 +1,5 @@
--- RULES 19.1, what asking for a name answers: the refusal's number and the name, for each case of `Named`. The refusal is 34 (RULES 14.1).
+-- RULES 19.1, what asking for a name answers: the refusal's number and the name, for each case of `Named`. The refusal
+-- is 34 (RULES 14.1).
 use Prim.Native.Nat.{ℕ}
 use mathlib.Core.Bool.{true, false}
 use Rattle.state_rules.specs.Parts.{badName, validName}

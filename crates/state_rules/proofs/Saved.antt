@@ -20,7 +20,8 @@ use Rattle.image_rules.specs.Bytes.{bytesOf}
 use Rattle.image_rules.specs.Write.{imageOf, writeRefusal}
 use Rattle.image_rules.proofs.Bytes.{length-bytes, number-at}
 use Rattle.image_rules.proofs.Bounds.{image-some}
-use Rattle.state_rules.specs.Parts.{badName, lengthBytes, mostName, validName, partBytes, partStart, partOf, leftOver, snapshotOf, behindLength, savedLength, savedImage}
+use Rattle.state_rules.specs.Parts.{badName, lengthBytes, mostName, validName, partBytes, partStart, partOf, leftOver, snapshotOf, behindLength}
+use Rattle.state_rules.specs.Parts.{savedLength, savedImage}
 use Rattle.state_rules.specs.Save.{saveRefusal, statesAfterSave}
 use Rattle.state_rules.proofs.Parts.{name-range, parts-apart, part-within, parts-inside, part-length}
 

@@ -8,7 +8,8 @@ use Rattle.table_rules.specs.Refusals.{badLength, unless}
 use Rattle.table_rules.specs.Table.{Table}
 use Rattle.image_rules.specs.declared.Loaded.{Loaded}
 use Rattle.image_rules.specs.Load.{orLoaded, loadReply, tableAfterLoad}
-use Rattle.state_rules.specs.Parts.{badName, notSaved, validName, partOf, lengthBytes, behindLength, savedLength, savedImage}
+use Rattle.state_rules.specs.Parts.{badName, notSaved, validName, partOf, lengthBytes, behindLength, savedLength}
+use Rattle.state_rules.specs.Parts.{savedImage}
 
 -- RULES 19.3: a part holds a snapshot if it has the four bytes of a length, and that is not 0
 unfoldable pub holdsSnapshot : List ℕ → Bool

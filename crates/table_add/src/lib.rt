@@ -2,8 +2,6 @@
 ghost use mathlib.Core.Path.{_≡_};
 ghost use Rattle.table_rules.specs.Add.{addRefusal, addReply, tableAfterAdd, workAfterAdd};
 ghost use Rattle.table_checks.specs.Answers.{checked};
-use metric::valid_measures;
-use metric::valid_tag;
 use metric_rules::Profile;
 use metric_rules::Row;
 use table_checks::Checked;
@@ -17,6 +15,9 @@ use table_rules::BAD_MEASURE;
 use table_rules::BAD_TAG;
 use table_rules::FULL;
 use table_views::live_total;
+use validity::valid_day;
+use validity::valid_measures;
+use validity::valid_tag;
 
 // The first refusal that applies, in the call's order, or the table's order.
 fn add_check(table: &[Row], work: &[Row], tag: u64, profile: Profile, day: u32) -> Checked
@@ -32,16 +33,14 @@ fn add_check(table: &[Row], work: &[Row], tag: u64, profile: Profile, day: u32) 
     if !valid_measures(profile) {
         return Checked::Refused(BAD_MEASURE);
     }
-    let live = is_live_tag(table, order, tag);
-    let most = order.work_rows() as u64;
-    let full = most <= live_total(table, order);
-    if day == 0 {
+    if !valid_day(day) {
         return Checked::Refused(BAD_DAY);
     }
-    if live {
+    if is_live_tag(table, order, tag) {
         return Checked::Refused(ALREADY_LIVE);
     }
-    if full {
+    let most = order.work_rows() as u64;
+    if most <= live_total(table, order) {
         return Checked::Refused(FULL);
     }
     Checked::Passes(order)

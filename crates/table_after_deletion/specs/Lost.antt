@@ -7,7 +7,8 @@ use Rattle.table_rules.specs.Geometry.{room}
 use Rattle.table_rules.specs.Table.{Table, orderOf, builtOf, liveOf, liveSlots}
 use Rattle.table_rules.specs.Checks.{sizePasses}
 
--- with that item more than a quarter was live; the other buckets' sizes pass; and each bucket's live size numbers its live slots
+-- with that item more than a quarter was live; the other buckets' sizes pass; and each bucket's live size numbers its
+-- live slots
 pub record Lost (t : Table) (k : ℕ) : Type 0 where
   pub inOrder : k ≤ orderOf t
   pub before : room k < 4 * suc (liveOf t k)

@@ -1,5 +1,5 @@
-// After a deletion: Algorithm 2 (RULES 1.3), lines 8 to 26. In its words: B_k is bucket k, |B_k| its live size, null an empty bucket; Unbuild is to gather
-// a bucket's live items, Build to build a bucket of what was gathered, D.
+// After a deletion: Algorithm 2 (RULES 1.3), lines 8 to 26. In its words: B_k is bucket k, |B_k| its live size, null an
+// empty bucket; Unbuild is to gather a bucket's live items, Build to build a bucket of what was gathered, D.
 ghost use mathlib.Core.Path.{_≡_};
 ghost use mathlib.Core.List.{[], _∷_};
 ghost use Prim.Native.Nat.{_≤_};
@@ -46,8 +46,9 @@ fn move_down(table: &mut [Row], order: Order, k: u32, target: u32, work: &mut [R
     build_bucket(table, order, target, work, n)
 }
 
-// Lines 8 to 26. Line 7 marked an item of B_k dead and took none out, so |B_k| is the live size, which fell by one. Where a line returns true, the reply
-// is the number of distances that the build worked out, or 0 where nothing is built.
+// Lines 8 to 26. Line 7 marked an item of B_k dead and took none out, so |B_k| is the live size, which fell by one.
+// Where a line returns true, the reply is the number of distances that the build worked out, or 0 where nothing is
+// built.
 pub fn after_deletion(table: &mut [Row], order: Order, k: u32, work: &mut [Row]) -> u32
     requires { ⌜ BuiltFits (now table) (order .t) × Lost (now table) k × (workRows (order .t) ≤ length (now work)) ⌝ }
     ensures table { λ _. ⌜ now (table .exit) ≡ afterDeletion (now (table .entry)) k .table ⌝ }

@@ -1,3 +1,4 @@
--- Laws of the frame test and of the marks, for the code.
+-- Laws of the tests of a lent table, for the code.
+pub mod Sizing
 pub mod Told
 pub mod Framing

@@ -2,13 +2,12 @@
 ghost use mathlib.Core.Path.{_≡_};
 ghost use Prim.Native.Nat.{_<_};
 ghost use lib.ListN.{length};
-ghost use Rattle.lists.specs.Lists.{every};
-ghost use Rattle.table_rules.specs.Geometry.{bucketsOf, sizesRow};
+ghost use Rattle.table_rules.specs.Geometry.{sizesRow};
 ghost use Rattle.table_rules.specs.Table.{orderOf, builtOf, liveOf};
-ghost use Rattle.table_rules.specs.Checks.{sizePasses, sizesPass, headerPasses, slotsMarked, marksPass, frameRefusal, readRefusal, changeRefusal};
+ghost use Rattle.table_rules.specs.Checks.{sizePasses, sizesPass, headerPasses, slotsMarked, marksPass, frameRefusal};
+ghost use Rattle.table_rules.specs.Checks.{readRefusal, changeRefusal};
 ghost use Rattle.table_rules.specs.Passed.{Passed};
 ghost use Rattle.table_checks.specs.Answers.{checked};
-use metric::valid_weights;
 use metric_rules::Row;
 use rows::mark_of;
 use table_order::Order;
@@ -19,10 +18,10 @@ use table_views::HEADER_ROW;
 use table_views::built_of;
 use table_views::has_metric;
 use table_views::live_of;
-use table_views::live_total;
 use table_views::order_of;
 use table_views::slots_of;
 use table_views::weights_of;
+use validity::valid_weights;
 
 // What testing a lent table answers: its order, which the call goes on with, or the refusal.
 pub enum Checked {
@@ -41,29 +40,23 @@ pub fn size_passes(k: u32, built: u32, live: u32) -> bool
     ((b == 0) & (l == 0)) | ((l <= b) & (b <= room) & (room < 2 * b) & (room < 4 * l))
 }
 
-fn each_size_passes(table: &[Row], order: Order) -> bool
-    requires { ⌜ (order .t < 31) × (sizesRow (order .t) < length (now table)) ⌝ }
-    ensures { λ r. ⌜ r ≡ every (λ k. sizePasses k (builtOf (now (table .entry)) k) (liveOf (now (table .entry)) k)) (bucketsOf (order .t)) ⌝ }
-{
-    let t = order.t;
-    let mut k = 0;
-    while k <= t {
-        if !size_passes(k, built_of(table, k), live_of(table, k)) {
-            return false;
-        }
-        k += 1;
-    }
-    true
-}
-
+// Every bucket's sizes, and the live items in all, in one pass.
 fn sizes_pass(table: &[Row], order: Order) -> bool
     requires { ⌜ (order .t < 31) × (sizesRow (order .t) < length (now table)) ⌝ }
     ensures { λ r. ⌜ r ≡ sizesPass (order .t) (builtOf (now (table .entry))) (liveOf (now (table .entry))) ⌝ }
 {
-    if !each_size_passes(table, order) {
-        return false;
+    let t = order.t;
+    let mut sum: u64 = 0;
+    let mut k = 0;
+    while k <= t {
+        let live = live_of(table, k);
+        if !size_passes(k, built_of(table, k), live) {
+            return false;
+        }
+        sum += live as u64;
+        k += 1;
     }
-    live_total(table, order) <= Order::room(order.t) as u64
+    sum <= Order::room(t) as u64
 }
 
 // The weights, whatever the metric, and the sizes.

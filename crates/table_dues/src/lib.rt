@@ -1,4 +1,5 @@
-// RULES 20: the dues of a list of tags. What each pays is kept apart until the whole list is known to pay, so that a tag is looked up once.
+// RULES 20: the dues of a list of tags. What each pays is kept apart until the whole list is known to pay, so that a
+// tag is looked up once.
 ghost use mathlib.Core.Path.{_≡_};
 ghost use mathlib.Core.Bool.{true, _&&_};
 ghost use mathlib.Core.Option.{some};
@@ -11,7 +12,8 @@ ghost use Rattle.table_rules.specs.Refusals.{noRoom, notLive, unless};
 ghost use Rattle.table_rules.specs.Table.{orderOf};
 ghost use Rattle.table_rules.specs.Passed.{Passed};
 ghost use Rattle.dues_rules.specs.Board.{board, rateBy, duesBy};
-ghost use Rattle.dues_rules.specs.Listed.{noDues, mostListed, weightAt, weightsAt, isFound, isWeight, pays, duesOf, duesReply, duesAfter};
+ghost use Rattle.dues_rules.specs.Listed.{noDues, mostListed, weightAt, weightsAt, isFound, isWeight, pays, duesOf};
+ghost use Rattle.dues_rules.specs.Listed.{duesReply, duesAfter};
 use dues_rules::Dues;
 use dues_rules::NO_DUES;
 use metric_rules::Row;

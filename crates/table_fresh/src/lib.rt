@@ -2,11 +2,11 @@
 ghost use mathlib.Core.Path.{_≡_};
 ghost use mathlib.Core.List.{_∷_, _++_};
 ghost use Prim.Native.Nat.{_-_, _≤_, _<_};
-ghost use lib.ListN.{length, drop, replicate};
+ghost use lib.ListN.{length, set, drop, replicate};
 ghost use Rattle.metric_rules.specs.Row.{zeroRow};
+ghost use Rattle.table_rules.specs.Geometry.{headerRow};
 ghost use Rattle.table_rules.specs.Table.{headerOf};
 ghost use Rattle.table_rules.specs.Fresh.{freshRefusal, tableAfterFresh};
-use metric::valid_weights;
 use metric_rules::METRIC_AT;
 use metric_rules::ROW_WIDTH;
 use metric_rules::Row;
@@ -24,13 +24,14 @@ use table_rules::BAD_WEIGHT;
 use table_rules::SHORT_AREA;
 use table_views::HEADER_ROW;
 use table_views::ORDER_AT;
-use table_views::valid_metric;
+use validity::valid_metric;
+use validity::valid_weights;
 
-pub fn header_row(order: u32, space: Space) -> Row
-    ensures { λ r. ⌜ r ≡ headerOf order space ⌝ }
+pub fn header_row(order: Order, space: Space) -> Row
+    ensures { λ r. ⌜ r ≡ headerOf (order .t) space ⌝ }
 {
     let mut row = [0u32; ROW_WIDTH];
-    row[ORDER_AT] = order;
+    row[ORDER_AT] = order.t;
     row[METRIC_AT] = space.metric;
     let w = space.weights.each;
     row[WEIGHT_0] = w[0];
@@ -40,13 +41,21 @@ pub fn header_row(order: u32, space: Space) -> Row
     row
 }
 
+// The header put first: what fresh and load begin a table with, once their tests have passed.
+pub fn put_header(table: &mut [Row], order: Order, space: Space)
+    requires { ⌜ 0 < length (now table) ⌝ }
+    ensures { λ _. ⌜ now (table .exit) ≡ set (now (table .entry)) headerRow (headerOf (order .t) space) ⌝ }
+{
+    table[HEADER_ROW] = header_row(order, space);
+}
+
 // The first rows become the header and zeros.
-fn write_fresh(table: &mut [Row], rows: usize, order: u32, space: Space)
+fn write_fresh(table: &mut [Row], rows: usize, order: Order, space: Space)
     requires { ⌜ (0 < rows) × (rows ≤ length (now table)) ⌝ }
-    ensures { λ _. ⌜ now (table .exit) ≡ headerOf order space ∷ replicate (rows - 1) zeroRow ++ drop rows (now (table .entry)) ⌝ }
+    ensures { λ _. ⌜ now (table .exit) ≡ headerOf (order .t) space ∷ replicate (rows - 1) zeroRow ++ drop rows (now (table .entry)) ⌝ }
 {
     zero_rows(&mut table[..rows]);
-    table[HEADER_ROW] = header_row(order, space);
+    put_header(table, order, space);
 }
 
 // The refusal, 0 if accepted: 3, 4, 32, 23. Nothing of the table is read but its length.
@@ -68,7 +77,7 @@ pub fn fresh(table: &mut [Row], order: u32, space: Space) -> u32
             if table.len() < rows {
                 return SHORT_AREA;
             }
-            write_fresh(table, rows, order, space);
+            write_fresh(table, rows, valid, space);
             0
         }
     }

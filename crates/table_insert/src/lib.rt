@@ -1,12 +1,12 @@
-// An accepted add: Algorithm 1's Insert with line 2 of Algorithm 2 in place of its line 9 (RULES 1.3). B_k is bucket k, null an empty one; D are the rows
-// gathered in the work area, n their number.
+// An accepted add: Algorithm 1's Insert with line 2 of Algorithm 2 in place of its line 9 (RULES 1.3). B_k is bucket k,
+// null an empty one; D are the rows gathered in the work area, n their number.
 ghost use mathlib.Core.Path.{_≡_};
 ghost use Prim.Native.Nat.{_+_, _≤_, _<_};
 ghost use lib.ListN.{length};
 ghost use lib.Seq.{sets};
 ghost use Rattle.lists.specs.Lists.{countFrom};
 ghost use Rattle.metric_rules.specs.Row.{zeroRow};
-ghost use Rattle.table_rules.specs.Geometry.{workRows};
+ghost use Rattle.table_rules.specs.Geometry.{mostOrder, room, workRows};
 ghost use Rattle.table_rules.specs.Table.{orderOf, emptied, cleared};
 ghost use Rattle.table_rules.specs.Rebuild.{liveItems};
 ghost use Rattle.table_rules.specs.Add.{addRefusal, lowestEmpty, addBucket, addTarget, added};
@@ -37,8 +37,8 @@ fn lowest_empty(table: &[Row], order: Order) -> u32
     k
 }
 
-// Lines 6 and 7, D ← D ∪ Unbuild(B_i): the live items of buckets 0 to k - 1, in slot order, behind the first n rows of the work area. The reply is the
-// number of rows there now.
+// Lines 6 and 7, D ← D ∪ Unbuild(B_i): the live items of buckets 0 to k - 1, in slot order, behind the first n rows of
+// the work area. The reply is the number of rows there now.
 fn gather_below(table: &[Row], order: Order, k: u32, work: &mut [Row], n: usize) -> usize
     requires { ⌜ BuiltFits (now table) (order .t) × (k ≤ order .t + 1) × (n + length (liveItems (now table) (countFrom 0 k)) ≤ length (now work)) ⌝ }
     ensures { λ r. ⌜ (r ≡ n + length (liveItems (now (table .entry)) (countFrom 0 k))) × (now (work .exit) ≡ sets (now (work .entry)) n (liveItems (now (table .entry)) (countFrom 0 k))) ⌝ }
@@ -64,15 +64,17 @@ fn empty_below(table: &mut [Row], order: Order, k: u32)
     }
 }
 
-// Line 2 of Algorithm 2: n items whose lowest empty bucket is k are built in k if they are more than 2^(k-1), half its room, else in k - 1.
+// Line 2 of Algorithm 2: n items whose lowest empty bucket is k are built in k if they are more than 2^(k-1), half its
+// room, else in k - 1.
 fn add_bucket(k: u32, n: usize) -> u32
-    requires { ⌜ (k < 32) × (1 ≤ n) × (n ≤ 4096) ⌝ }
+    requires { ⌜ (k < 32) × (1 ≤ n) × (n ≤ room mostOrder) ⌝ }
     ensures { λ r. ⌜ r ≡ addBucket k n ⌝ }
 {
     if Order::room(k) < 2 * n { k } else { k - 1 }
 }
 
-// The accepted call, line by line of Algorithm 1. Its lines 10 and 11 have nothing here: buckets 0 to T are there from the start.
+// The accepted call, line by line of Algorithm 1. Its lines 10 and 11 have nothing here: buckets 0 to T are there from
+// the start.
 pub fn insert(
     table: &mut [Row],
     work: &mut [Row],

@@ -4,11 +4,11 @@ ghost use mathlib.Core.Bool.{_&&_};
 ghost use Prim.Native.Nat.{ℕ};
 ghost use lib.Dec.{eqb};
 ghost use Rattle.metric_rules.specs.Row.{tagOf, isLive};
+ghost use Rattle.table_rules.specs.Refusals.{notLive, unless};
 ghost use Rattle.table_rules.specs.Table.{orderOf};
 ghost use Rattle.table_rules.specs.Passed.{Passed};
 ghost use Rattle.table_rules.specs.LookUp.{placeFrom, find, isLiveTag, notFound, lookUpReply};
-ghost use Rattle.table_look_up.specs.Spots.{slotPlace, placeOf};
-use metric::valid_tag;
+ghost use Rattle.table_look_up.specs.Spots.{slotPlace, numberOf, placeOf};
 use metric_rules::Profile;
 use metric_rules::Row;
 use rows::day_of;
@@ -22,6 +22,7 @@ use table_rules::BAD_TAG;
 use table_rules::LookedUp;
 use table_rules::NOT_LIVE;
 use table_views::slots_of;
+use validity::valid_tag;
 
 // Where a live item stands.
 pub enum Spot {
@@ -52,7 +53,8 @@ fn slot_with(slots: &[Row], tag: u64) -> usize
 // The lowest bucket first, then the lowest slot. The table has passed its tests.
 pub fn find(table: &[Row], order: Order, tag: u64) -> Spot
     requires { ⌜ (order .t ≡ orderOf (now table)) × Passed (now table) ⌝ }
-    ensures { λ r. ⌜ placeOf (now (table .entry)) r ≡ find (now (table .entry)) tag ⌝ }
+    ensures place { λ r. ⌜ placeOf (now (table .entry)) r ≡ find (now (table .entry)) tag ⌝ }
+    ensures number { λ r. ⌜ numberOf r ≡ unless (isLiveTag (now (table .entry)) tag) notLive 0 ⌝ }
 {
     let t = order.t;
     let mut k = 0;

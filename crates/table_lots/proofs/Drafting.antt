@@ -1,5 +1,6 @@
--- A drafting by every radius of a list under way: the first i radii have their summaries, and the lots are listed once the radius at place `at` had its turn. Entries that are
--- permuted are listed alike, since two with the same lot and tag are the same.
+-- A drafting by every radius of a list under way: the first i radii have their summaries, and the lots are listed once
+-- the radius at place `at` had its turn. Entries that are permuted are listed alike, since two with the same lot and
+-- tag are the same.
 use Prim.Native.Nat.{ℕ, _+_, _≤_, _<_}
 use native.Mathlib.Omega.{arith}
 use mathlib.Core.Path.{_≡_, refl, sym, _∙_}

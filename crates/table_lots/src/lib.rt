@@ -1,4 +1,5 @@
-// Lots over a table: the refusals in their order, and the drafting by every radius of a list, with the lots of one of them listed.
+// Lots over a table: the refusals in their order, and the drafting by every radius of a list, with the lots of one of
+// them listed.
 ghost use mathlib.Core.Path.{_≡_};
 ghost use mathlib.Core.List.{map, _++_};
 ghost use Prim.Native.Nat.{_-_, _≤_, _<_};
@@ -11,7 +12,9 @@ ghost use Rattle.table_rules.specs.Table.{orderOf, cleared};
 ghost use Rattle.table_rules.specs.Passed.{Passed};
 ghost use Rattle.table_rules.specs.Search.{zeroEntry};
 ghost use Rattle.lots_rules.specs.Lots.{listingOf};
-ghost use Rattle.lots_rules.specs.Drafting.{zeroSummary, radiiPass, draftedItems, tableLots, tableSummaries, tableListing, lotsRefusal, summaryAfterLots, listingAfterLots, workAfterLots};
+ghost use Rattle.lots_rules.specs.Drafting.{zeroSummary, radiiPass, draftedItems, tableLots, tableSummaries};
+ghost use Rattle.lots_rules.specs.Drafting.{tableListing, lotsRefusal, summaryAfterLots, listingAfterLots};
+ghost use Rattle.lots_rules.specs.Drafting.{workAfterLots};
 ghost use Rattle.table_checks.specs.Answers.{checked};
 ghost use Rattle.lots_draft.specs.Leading.{placeOf, Placed};
 ghost use Rattle.table_lots.specs.Places.{placeSummary, placeListing};

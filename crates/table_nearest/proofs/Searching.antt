@@ -18,7 +18,8 @@ use Rattle.search_asked.specs.Asked.{askedOf, distanceAsked, queryAsked, report
 use Rattle.tree_nearest.specs.declared.Nearby.{Nearby}
 use Rattle.tree_nearest.specs.Nearby.{boundOf, keptUnder, tallyOf, Leaves, reportedIn, Ready, nearestAsked}
 use Rattle.tree_nearest.proofs.Bounds.{Near, bound-below, under-unbounded}
-use Rattle.tree_nearest.proofs.Steps.{Fit, Sound, short, sound-tree, leaves-as, leaves-same, ready-less, ready-fit, ready-few, ready-after, tally-after, leaves-then}
+use Rattle.tree_nearest.proofs.Steps.{Fit, Sound, short, sound-tree, leaves-as, leaves-same, ready-less, ready-fit, ready-few, ready-after, tally-after}
+use Rattle.tree_nearest.proofs.Steps.{leaves-then}
 use Rattle.table_rules.specs.Geometry.{room, bucketsOf, headerRow, firstSlot}
 use Rattle.table_rules.specs.Table.{Table, rowAt, orderOf, tableSpace, builtOf, slotsOf}
 use Rattle.table_rules.specs.Search.{bucketsDown, nearestTally}

@@ -1,4 +1,5 @@
--- What a nearest search over a table makes of a tally, bucket by bucket from the top down, and how many slots may be reported.
+-- What a nearest search over a table makes of a tally, bucket by bucket from the top down, and how many slots may be
+-- reported.
 use Prim.Native.Nat.{ℕ}
 use mathlib.Core.Bool.{Bool}
 use mathlib.Core.List.{List, [], map, foldl, reverse}

@@ -1,4 +1,5 @@
-// Nearest over a table: buckets from the top down, the count and the bound going through all of them, the entries kept standing in the area.
+// Nearest over a table: buckets from the top down, the count and the bound going through all of them, the entries kept
+// standing in the area.
 ghost use mathlib.Core.Path.{_≡_};
 ghost use Prim.Native.Nat.{_≤_, _<_, min, suc};
 ghost use lib.Dec.{leb};
@@ -10,7 +11,6 @@ ghost use Rattle.table_rules.specs.Table.{orderOf};
 ghost use Rattle.table_rules.specs.Passed.{Passed};
 ghost use Rattle.table_rules.specs.Search.{nearestReply, resultAfterNearest};
 ghost use Rattle.table_nearest.specs.Tallies.{noneKept, reportedBelow, tallyBelow};
-use metric::valid_measures;
 use metric_rules::Profile;
 use metric_rules::Row;
 use rows::threshold_of;
@@ -33,6 +33,7 @@ use tree_nearest::Nearby;
 use tree_nearest::UNBOUNDED;
 use tree_nearest::kept_under;
 use tree_nearest_tally::visited;
+use validity::valid_measures;
 
 // How many of these slots a search by this query may report.
 fn count_reported(slots: &[Row], query: &Row) -> usize
@@ -63,7 +64,8 @@ fn count_all_reported(table: &[Row], order: Order, query: &Row) -> usize
     found
 }
 
-// Whether so many entries hold the reply. Those of a shorter area than k are counted beforehand, so that a search has room for all that it keeps.
+// Whether so many entries hold the reply. Those of a shorter area than k are counted beforehand, so that a search has
+// room for all that it keeps.
 fn reply_fits(table: &[Row], order: Order, entries: usize, asked: &Asked) -> bool
     requires { ⌜ (order .t ≡ orderOf (now table)) × Passed (now table) ⌝ }
     ensures { λ r. ⌜ r ≡ leb (min (kAsked (now (asked .entry))) (reportedBelow (reportsAsked (now (asked .entry))) (now (table .entry)) (suc (order .t)))) entries ⌝ }
@@ -74,7 +76,8 @@ fn reply_fits(table: &[Row], order: Order, entries: usize, asked: &Asked) -> boo
     count_all_reported(table, order, &asked[1]) <= entries
 }
 
-// One bucket's slots, from what the buckets above it have kept, by way of the tally that is lent. An empty bucket is searched as no slots.
+// One bucket's slots, from what the buckets above it have kept, by way of the tally that is lent. An empty bucket is
+// searched as no slots.
 fn nearest_bucket(near: Nearby, slots: &[Row], area: &mut [Entry], asked: &Asked) -> Nearby
     requires { ⌜ ReadyAsked (now asked) (now slots) (now area) near ⌝ }
     ensures { λ r. ⌜ Leaves (kAsked (now (asked .entry))) (nearestAsked (now (asked .entry)) (now (slots .entry)) (now (area .entry)) near) (now (area .entry)) (now (area .exit)) r ⌝ }

@@ -1,4 +1,5 @@
--- RULES 5.1, what asking for an order answers: the number and the order, for each case of `Ordered`. The refusal is 3 (RULES 14.1).
+-- RULES 5.1, what asking for an order answers: the number and the order, for each case of `Ordered`. The refusal is 3
+-- (RULES 14.1).
 use Prim.Native.Nat.{ℕ}
 use mathlib.Core.Bool.{true, false}
 use Rattle.table_rules.specs.Refusals.{badOrder}

@@ -12,14 +12,13 @@ ghost use Rattle.table_rules.specs.Passed.{Passed};
 ghost use Rattle.table_rules.specs.Search.{zeroEntry, rangeReply, resultAfterRange};
 ghost use Rattle.table_range.specs.Below.{metBelow, noneFound};
 use entry_sort::sort_entries;
-use metric::valid_measures;
 use metric_rules::Profile;
 use metric_rules::Row;
 use search_asked::Asked;
 use search_asked::asked_of;
-use search_reply::accepted;
 use search_reply::refused;
 use search_reply::too_short;
+use search_reply::zero_behind;
 use search_rules::Entry;
 use table_checks::Checked;
 use table_checks::read_check;
@@ -30,6 +29,7 @@ use table_views::HEADER_ROW;
 use table_views::slots_of;
 use tree_range::Found;
 use tree_range::range_tree;
+use validity::valid_measures;
 
 // What all buckets meet, the highest first.
 fn range_buckets(table: &[Row], order: Order, area: &mut [Entry], asked: &Asked) -> Found
@@ -47,8 +47,17 @@ fn range_buckets(table: &[Row], order: Order, area: &mut [Entry], asked: &Asked)
     found
 }
 
+// The first n entries of an area in order, and zeros after them.
+pub fn put_in_order(area: &mut [Entry], n: usize)
+    requires { ⌜ n ≤ length (now area) ⌝ }
+    ensures { λ _. ⌜ (All Pair (take n (now (area .entry))) → now (area .exit) ≡ ordered (take n (now (area .entry))) ++ replicate (length (now (area .entry)) - n) zeroEntry) ⌝ }
+{
+    sort_entries(&mut area[..n]);
+    zero_behind(area, n);
+}
+
 // The reply of a range search that found these hits: in order, with zeros after them, where the area holds them all.
-pub fn reply_with(area: &mut [Entry], found: Found) -> Searched
+fn reply_with(area: &mut [Entry], found: Found) -> Searched
     requires { ⌜ (found .hits < 2 ^ 32) × (found .count < 2 ^ 32) ⌝ }
     ensures held { λ r. ⌜ (found .hits ≤ length (now (area .entry)) → r ≡ record { refusal = 0; found = found .hits; distances = found .count }) ⌝ }
     ensures sorted { λ _. ⌜ (found .hits ≤ length (now (area .entry)) → All Pair (take (found .hits) (now (area .entry))) → now (area .exit) ≡ ordered (take (found .hits) (now (area .entry))) ++ replicate (length (now (area .entry)) - found .hits) zeroEntry) ⌝ }
@@ -58,8 +67,12 @@ pub fn reply_with(area: &mut [Entry], found: Found) -> Searched
     if area.len() < n {
         return too_short(area);
     }
-    sort_entries(&mut area[..n]);
-    accepted(area, n, found.count)
+    put_in_order(area, n);
+    Searched {
+        refusal: 0,
+        found: n as u32,
+        distances: found.count as u32,
+    }
 }
 
 // RULES 11, range over a table: every value of every argument, a table and an area of any length and content.

@@ -24,7 +24,8 @@ use Rattle.table_rules.specs.Search.{Answer, zeroEntry}
 use Rattle.table_rules.proofs.Chains.{stops-first, unless-zero}
 use Rattle.table_rules.proofs.Replies.{not-short}
 use Rattle.batch_rules.specs.declared.Ranges.{Ranges}
-use Rattle.batch_rules.specs.Batch.{badBatch, mostQueries, validNumber, singleAnswer, singleAnswers, partSize, queriesRefusal, partsRefusal, batchRefusal, foundBy, rangesReply, resultAfterParts, partWith, partsWith, batchCount, rangeBatchReply, resultAfterBatch}
+use Rattle.batch_rules.specs.Batch.{badBatch, mostQueries, validNumber, singleAnswer, singleAnswers, partSize, queriesRefusal, partsRefusal, batchRefusal}
+use Rattle.batch_rules.specs.Batch.{foundBy, rangesReply, resultAfterParts, partWith, partsWith, batchCount, rangeBatchReply, resultAfterBatch}
 use Rattle.table_range_batch.specs.Below.{batchOf, hitsBelow, countBelow, hitsIn, Ordered, InParts}
 use Rattle.table_range_batch.proofs.Ordering.{part-size, parts-joined}
 use Rattle.table_range_batch.proofs.Answering.{hits-pairs, entries-are, entries-many, found-are, count-is}

@@ -1,4 +1,5 @@
-// Range for several queries over a table: one visit of the buckets, from the top down, for all of them; then each part of the area is put in order.
+// Range for several queries over a table: one visit of the buckets, from the top down, for all of them; then each part
+// of the area is put in order.
 ghost use mathlib.Core.Path.{_≡_};
 ghost use mathlib.Core.Bool.{true, false};
 ghost use Prim.Native.Nat.{ℕ, _+_, _*_, _≤_, _<_, _^_, suc};
@@ -14,30 +15,30 @@ ghost use Rattle.table_rules.specs.Table.{orderOf};
 ghost use Rattle.table_rules.specs.Passed.{Passed};
 ghost use Rattle.table_rules.specs.Search.{zeroEntry};
 ghost use Rattle.batch_rules.specs.Batch.{queriesRefusal, rangeBatchReply, resultAfterBatch};
-ghost use Rattle.table_range_batch.specs.Below.{askedRow, batchOf, hitsBelow, countBelow, hitsIn, Ordered, InParts};
+ghost use Rattle.table_range_batch.specs.Below.{askedRow, batchOf, hitsBelow, countBelow, hitsIn, Ordered};
+ghost use Rattle.table_range_batch.specs.Below.{InParts};
 use batch_rules::BAD_BATCH;
 use batch_rules::MOST_QUERIES;
 use batch_rules::Ranges;
-use metric::valid_measures;
 use metric_rules::Row;
-use row_store::row_of;
 use rows::day_of;
 use rows::profile_of;
 use rows::threshold_of;
+use search_asked::query_row;
 use search_reply::zero_entries;
 use search_rules::Entry;
 use table_checks::Checked;
 use table_checks::read_check;
 use table_order::Order;
-use table_range::reply_with;
+use table_range::put_in_order;
 use table_rules::BAD_MEASURE;
 use table_rules::NO_ROOM;
 use table_views::HEADER_ROW;
 use table_views::slots_of;
-use tree_range::Found;
 use tree_range_batch::Batch;
 use tree_range_batch::Numbers;
 use tree_range_batch::range_together;
+use validity::valid_measures;
 
 // A day has 16 bits.
 const DAYS: u32 = 65536;
@@ -71,13 +72,7 @@ fn queries_refusal(queries: &[Row]) -> u32
 fn asked_row(query: Row) -> Row
     ensures { λ r. ⌜ (r ≡ askedRow query) × IsProfile (profileOf query) ⌝ }
 {
-    row_of(
-        0,
-        profile_of(query),
-        threshold_of(query),
-        0,
-        day_of(query) % DAYS,
-    )
+    query_row(profile_of(query), threshold_of(query), day_of(query) % DAYS)
 }
 
 // What a batch goes by, made once.
@@ -141,7 +136,8 @@ fn buckets_together(
     count
 }
 
-// Each part with its query's hits in order and zeros after them, as the single call leaves its area; false where a part does not hold them.
+// Each part with its query's hits in order and zeros after them, as the single call leaves its area; false where a part
+// does not hold them.
 fn order_parts(area: &mut [Entry], found: &Numbers, n: usize, part: usize) -> bool
     requires { ⌜ (n ≤ 16) × (n * part ≤ length (now area)) × Fewer 0 (now found) × ((j : ℕ) → j < n → getD (now found) j 0 ≤ part → All Pair (hitsIn part (now found) (now area) j)) ⌝ }
     ensures fits { λ r. ⌜ r ≡ every (λ hits. leb hits part) (take n (now (found .entry))) ⌝ }
@@ -152,10 +148,10 @@ fn order_parts(area: &mut [Entry], found: &Numbers, n: usize, part: usize) -> bo
         let start = j * part;
         let end = start + part;
         let hits = found[j];
-        let reply = reply_with(&mut area[start..end], Found { hits, count: 0 });
-        if reply.refusal != 0 {
+        if part < hits {
             return false;
         }
+        put_in_order(&mut area[start..end], hits);
         j += 1;
     }
     true
@@ -187,7 +183,8 @@ fn refused(refusal: u32) -> Ranges
     }
 }
 
-// The reply, once each query's hits lie in its part: the parts in order and zeros in what is left over, or 6 and zeros all over.
+// The reply, once each query's hits lie in its part: the parts in order and zeros in what is left over, or 6 and zeros
+// all over.
 fn reply_in_parts(
     area: &mut [Entry],
     found: &Numbers,
@@ -214,19 +211,19 @@ fn reply_in_parts(
     }
 }
 
-// RULES 11.12 to 11.15, range for several queries over a table: every value of every argument, a table and areas of any length and content.
+// RULES 11.12 to 11.15, range for several queries over a table: every value of every argument, a table and areas of any
+// length and content.
 pub fn range_batch(table: &[Row], result: &mut [Entry], queries: &[Row]) -> Ranges
     ensures reply { λ r. ⌜ r ≡ rangeBatchReply (now (table .entry)) (now (result .entry)) (now (queries .entry)) ⌝ }
     ensures area { λ _. ⌜ now (result .exit) ≡ resultAfterBatch (now (table .entry)) (now (result .entry)) (now (queries .entry)) ⌝ }
 {
-    let checked = read_check(table);
-    let queries_stop = queries_refusal(queries);
-    let order = match checked {
+    let order = match read_check(table) {
         Checked::Refused(refusal) => return refused(refusal),
         Checked::Passes(order) => order,
     };
-    if queries_stop != 0 {
-        return refused(queries_stop);
+    let refusal = queries_refusal(queries);
+    if refusal != 0 {
+        return refused(refusal);
     }
     let n = queries.len();
     let part = result.len() / n;

@@ -1,7 +1,7 @@
 -- A room whose front is built and whose rest is zeroed, and a work area whose front was used and is zero again.
 use Prim.Native.Nat.{ℕ, _+_, _-_, _≤_}
 use native.Mathlib.Omega.{arith}
-use mathlib.Core.Path.{_≡_, sym, _∙_, ap, ap₂}
+use mathlib.Core.Path.{_≡_, refl, sym, _∙_, ap, ap₂}
 use mathlib.Core.List.{List, _++_, append-assoc}
 use lib.ListN.{length, take, drop, replicate, length-take, length-drop, replicate-append-replicate}
 use lib.Seq.{drop-drop, drop-append-add, sets, sets-eq}
@@ -13,13 +13,18 @@ use Rattle.metric_rules.specs.declared.Space.{Space}
 use Rattle.metric_rules.specs.Distance.{distance}
 use Rattle.tree_rules.specs.Layout.{layout}
 use Rattle.tree_rules.proofs.Layouts.{layout-length}
-use Rattle.table_rules.specs.Geometry.{room, firstSlot, tableRows}
+use Rattle.table_rules.specs.Geometry.{mostOrder, room, firstSlot, tableRows}
 use Rattle.table_rules.specs.Table.{Table, orderOf, tableSpace, putSizes, putBucket, emptied, cleared}
 use Rattle.table_rules.specs.Rebuild.{rebuilt}
 use Rattle.table_rules.proofs.Views.{same-space}
 use Rattle.table_rules.proofs.Puts.{emptied-only}
 use Rattle.table_buckets.specs.OfOrder.{OfOrder}
 use Rattle.table_buckets.proofs.Places.{room-inside, room-given-back}
+
+-- the most items of any table
+pub most-room : room mostOrder ≡ 4096
+unfolding room
+most-room = refl
 
 -- the first n slots given back as `laid`, and then the rest as zeros
 pub filled :

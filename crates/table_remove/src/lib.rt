@@ -7,7 +7,6 @@ ghost use Rattle.table_rules.specs.Geometry.{room, firstSlot};
 ghost use Rattle.table_rules.specs.Table.{rowAt, liveOf};
 ghost use Rattle.table_rules.specs.Remove.{marked, removeReply, tableAfterRemove, workAfterRemove};
 ghost use Rattle.table_buckets.specs.OfOrder.{OfOrder};
-use metric::valid_tag;
 use metric_rules::MARK_AT;
 use metric_rules::Row;
 use table_after_deletion::after_deletion;
@@ -22,8 +21,10 @@ use table_rules::NOT_LIVE;
 use table_rules::Removed;
 use table_views::built_of;
 use table_views::live_of;
+use validity::valid_tag;
 
-// The row of an item that is no longer live. A row by value has all its words, and says so for the rows of a table, of which nothing else does.
+// The row of an item that is no longer live. A row by value has all its words, and says so for the rows of a table, of
+// which nothing else does.
 fn dead(row: Row) -> Row
     ensures { λ r. ⌜ (r ≡ withMark 1 row) × (length row ≡ rowWidth) ⌝ }
 {
@@ -32,7 +33,8 @@ fn dead(row: Row) -> Row
     marked
 }
 
-// Line 7. The rules mark an item dead and take none out: its slot still guides searches, and |B_k|, the live size of bucket k, is one less.
+// Line 7. The rules mark an item dead and take none out: its slot still guides searches, and |B_k|, the live size of
+// bucket k, is one less.
 fn mark_dead(table: &mut [Row], order: Order, k: u32, slot: usize)
     requires { ⌜ OfOrder (now table) (order .t) × (k ≤ order .t) × (slot < room k) × (1 ≤ liveOf (now table) k) ⌝ }
     ensures marked { λ _. ⌜ now (table .exit) ≡ marked (now (table .entry)) (record { bucket = k; slot = slot; row = rowAt (now (table .entry)) (firstSlot (order .t) k + slot) }) ⌝ }

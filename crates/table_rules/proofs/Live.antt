@@ -3,7 +3,8 @@
 use Prim.Native.Nat.{ℕ, suc, _≤_}
 use mathlib.Core.Path.{_≡_, refl, sym, _∙_, ap, ap₂, subst}
 use mathlib.Core.Bool.{true}
-use mathlib.Core.List.{List, [], _∷_, _++_, map, map-append, flatten, append-nil, append-assoc, List·Permᴰ, List·Permᴰ·trans, Permᴰ·refl, Permᴰ·symm, Permᴰ·append-left, Permᴰ·append-right}
+use mathlib.Core.List.{List, [], _∷_, _++_, map, map-append, flatten, append-nil, append-assoc, List·Permᴰ, List·Permᴰ·trans, Permᴰ·refl, Permᴰ·symm}
+use mathlib.Core.List.{Permᴰ·append-left, Permᴰ·append-right}
 use mathlib.Core.Logic.{inl, inr}
 use native.Mathlib.Omega.{arith}
 use lib.ListN.{length, drop, length-take, length-drop}
@@ -22,7 +23,8 @@ use Rattle.table_rules.specs.Table.{Table, orderOf, tableSpace, builtOf,
 use Rattle.table_rules.specs.Rebuild.{liveItems, rebuilt}
 use Rattle.table_rules.proofs.Geometry.{room-ends}
 use Rattle.table_rules.proofs.Views.{kept-built, kept-live-slots, Only, only-twice, only-fewer, same-order}
-use Rattle.table_rules.proofs.Puts.{Holds, held-built, held-live-slots, kept-holds, put-bucket-only, put-bucket-holds, apart-or, emptied-only, emptied-holds}
+use Rattle.table_rules.proofs.Puts.{Holds, held-built, held-live-slots, kept-holds, put-bucket-only, put-bucket-holds, apart-or, emptied-only}
+use Rattle.table_rules.proofs.Puts.{emptied-holds}
 use Rattle.table_rules.proofs.ByNumber.{Around, around, perm-front}
 
 -- no bucket is built past its room

@@ -15,7 +15,8 @@ use Rattle.table_rules.specs.Geometry.{room, sizesRow, firstSlot, tableR
 use Rattle.table_rules.specs.Table.{Table, rowAt, orderOf, builtOf, liveOf, slotsOf, liveSlots, pairRow, putSizes, putBucket, emptied}
 use Rattle.table_rules.proofs.Geometry.{sizes-before-slots, room-ends}
 use Rattle.table_rules.proofs.Windows.{window, window-paste, before-paste, after-paste, paste-length}
-use Rattle.table_rules.proofs.Views.{roomOf, room-row, slots-of-room, same-order, Kept, Only, only-own, only-twice, only-fewer, Between, only-sizes, only-slots, sizes-room}
+use Rattle.table_rules.proofs.Views.{roomOf, room-row, slots-of-room, same-order, Kept, Only, only-own, only-twice, only-fewer, Between, only-sizes}
+use Rattle.table_rules.proofs.Views.{only-slots, sizes-room}
 
 -- the sizes that a sizes row shows
 module _ (u : Table) (k a b : ℕ) (row : rowAt u (sizesRow k) ≡ pairRow a b) where

@@ -6,7 +6,8 @@ use mathlib.Core.List.{List, [], _∷_, _++_, append-assoc}
 use native.Mathlib.Nat.{zero-add, suc-add}
 use native.Mathlib.Omega.{arith}
 use lib.ListN.{length, getD, take, drop, set, length-take, length-drop}
-use lib.Seq.{paste, take-nil, take-all, getD-take, getD-drop, take-take, take-at, drop-at, drop-drop, take-set-lt, drop-set-add, length-take-le, length-paste, drop-paste}
+use lib.Seq.{paste, take-nil, take-all, getD-take, getD-drop, take-take, take-at, drop-at, drop-drop, take-set-lt, drop-set-add, length-take-le, length-paste}
+use lib.Seq.{drop-paste}
 
 module _ {A : Type 0} where
   unfoldable pub window : ℕ → ℕ → List A → List A

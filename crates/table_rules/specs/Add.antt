@@ -1,5 +1,5 @@
--- RULES 8: the refusals, Algorithm 1's Insert with line 2 of Algorithm 2 in place of its line 9 (RULES 1.3), and every area after the call. B_k is bucket
--- k, and null an empty one.
+-- RULES 8: the refusals, Algorithm 1's Insert with line 2 of Algorithm 2 in place of its line 9 (RULES 1.3), and every
+-- area after the call. B_k is bucket k, and null an empty one.
 use Prim.Native.Nat.{ℕ, zero, suc, _-_, _*_}
 use mathlib.Core.Bool.{true, false}
 use mathlib.Core.List.{List, _∷_}

@@ -44,7 +44,8 @@ frameRefusal (r ∷ rs) =
     (unless (leb (tableRows (orderOf t)) (length t)) shortArea
     0)
 
--- what else a lent table holds in its header rows, tested behind every length: its weights, whatever its metric, and its sizes
+-- what else a lent table holds in its header rows, tested behind every length: its weights, whatever its metric, and
+-- its sizes
 abbrev pub headerPasses : Table → Bool
 headerPasses t = validWeights (tableSpace t .weights) && sizesPass (orderOf t) (builtOf t) (liveOf t)
 

@@ -1,4 +1,5 @@
--- RULES 14.5: of what the tests of a lent table show where it is not refused, the part on which the steps behind them rest. No call promises it.
+-- RULES 14.5: of what the tests of a lent table show where it is not refused, the part on which the steps behind them
+-- rest. No call promises it.
 use Prim.Native.Nat.{_≤_}
 use mathlib.Core.Path.{_≡_}
 use mathlib.Core.Bool.{true}

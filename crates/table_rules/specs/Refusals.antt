@@ -22,7 +22,8 @@ badMetric = 4
 abbrev pub noCount : ℕ
 noCount = 5
 
--- an area too short for the result: fewer entries than the reply, fewer bytes than the image or the snapshot, fewer numbers than tags, fewer entries than radii or live items
+-- an area too short for the result: fewer entries than the reply, fewer bytes than the image or the snapshot, fewer
+-- numbers than tags, fewer entries than radii or live items
 abbrev pub noRoom : ℕ
 noRoom = 6
 
@@ -50,7 +51,8 @@ full = 22
 abbrev pub shortArea : ℕ
 shortArea = 23
 
--- order, metric, weights or sizes of a lent table, or sizes of an image, break the rules; in add, remove, a herd list and lots also the marks of a lent table
+-- order, metric, weights or sizes of a lent table, or sizes of an image, break the rules; in add, remove, a herd list
+-- and lots also the marks of a lent table
 abbrev pub badTable : ℕ
 badTable = 24
 
@@ -62,7 +64,8 @@ badWeight = 32
 abbrev pub badDay : ℕ
 badDay = 33
 
--- A refusal is a list of tests in the rules' order: the first that stops the call gives its number, and later ones are not worked out.
+-- A refusal is a list of tests in the rules' order: the first that stops the call gives its number, and later ones are
+-- not worked out.
 
 -- n, unless the test passes: then what is tested after it
 abbrev pub unless : Bool → ℕ → ℕ → ℕ

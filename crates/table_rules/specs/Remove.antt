@@ -26,7 +26,8 @@ marked t place =
     let k = place .bucket in
     putSizes k (builtOf t k) (liveOf t k - 1) (set t (firstSlot (orderOf t) k + place .slot) (withMark 1 (place .row)))
 
--- RULES 9.4, Unbuild and Build: the live items of the buckets listed, B_k's first, built in one bucket; the others listed become null
+-- RULES 9.4, Unbuild and Build: the live items of the buckets listed, B_k's first, built in one bucket; the others
+-- listed become null
 unfoldable pub united : Table → List ℕ → ℕ → Rebuilt
 united t ks to = rebuilt t ks to (liveItems t ks)
 
@@ -34,8 +35,9 @@ united t ks to = rebuilt t ks to (liveItems t ks)
 unfoldable pub moved : Table → ℕ → ℕ → Rebuilt
 moved t k to = united t (k ∷ []) to
 
--- RULES 9.3, 9.4: Algorithm 2, lines 8 to 26, over the table that line 7 leaves (`marked`). B_k is bucket k, |B_k| its live size, and null is an empty
--- bucket. Where a line returns true, the rules reply the distances of the build, or 0 where nothing is built.
+-- RULES 9.3, 9.4: Algorithm 2, lines 8 to 26, over the table that line 7 leaves (`marked`). B_k is bucket k, |B_k| its
+-- live size, and null is an empty bucket. Where a line returns true, the rules reply the distances of the build, or 0
+-- where nothing is built.
 unfoldable pub afterDeletion : Table → ℕ → Rebuilt
 afterDeletion t k =
     -- by the rules alone: with no live item left, k being 0 or 1, B_k becomes null
@@ -64,8 +66,8 @@ afterDeletion t k =
       ]
     ]
 
--- RULES 9.1 to 9.4, Algorithm 2: the live item with the tag is found (lines 4 to 6) and marked dead (7), and the steps after it follow (8 to 26). Without
--- one nothing changes, and the call is refused (21)
+-- RULES 9.1 to 9.4, Algorithm 2: the live item with the tag is found (lines 4 to 6) and marked dead (7), and the steps
+-- after it follow (8 to 26). Without one nothing changes, and the call is refused (21)
 unfoldable pub removed : Table → ℕ → Rebuilt
 removed t tag = elim (find t tag) [ some place ↦ afterDeletion (marked t place) (place .bucket) | none ↦ record { table = t; distances = 0 } ]
 

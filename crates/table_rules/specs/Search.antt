@@ -30,7 +30,8 @@ unfoldable pub rangeMet : Table → Profile → ℕ → ℕ → Met
 rangeMet t query radius firstDay =
     foldr (λ k met. both (rangeTree (distance (tableSpace t)) query (mayReport (queryRow query radius firstDay)) radius (slotsOf t k)) met) nothing (bucketsDown t)
 
--- RULES 11.6, 11.10: the hits by distance, then tag. The count is the number of slots all of whose ancestors let their side be entered (`range-visits`)
+-- RULES 11.6, 11.10: the hits by distance, then tag. The count is the number of slots all of whose ancestors let their
+-- side be entered (`range-visits`)
 unfoldable pub rangeAnswer : Table → Profile → ℕ → ℕ → Answer
 rangeAnswer t query radius firstDay = let met = rangeMet t query radius firstDay in record { entries = ordered (met .hits); count = met .count }
 
@@ -39,7 +40,8 @@ unfoldable pub nearestTally : Table → Profile → ℕ → ℕ → Tally
 nearestTally t query k firstDay =
     foldl (λ tally b. nearestTree (distance (tableSpace t)) query (mayReport (queryRow query k firstDay)) k tally (slotsOf t b)) (record { kept = []; count = 0 }) (bucketsDown t)
 
--- RULES 11.9, 15.3: the reply is what is kept, over any table min(k, Z) entries, Z being the number of built slots that may be reported (`nearest-size`)
+-- RULES 11.9, 15.3: the reply is what is kept, over any table min(k, Z) entries, Z being the number of built slots that
+-- may be reported (`nearest-size`)
 unfoldable pub nearestAnswer : Table → Profile → ℕ → ℕ → Answer
 nearestAnswer t query k firstDay = let tally = nearestTally t query k firstDay in record { entries = tally .kept; count = tally .count }
 

@@ -1,5 +1,5 @@
-// Runs the calls on the steps of steps.rt, and prints what tools/table_runs.py worked out apart from the code: of each step its kind, the last reply,
-// the distances of all its calls together, and both sizes of every bucket.
+// Runs the calls on the steps of steps.rt, and prints what tools/table_runs.py worked out apart from the code: of each
+// step its kind, the last reply, the distances of all its calls together, and both sizes of every bucket.
 mod steps;
 
 ghost use Prim.Native.Nat.{_≤_};

@@ -1,4 +1,5 @@
-// What a table's header and size rows show: its order, whether its metric is one, its weights, and the sizes of its buckets.
+// What a table's header and size rows show: its order, whether its metric is one, its weights, and the sizes of its
+// buckets.
 ghost use mathlib.Core.Path.{_≡_};
 ghost use mathlib.Core.List.{map};
 ghost use Prim.Native.Nat.{_+_, _≤_, _<_};
@@ -17,6 +18,7 @@ use metric_rules::WEIGHT_2;
 use metric_rules::WEIGHT_3;
 use metric_rules::Weights;
 use table_order::Order;
+use validity::valid_metric;
 
 // The header row, and the words of it and of a size row.
 pub const HEADER_ROW: usize = 0;
@@ -27,21 +29,12 @@ pub const BUILT_AT: usize = 0;
 
 pub const LIVE_AT: usize = 1;
 
-// The metrics are 0 to this one.
-const LAST_METRIC: u32 = 2;
-
 // A word of a row, with its bound: a row that was read from a slice comes without it.
 pub fn word_at(row: Row, i: usize) -> u32
     requires { ⌜ i < rowWidth ⌝ }
     ensures { λ r. ⌜ r ≡ word row i ⌝ }
 {
     row[i]
-}
-
-pub fn valid_metric(space: Space) -> bool
-    ensures { λ r. ⌜ r ≡ validMetric space ⌝ }
-{
-    space.metric <= LAST_METRIC
 }
 
 pub fn weights_of(header: Row) -> Weights

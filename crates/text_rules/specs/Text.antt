@@ -1,5 +1,6 @@
--- Bytes, the parts between separators, and numerals: what the lines of `yard` (RULES 18) and of herd lists (RULES 13) are made of. The separator, the
--- base and the widths are arguments, so that another list of the same kind is read by the same definitions.
+-- Bytes, the parts between separators, and numerals: what the lines of `yard` (RULES 18) and of herd lists (RULES 13)
+-- are made of. The separator, the base and the widths are arguments, so that another list of the same kind is read by
+-- the same definitions.
 use Prim.Native.Nat.{ℕ, zero, suc, _+_, _-_, _*_, _/_, _%_}
 use mathlib.Core.Bool.{Bool, true, false, _&&_, _||_}
 use mathlib.Core.List.{List, [], _∷_, _++_}

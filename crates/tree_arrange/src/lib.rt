@@ -42,7 +42,8 @@ fn bring_first(rows: &mut [Row], at: usize)
     rows[at] = first;
 }
 
-// The rows of src with their distances from v written, and a copy of them in dst. The reply is the number of distances worked out.
+// The rows of src with their distances from v written, and a copy of them in dst. The reply is the number of distances
+// worked out.
 fn measure(dst: &mut [Row], src: &mut [Row], v: Row, header: &Row) -> u64
     requires { ⌜ length (now dst) ≡ length (now src) ⌝ }
     ensures measured { λ _. ⌜ now (src .exit) ≡ map (measuredFrom (distance (spaceOf (now (header .entry)))) v) (now (src .entry)) ⌝ }
@@ -62,8 +63,9 @@ fn measure(dst: &mut [Row], src: &mut [Row], v: Row, header: &Row) -> u64
     count
 }
 
-// A part's rows arranged: the first slot's, and the others in order of their distance from it. The destination is the sort's scratch:
-// what it holds afterwards is left free, and it keeps its length. The reply is the number of distances worked out.
+// A part's rows arranged: the first slot's, and the others in order of their distance from it. The destination is the
+// sort's scratch: what it holds afterwards is left free, and it keeps its length. The reply is the number of distances
+// worked out.
 pub fn arrange(dst: &mut [Row], src: &mut [Row], header: &Row) -> u64
     requires { ⌜ (length (now dst) ≡ length (now src)) × (1 ≤ length (now src)) × RanksApart (now src) ⌝ }
     ensures arranged { λ _. ⌜ now (src .exit) ≡ arranged (distance (spaceOf (now (header .entry)))) (now (src .entry)) ⌝ }

@@ -17,7 +17,8 @@ use Rattle.tree_rows.specs.Working.{rankedOf, RanksApart, arranged, lastMeasure
 use Rattle.tree_rules.specs.Guided.{Whole}
 use Rattle.tree_rules.proofs.Cost.{cost-few, cost-halves}
 use Rattle.tree_rules.proofs.Layouts.{layoutOf}
-use Rattle.tree_rules.proofs.Parts.{leftPart, left-part, left-part-length, leftBack, left-back-length, rightPart, right-part, right-part-length, rightBack, right-back, right-back-length, take-set-first, drop-set-first}
+use Rattle.tree_rules.proofs.Parts.{leftPart, left-part, left-part-length, leftBack, left-back-length, rightPart, right-part, right-part-length, rightBack}
+use Rattle.tree_rules.proofs.Parts.{right-back, right-back-length, take-set-first, drop-set-first}
 use Rattle.tree_arrange.proofs.Arranging.{Apart, pairs-ranks, arranged-length, arranged-apart, arranged-whole, laidFrom, layout-arranged}
 
 -- what a build of a part asks of its rows, and a smaller measure

@@ -1,5 +1,5 @@
-// The build of a tree: its layout from rows as they were gathered, at c(n) distances.
-// While a part is built, its source rows carry their rank in the mark word and their distance from the part's first slot in the threshold word.
+// The build of a tree: its layout from rows as they were gathered, at c(n) distances. While a part is built, its source
+// rows carry their rank in the mark word and their distance from the part's first slot in the threshold word.
 ghost use mathlib.Core.Path.{_≡_};
 ghost use Prim.Native.Nat.{_≤_, _<_, _^_};
 ghost use mathlib.Core.List.{map};
@@ -15,7 +15,8 @@ use metric_rules::Row;
 use metric_rules::THRESHOLD_AT;
 use tree_arrange::arrange;
 
-// A row with its rank. A row by value has all its words, and says so for the rows of a slice, of which nothing else does.
+// A row with its rank. A row by value has all its words, and says so for the rows of a slice, of which nothing else
+// does.
 fn with_rank(row: Row, rank: u32) -> Row
     ensures { λ r. ⌜ (r ≡ withMark rank row) × (length row ≡ rowWidth) ⌝ }
 {
@@ -54,7 +55,8 @@ fn place(row: Row, threshold: u32) -> Row
     slot
 }
 
-// A part of working rows becomes the layout of its rows with their ranks: the first slot here, and each half by the same rule.
+// A part of working rows becomes the layout of its rows with their ranks: the first slot here, and each half by the
+// same rule.
 fn build_part(dst: &mut [Row], src: &mut [Row], header: &Row) -> u64
     requires { ⌜ (length (now dst) ≡ length (now src)) × (length (now src) ≤ 2 ^ 32) × Whole (now src) × RanksApart (now src) ⌝ }
     ensures laid { λ _. ⌜ now (dst .exit) ≡ layoutWithin (distance (spaceOf (now (header .entry)))) (length (now (src .entry))) (map rankedOf (now (src .entry))) ⌝ }
@@ -75,7 +77,8 @@ fn build_part(dst: &mut [Row], src: &mut [Row], header: &Row) -> u64
     count + left + right
 }
 
-// The rows of src, in the order gathered, become the tree's slots in dst. The reply is the number of distances worked out, and src is left zero.
+// The rows of src, in the order gathered, become the tree's slots in dst. The reply is the number of distances worked
+// out, and src is left zero.
 pub fn build(dst: &mut [Row], src: &mut [Row], header: &Row) -> u64
     requires { ⌜ (length (now dst) ≡ length (now src)) × (length (now src) ≤ 2 ^ 32) ⌝ }
     ensures laid { λ _. ⌜ now (dst .exit) ≡ layout (distance (spaceOf (now (header .entry)))) (now (src .entry)) ⌝ }

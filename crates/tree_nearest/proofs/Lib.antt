@@ -2,4 +2,5 @@
 pub mod Bounds
 mod TakingIn
 pub mod Steps
+mod LeafSteps
 mod Passing

@@ -19,7 +19,7 @@ use Rattle.tree_nearest.proofs.TakingIn.{dropped-far}
 use Rattle.tree_nearest.proofs.Steps.{leaves-as}
 
 module _ (dist : Profile → Profile → ℕ) (query : Profile) (reports : Row → Bool) (k : ℕ) (short : (p q : Profile) → dist p q < 2 ^ 32) where
-  below-all : (bound : ℕ) (slots : List Row) → 0 < length slots → All (λ s. bound < toQuery dist query s) slots → bound < 2 ^ 32
+  pub below-all : (bound : ℕ) (slots : List Row) → 0 < length slots → All (λ s. bound < toQuery dist query s) slots → bound < 2 ^ 32
   unfolding toQuery
   below-all bound [] some far = absurd (omega arith)
   below-all bound (s ∷ rest) some far = omega (arith, far .0, short (profileOf s) query)

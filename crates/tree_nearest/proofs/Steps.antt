@@ -13,8 +13,6 @@ use Rattle.lists.specs.Lists.{select}
 use Rattle.lists.proofs.Lists.{all-take, all-perm, pairs-take}
 use Rattle.metric_rules.specs.declared.Profile.{Profile}
 use Rattle.metric_rules.specs.Row.{Row, thresholdOf}
-use Rattle.metric_rules.specs.Distance.{spaceOf}
-use Rattle.metric_rules.proofs.Laws.{distance-metric}
 use Rattle.tree_rules.specs.Layout.{leftSize}
 use Rattle.tree_rules.proofs.Sorting.{NotAfter, sort-perm, sort-sorted, sort-of-sorted}
 use Rattle.tree_rules.proofs.Parts.{left-size, part-rest}
@@ -22,14 +20,10 @@ use Rattle.search_rules.specs.Range.{Entry, entry, entryDistance, entryKey, ent
 use Rattle.search_rules.specs.Nearest.{Tally, keep, opens, taken, enterHalf, enterHalves, nearestWithin, nearestTree}
 use Rattle.search_rules.proofs.NearestLaws.{nearestStep, nearest-none, nearest-step, Counted, lives, own-live, nearest-counted, counted-half, counted-taken}
 use Rattle.search_rules.proofs.Selecting.{select-append, select-all}
-use Rattle.search_asked.specs.Asked.{distanceAsked}
+pub use Rattle.tree_leaf.proofs.Known.{short}
 use Rattle.tree_nearest.specs.declared.Nearby.{Nearby}
 use Rattle.tree_nearest.specs.Nearby.{boundOf, keptOf, inFront, tallyOf, Leaves, reportedIn, Ready, takenAt, nearInHalves}
 use Rattle.tree_nearest.proofs.Bounds.{Near, under-bound, opens-always, opens-within, shut-beyond, held-few, held-front}
-
--- every distance fits 32 bits
-pub short : (asked : List Row) (p q : Profile) → distanceAsked asked p q < 2 ^ 32
-short asked = distance-metric (spaceOf (getD asked 0 [])) .fits
 
 -- the same tally, written otherwise
 pub leaves-as : (k : ℕ) {t u : Tally} (area after : List Entry) (r : Nearby) → t ≡ u → Leaves k t area after r → Leaves k u area after r
@@ -210,10 +204,10 @@ leftHalf rest = take (length rest - length rest / 2) rest
 abbrev pub rightHalf : List Row → List Row
 rightHalf rest = take (length rest - (length rest - length rest / 2)) (drop (length rest - length rest / 2) rest)
 
-left-is : (rest : List Row) → leftHalf rest ≡ take (leftSize (suc (length rest))) rest
+pub left-is : (rest : List Row) → leftHalf rest ≡ take (leftSize (suc (length rest))) rest
 left-is rest = ap (λ (l : ℕ). take l rest) (left-size (length rest))
 
-right-is : (rest : List Row) → rightHalf rest ≡ drop (leftSize (suc (length rest))) rest
+pub right-is : (rest : List Row) → rightHalf rest ≡ drop (leftSize (suc (length rest))) rest
 right-is rest = part-rest (length rest - length rest / 2) rest ∙ ap (λ (l : ℕ). drop l rest) (left-size (length rest))
 
 -- they share the slots, and those to be reported
@@ -285,27 +279,27 @@ module _ (dist : Profile → Profile → ℕ) (query : Profile) (reports : Row �
         leaves-then dist query reports (reportedIn reports first) (reportedIn reports second) (length first) (length second) p once l (nearThenFar first second a b (tallyOf k area near)) last z (omega (arith, once .counted .size, twice .counted .size))
         (leaves-as k mid last z after q)
 
-  pub halves-near : (d m : ℕ) (rest : List Row) (t : Tally) → d ≤ m → nearThenFar (leftHalf rest) (rightHalf rest) m d t ≡ nearInHalves dist query reports k d m rest t
-  unfolding nearInHalves enterHalves entersLeft entersRight
-  halves-near d m rest t h =
-      let left : Tally → Tally = (λ u. nearestTree dist query reports k u (take (leftSize (suc (length rest))) rest)) in
-      let right : Tally → Tally = (λ u. nearestTree dist query reports k u (drop (leftSize (suc (length rest))) rest)) in
-      let goL : Tally → Tally = enterHalf dist query reports k (entersLeft d m) left in
-      let goR : Tally → Tally = enterHalf dist query reports k (entersRight d m) right in
-      ap₂ (λ (xs ys : List Row). nearThenFar xs ys m d t) (left-is rest) (right-is rest)
-      ∙ ap goR (sym (half-open (entersLeft d m) left t (opens-always k d m h (t .kept))))
-      ∙ sym (ap (λ (b : Bool). elim b [ true ↦ goR (goL t) | false ↦ goL (goR t) ]) (le-leb d m h))
+  -- the halves as they are cut, in either order
+  module _ (d m : ℕ) (rest : List Row) (t : Tally) {left right : List Row} (l : left ≡ take (leftSize (suc (length rest))) rest) (r : right ≡ drop (leftSize (suc (length rest))) rest) where
+    abbrev goL : Tally → Tally
+    goL = enterHalf dist query reports k (entersLeft d m) (λ u. nearestTree dist query reports k u (take (leftSize (suc (length rest))) rest))
 
-  pub halves-far : (d m : ℕ) (rest : List Row) (t : Tally) → m < d → nearThenFar (rightHalf rest) (leftHalf rest) d m t ≡ nearInHalves dist query reports k d m rest t
-  unfolding nearInHalves enterHalves entersLeft entersRight
-  halves-far d m rest t h =
-      let left : Tally → Tally = (λ u. nearestTree dist query reports k u (take (leftSize (suc (length rest))) rest)) in
-      let right : Tally → Tally = (λ u. nearestTree dist query reports k u (drop (leftSize (suc (length rest))) rest)) in
-      let goL : Tally → Tally = enterHalf dist query reports k (entersLeft d m) left in
-      let goR : Tally → Tally = enterHalf dist query reports k (entersRight d m) right in
-      ap₂ (λ (xs ys : List Row). nearThenFar xs ys d m t) (right-is rest) (left-is rest)
-      ∙ ap goL (sym (half-open (entersRight d m) right t (opens-always k m d (omega arith) (t .kept))))
-      ∙ sym (ap (λ (b : Bool). elim b [ true ↦ goR (goL t) | false ↦ goL (goR t) ]) (lt-leb d m h))
+    abbrev goR : Tally → Tally
+    goR = enterHalf dist query reports k (entersRight d m) (λ u. nearestTree dist query reports k u (drop (leftSize (suc (length rest))) rest))
+
+    pub halves-near : d ≤ m → nearThenFar left right m d t ≡ nearInHalves dist query reports k d m rest t
+    unfolding nearInHalves enterHalves entersLeft entersRight
+    halves-near h =
+        ap₂ (λ (xs ys : List Row). nearThenFar xs ys m d t) l r
+        ∙ ap goR (sym (half-open (entersLeft d m) (λ u. nearestTree dist query reports k u (take (leftSize (suc (length rest))) rest)) t (opens-always k d m h (t .kept))))
+        ∙ sym (ap (λ (b : Bool). elim b [ true ↦ goR (goL t) | false ↦ goL (goR t) ]) (le-leb d m h))
+
+    pub halves-far : m < d → nearThenFar right left d m t ≡ nearInHalves dist query reports k d m rest t
+    unfolding nearInHalves enterHalves entersLeft entersRight
+    halves-far h =
+        ap₂ (λ (xs ys : List Row). nearThenFar xs ys d m t) r l
+        ∙ ap goL (sym (half-open (entersRight d m) (λ u. nearestTree dist query reports k u (drop (leftSize (suc (length rest))) rest)) t (opens-always k m d (omega arith) (t .kept))))
+        ∙ sym (ap (λ (b : Bool). elim b [ true ↦ goR (goL t) | false ↦ goL (goR t) ]) (lt-leb d m h))
 
   -- no slots, no halves
   pub halves-none : (d m : ℕ) (rest : List Row) (t : Tally) → length rest ≡ 0 → t ≡ nearInHalves dist query reports k d m rest t
@@ -334,7 +328,7 @@ module _ (dist : Profile → Profile → ℕ) (query : Profile) (reports : Row �
       go false = goL (enterHalf dist query reports k (entersRight d m) (λ v. nearestTree dist query reports k v right) t) ∙ goR t
 
   -- a tree is its first slot's own item, and then the halves
-  near-first : (slots : List Row) (t : Tally) → 0 < length slots
+  pub near-first : (slots : List Row) (t : Tally) → 0 < length slots
       → nearInHalves dist query reports k (toQuery dist query (getD slots 0 [])) (thresholdOf (getD slots 0 [])) (take (length slots - 1) (drop 1 slots)) (takenAt reports k t (getD slots 0 []) (toQuery dist query (getD slots 0 [])))
       ≡ nearestTree dist query reports k t slots
   unfolding nearestStep taken takenAt nearInHalves entryOf

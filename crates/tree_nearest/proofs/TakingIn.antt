@@ -18,7 +18,8 @@ use Rattle.search_rules.specs.Nearest.{keep, worst}
 use Rattle.entries.proofs.Inserting.{sorted-of-ordered, front-ordered, insert-split, before-last}
 use Rattle.tree_nearest.specs.declared.Nearby.{Nearby}
 use Rattle.tree_nearest.specs.Nearby.{boundOf, keptUnder, keptOf, Held, inFront, tallyOf, nearbyOf, takenAt}
-use Rattle.tree_nearest.proofs.Bounds.{worst-last, bound-below, bound-full, under-worst, under-unbounded, held-size, held-worst, held-below, held-inside, held-front}
+use Rattle.tree_nearest.proofs.Bounds.{worst-last, bound-below, bound-full, under-worst, under-unbounded, held-size, held-worst, held-below, held-inside}
+use Rattle.tree_nearest.proofs.Bounds.{held-front}
 
 module _ {k : ℕ} {area : List Entry} {bound : ℕ} (h : Held k area bound) (new : Entry) where
   kept : List Entry

@@ -1,5 +1,5 @@
--- What a nearest search hands on from step to step (RULES 11.8: "The running count and the kept bound pass through every step"): two numbers, while
--- the entries kept stand in order at the front of the area.
+-- What a nearest search hands on from step to step (RULES 11.8: "The running count and the kept bound pass through
+-- every step"): two numbers, while the entries kept stand in order at the front of the area.
 use Prim.Native.Nat.{ℕ, suc, _+_, _-_, _≤_, _<_, _^_, min}
 use mathlib.Core.Path.{_≡_}
 use mathlib.Core.Bool.{Bool, true, false}
@@ -15,7 +15,8 @@ use Rattle.search_rules.specs.Nearest.{Tally, keep, worst, enterHalves, nearest
 use Rattle.search_asked.specs.Asked.{distanceAsked, queryAsked, reportsAsked, kAsked}
 use Rattle.tree_nearest.specs.declared.Nearby.{Nearby}
 
--- the bound with these entries kept: while they are fewer than k, 2^32, which no distance reaches, and their number; then the worst distance kept
+-- the bound with these entries kept: while they are fewer than k, 2^32, which no distance reaches, and their number;
+-- then the worst distance kept
 unfoldable pub boundOf : ℕ → List Entry → ℕ
 unfolding worst
 boundOf k kept = elim (ltb (length kept) k) [ true ↦ 2 ^ 32 + length kept | false ↦ worst kept ]
@@ -54,7 +55,8 @@ Leaves k t area after r = (r ≡ nearbyOf k t) × (after ≡ inFront (t .kept) a
 abbrev pub reportedIn : (Row → Bool) → List Row → ℕ
 reportedIn reports slots = length (select reports slots)
 
--- what a step over so many slots can start from, so many of them to be reported: the area has room for what will be kept
+-- what a step over so many slots can start from, so many of them to be reported: the area has room for what will be
+-- kept
 pub record Ready (k reported slots : ℕ) (area : List Entry) (n : Nearby) : Type 0 where
   pub held : Held k area (n .bound)
   pub room : min k (length (keptOf k area (n .bound)) + reported) ≤ length area
@@ -72,7 +74,8 @@ nearInHalves dist query reports k d m rest t =
     let l = leftSize (suc (length rest)) in
     enterHalves dist query reports k d m (λ u. nearestTree dist query reports k u (take l rest)) (λ u. nearestTree dist query reports k u (drop l rest)) t
 
--- by what is asked: what a search of these slots can start from, and nearest over them from what an area and the numbers stand for
+-- by what is asked: what a search of these slots can start from, and nearest over them from what an area and the
+-- numbers stand for
 abbrev pub ReadyAsked : List Row → List Row → List Entry → Nearby → Type 0
 ReadyAsked asked slots area n = Ready (kAsked asked) (reportedIn (reportsAsked asked) slots) (length slots) area n
 

@@ -1,5 +1,5 @@
 -- What a range search leaves: the numbers that it hands on and the area that its hits are put into, as far as it goes.
-use Prim.Native.Nat.{ℕ, suc, _+_}
+use Prim.Native.Nat.{ℕ, suc, _+_, _<_, _^_}
 use mathlib.Core.Bool.{Bool, true, false, _&&_}
 use mathlib.Core.List.{List, [], _∷_}
 use lib.ListN.{length, take, drop}
@@ -11,6 +11,10 @@ use Rattle.tree_rules.specs.Layout.{leftSize}
 use Rattle.search_rules.specs.Range.{Entry, entry, entersLeft, entersRight, Met, nothing, both, rangeTree}
 use Rattle.search_asked.specs.Asked.{distanceAsked, queryAsked, reportsAsked, radiusAsked}
 use Rattle.tree_range.specs.declared.Found.{Found}
+
+-- with so many slots still to be visited the numbers stay below 2^32
+abbrev pub Room : Found → ℕ → Type 0
+Room f n = (f .hits + n < 2 ^ 32) × (f .count + n < 2 ^ 32)
 
 -- the numbers before a visit and what it met give the numbers after it
 unfoldable pub foundAfter : Found → Met → Found

@@ -10,7 +10,8 @@ use Rattle.metric_rules.specs.Row.{Row}
 use Rattle.search_rules.specs.Range.{Entry}
 use Rattle.tree_range_batch.specs.Together.{isOn, bitIf, goesLeftAt, goesRightAt, only, hitsAlone, aloneOn, Fewer, Collects}
 use Rattle.tree_range_batch.proofs.Sets.{Gathered, gathered-none, gathered-skip, gathered-next, gathered-all}
-use Rattle.tree_range_batch.proofs.Parts.{collects-none, collects-both, collects-alike, aloneBelow, below-none, below-one, below-skip, below-next, below-all}
+use Rattle.tree_range_batch.proofs.Parts.{collects-none, collects-both, collects-alike, aloneBelow, below-none, below-one, below-skip, below-next}
+use Rattle.tree_range_batch.proofs.Parts.{below-all}
 
 module _ (batch : List Row) (on : ℕ) (row : Row) (part : ℕ) (found₀ : List ℕ) (area₀ : List Entry) where
   pub record Compared (j left right : ℕ) (found : List ℕ) (area : List Entry) : Type 0 where

@@ -1,11 +1,12 @@
 -- The parts of an area, each with its own query's hits. A store inside one part leaves the others as they are; visits one after the other add up,
 -- part by part.
 use Prim.Native.Nat.{ℕ, suc, _+_, _-_, _*_, _≤_, _<_}
-use mathlib.Core.Path.{_≡_, refl, sym, ap, ap₂, _∙_}
+use mathlib.Core.Path.{_≡_, refl, sym, ap, ap₂, subst, _∙_}
 use mathlib.Core.Bool.{Bool, true, false, _&&_}
 use mathlib.Core.List.{List, [], _∷_, _++_, append-nil}
-use lib.ListN.{length, take, drop, getD, set, length-append, length-take, length-set}
-use lib.Seq.{sets, take-set-lt, drop-set-add, drop-set-lt, take-set-le, getD-set-same, getD-set-other, set-out}
+use lib.ListN.{length, take, drop, getD, set, length-append, length-take, length-drop, length-set, take-append-drop}
+use lib.Seq.{sets, length-sets, length-take-le, drop-at, take-at, drop-drop, take-append-le, drop-append-le, take-set-lt, drop-set-add, drop-set-lt}
+use lib.Seq.{take-set-le, getD-set-same, getD-set-other, set-out}
 use lib.Dec.{eqb, ltb, leb}
 use borrow.Author.Tests.{eqb-true, eqb-false, lt-ltb, le-ltb}
 use native.Mathlib.Nat.{suc-mul, mul-le-mul-right, lt-of-not-le}
@@ -13,9 +14,10 @@ use native.Mathlib.Decide.{decLe}
 use native.Mathlib.Omega.{arith}
 use Rattle.tree_rules.proofs.Stores.{sets-more}
 use Rattle.metric_rules.specs.Row.{Row, tagOf}
-use Rattle.search_rules.specs.Range.{Entry, entry, toQuery}
+use Rattle.search_rules.specs.Range.{Entry, Met, entry, toQuery}
 use Rattle.search_asked.specs.Asked.{distanceAsked, queryAsked, reportsAsked, radiusAsked}
-use Rattle.tree_range.specs.Collected.{metAlone}
+use Rattle.tree_range.specs.declared.Found.{Found}
+use Rattle.tree_range.specs.Collected.{foundAfter, collected, metAlone, rangeAsked}
 use Rattle.tree_range_batch.specs.Together.{isOn, askedAt, partAt, only, hitsAlone, aloneOn, Collects}
 
 -- nothing is collected
@@ -229,3 +231,90 @@ module _ (batch : List Row) (on : ℕ) (s : Row) where
         | yes le ↦ off i (none i le) ∙ sym (below-at i j false (le-ltb i j le))
         | no more ↦ sym (below-at i j true (lt-ltb i j (lt-of-not-le more)))
       ]
+
+-- a part with something else in its place
+module _ (size j : ℕ) (area new : List Entry) (inside : suc j * size ≤ length area) (long : length new ≡ size) where
+  abbrev put : List Entry
+  put = take (j * size) area ++ (new ++ drop size (drop (j * size) area))
+
+  front-long : length (take (j * size) area) ≡ j * size
+  front-long = length-take-le (j * size) area (omega (arith, inside, suc-mul j size))
+
+  put-own : partAt size j put ≡ new
+  unfolding partAt
+  put-own = ap (take size) (drop-at (take (j * size) area) (new ++ drop size (drop (j * size) area)) (j * size) front-long) ∙ take-at new (drop size (drop (j * size) area)) size long
+
+  -- a part before it lies in the front, which both have
+  front-part : (i : ℕ) (back : List Entry) → suc i ≤ j → partAt size i (take (j * size) area ++ back) ≡ partAt size i (take (j * size) area)
+  unfolding partAt
+  front-part i back before =
+      let far = mul-le-mul-right size before in
+      let next = suc-mul i size in
+      ap (take size) (drop-append-le (i * size) (take (j * size) area) back (omega (arith, far, next, front-long)))
+      ∙ take-append-le size (drop (i * size) (take (j * size) area)) back (omega (arith, far, next, front-long, length-drop (i * size) (take (j * size) area)))
+
+  put-other : (i : ℕ) → (i ≡ j → ⊥) → partAt size i put ≡ partAt size i area
+  unfolding partAt
+  put-other i apart =
+      elim (decLe (suc i) j) [
+        | yes before ↦
+            front-part i (new ++ drop size (drop (j * size) area)) before ∙ sym (front-part i (drop (j * size) area) before)
+            ∙ ap (partAt size i) (take-append-drop (j * size) area)
+        | no h ↦ behind i (omega (arith, lt-of-not-le h, apart))
+      ]
+    where
+      behind : (i : ℕ) → suc j ≤ i → partAt size i put ≡ partAt size i area
+      behind i later =
+          let far = mul-le-mul-right size later in
+          let next = suc-mul j size in
+          let k : ℕ = i * size - (j * size + size) in
+          let at : i * size ≡ j * size + size + k = omega (arith, far, next) in
+          let back : drop (j * size + size) put ≡ drop (j * size + size) area =
+          sym (drop-drop size (j * size) put) ∙ ap (drop size) (drop-at (take (j * size) area) (new ++ drop size (drop (j * size) area)) (j * size) front-long)
+          ∙ drop-at new (drop size (drop (j * size) area)) size long ∙ drop-drop size (j * size) area
+          in
+          ap (take size)
+          (ap (λ (n : ℕ). drop n put) at ∙ sym (drop-drop k (j * size + size) put) ∙ ap (drop k) back ∙ drop-drop k (j * size + size) area ∙ ap (λ (n : ℕ). drop n area) (sym at))
+
+-- the hits of query j alone, its part and its number being what its single search leaves
+pub collects-alone : (size j : ℕ) (found : List ℕ) (area : List Entry) → j < length found → suc j * size ≤ length area
+    → (hits : List Entry) (number : ℕ) (new : List Entry) → number ≡ getD found j 0 + length hits → new ≡ sets (partAt size j area) (getD found j 0) hits → length new ≡ size
+    → Collects size (only j hits) found area (set found j number) (take (j * size) area ++ (new ++ drop size (drop (j * size) area)))
+unfolding only
+collects-alone size j found area counted inside hits number new n e long =
+    record { same = length-set found j number; numbers = λ i. go i (eqb i j) refl .0; parts = λ i. go i (eqb i j) refl .1 }
+  where
+    go : (i : ℕ) (b : Bool) → eqb i j ≡ b
+        → (getD (set found j number) i 0 ≡ getD found i 0 + length {A = Entry} (elim b [ true ↦ hits | false ↦ [] ]))
+        × (partAt size i (take (j * size) area ++ (new ++ drop size (drop (j * size) area))) ≡ sets (partAt size i area) (getD found i 0) (elim b [ true ↦ hits | false ↦ [] ]))
+    go i true q =
+        let is = eqb-true i j q in (
+          ap (λ (k : ℕ). getD (set found j number) k 0) is ∙ getD-set-same found j number 0 counted ∙ n ∙ ap (λ (k : ℕ). getD found k 0 + length hits) (sym is),
+          ap (λ (k : ℕ). partAt size k (take (j * size) area ++ (new ++ drop size (drop (j * size) area)))) is ∙ put-own size j area new inside long ∙ e
+              ∙ ap (λ (k : ℕ). sets (partAt size k area) (getD found k 0) hits) (sym is),
+        )
+    go i false q =
+        let apart = eqb-false i j q in
+        (getD-set-other found j i number 0 apart ∙ omega arith, put-other size j area new inside long i apart)
+
+-- what a single search in part j leaves, as code hands it on: the query at place n of the batch, k entries of the area
+pub collects-single : (size j n k : ℕ) (batch slots : List Row) (found : List ℕ) (area : List Entry) → n ≡ suc j → k ≡ size → j < length found → suc j * size ≤ length area
+    → (f r : Found) (new : List Entry) → f .hits ≡ getD found j 0
+    → r ≡ foundAfter f (rangeAsked (getD batch 0 [] ∷ getD batch n [] ∷ []) slots) → new ≡ collected (take k (drop (j * size) area)) f (rangeAsked (getD batch 0 [] ∷ getD batch n [] ∷ []) slots)
+    → (r .count ≡ f .count + rangeAsked (askedAt batch j) slots .count)
+    × Collects size (only j (rangeAsked (askedAt batch j) slots .hits)) found area (set found j (r .hits)) (take (j * size) area ++ (new ++ drop k (drop (j * size) area)))
+unfolding foundAfter collected partAt
+collects-single size j n k batch slots found area at whole counted inside f r new h p q =
+    let e : rangeAsked (getD batch 0 [] ∷ getD batch n [] ∷ []) slots ≡ rangeAsked (askedAt batch j) slots = ap (λ (i : ℕ). rangeAsked (getD batch 0 [] ∷ getD batch i [] ∷ []) slots) at in
+    let is : new ≡ sets (take size (drop (j * size) area)) (getD found j 0) (rangeAsked (askedAt batch j) slots .hits) =
+    q ∙ λ i. sets (take (whole i) (drop (j * size) area)) (h i) (e i .hits)
+    in
+    let long : length new ≡ size =
+    ap length is ∙ length-sets (take size (drop (j * size) area)) (getD found j 0) (rangeAsked (askedAt batch j) slots .hits)
+    ∙ length-take-le size (drop (j * size) area) (omega (arith, length-drop (j * size) area, inside, suc-mul j size))
+    in (
+      ap (λ (x : Found). x .count) p ∙ ap (λ (m : Met). f .count + m .count) e,
+      subst (λ (i : ℕ). Collects size (only j (rangeAsked (askedAt batch j) slots .hits)) found area (set found j (r .hits)) (take (j * size) area ++ (new ++ drop i (drop (j * size) area)))) (sym whole)
+          (collects-alone size j found area counted inside (rangeAsked (askedAt batch j) slots .hits) (r .hits) new
+          (ap (λ (x : Found). x .hits) p ∙ λ i. h i + length (e i .hits)) is long),
+    )

@@ -254,3 +254,31 @@ chosen-first (query ∷ queries) others on first =
     next : (j : ℕ) (b : Bool) → ltb j (length queries) ≡ b → ltb (suc j) (suc (length queries)) ≡ ltb j (length queries)
     next j true h = lt-ltb (suc j) (suc (length queries)) (omega (arith, ltb-true j (length queries) h)) ∙ sym h
     next j false h = le-ltb (suc j) (suc (length queries)) (omega (arith, ltb-false j (length queries) h)) ∙ sym h
+
+-- one query alone is in a set: it is the lowest, and nothing is left behind it
+pub record Single (on j : ℕ) : Type 0 where
+  pub present : isOn on j ≡ true
+  pub others : (i : ℕ) → (i ≡ j → ⊥) → isOn on i ≡ false
+
+pub single-alone : (on j rest : ℕ) → on < 2 ^ 16 → Lowest on j → rest ≡ on / 2 ^ j / 2 → rest ≡ 0 → Single on j
+single-alone on j rest few low e none = record { present = low .present; others = others }
+  where
+    left : Remaining on (0 + j + 1) rest
+    left = remaining-next (remaining-all on few) low rest e
+
+    others : (i : ℕ) → (i ≡ j → ⊥) → isOn on i ≡ false
+    others i apart =
+        elim (decLe j i) [
+          | yes le ↦ remaining-none left none i (omega (arith, le, apart))
+          | no less ↦ low .before i (lt-of-not-le less)
+        ]
+
+pub chosen-one : (queries : List Row) (on : ℕ → Bool) (j : ℕ) → j < length queries → on j ≡ true → ((i : ℕ) → (i ≡ j → ⊥) → on i ≡ false) → chosen on queries ≡ getD queries j [] ∷ []
+unfolding chosen
+chosen-one [] on j inside present others = absurd (omega arith)
+chosen-one (q ∷ queries) on zero inside present others =
+    ap (λ (b : Bool). elim b as (λ _. List Row) [ true ↦ q ∷ chosen (λ k. on (suc k)) queries | false ↦ chosen (λ k. on (suc k)) queries ]) present
+    ∙ ap (λ (xs : List Row). q ∷ xs) (chosen-none queries (λ k. on (suc k)) (λ k. others (suc k) (λ e. omega (arith, e))))
+chosen-one (q ∷ queries) on (suc j) inside present others =
+    ap (λ (b : Bool). elim b as (λ _. List Row) [ true ↦ q ∷ chosen (λ k. on (suc k)) queries | false ↦ chosen (λ k. on (suc k)) queries ]) (others 0 (λ e. omega (arith, e)))
+    ∙ chosen-one queries (λ k. on (suc k)) j (omega arith) present (λ i apart. others (suc i) (λ e. apart (omega (arith, e))))

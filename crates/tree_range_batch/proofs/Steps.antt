@@ -6,6 +6,9 @@ use mathlib.Core.Bool.{Bool, true, false, _&&_}
 use mathlib.Core.Logic.{_⊎_, inl, inr}
 use mathlib.Core.List.{List, [], _∷_, _++_}
 use lib.ListN.{length, take, drop, getD}
+use lib.Seq.{sets}
+use lib.Dec.{eqb}
+use borrow.Author.Tests.{eqb-true, eqb-false}
 use native.Mathlib.Omega.{arith}
 use Rattle.lists.specs.Lists.{select}
 use Rattle.metric_rules.specs.declared.Profile.{Profile}
@@ -14,13 +17,15 @@ use Rattle.tree_rules.specs.Layout.{leftSize}
 use Rattle.tree_rules.proofs.Parts.{part-rest}
 use Rattle.search_rules.specs.Range.{Entry, Met, nothing, both}
 use Rattle.search_rules.proofs.RangeLaws.{ifEntered, range-count-le, range-hits-le}
+use Rattle.search_rules.proofs.Reaching.{range-count}
 use Rattle.search_asked.specs.Asked.{distanceAsked, queryAsked, reportsAsked, radiusAsked}
 use Rattle.tree_range.specs.Collected.{metInHalves, rangeAsked}
 use Rattle.tree_range.proofs.Collecting.{tree-empty, tree-first}
 use Rattle.batch_rules.specs.Batch.{reachedBySome}
-use Rattle.batch_rules.proofs.Together.{goesLeft, goesRight, together-no-query, together-no-slot, together-le, together-step}
-use Rattle.tree_range_batch.specs.Together.{isOn, askedAt, chosen, goesLeftAt, goesRightAt, hitsAlone, aloneOn, hitsOn, countOn, hitsInHalves, countInHalves, Fewer, Collects}
-use Rattle.tree_range_batch.proofs.Sets.{on-none, on-some, chosen-none, chosen-selected}
+use Rattle.batch_rules.proofs.Together.{goesLeft, goesRight, together-no-query, together-no-slot, together-le, together-step, together-one}
+use Rattle.tree_range_batch.specs.Together.{isOn, askedAt, chosen, goesLeftAt, goesRightAt, hitsAlone, aloneOn, hitsOn, countOn, hitsInHalves}
+use Rattle.tree_range_batch.specs.Together.{countInHalves, partAt, only, Fewer, Collects}
+use Rattle.tree_range_batch.proofs.Sets.{on-none, on-some, chosen-none, chosen-selected, Single, chosen-one}
 use Rattle.tree_range_batch.proofs.Parts.{alone-one, collects-none, collects-both}
 
 pub fewer-less : {more : ℕ} {found : List ℕ} → Fewer more found → {less : ℕ} → less ≤ more → Fewer less found
@@ -177,3 +182,34 @@ tree-visit (header ∷ queries) part on left right (s ∷ rest) z b n m lefts ri
 pub tree-none : (batch : List Row) (part on : ℕ) (slots : List Row) → length slots ≡ 0 → (count : ℕ) (found : List ℕ) (area : List Entry)
     → (count ≡ count + countOn batch on slots) × Collects part (hitsOn batch on slots) found area found area
 tree-none batch part on slots none count found area = let t = turn-skipped batch part on slots (inl none) count found area in (t .counts, t .hits)
+
+-- one query alone: its single search's count and hits are the set's
+pub tree-alone : (batch : List Row) (part on j : ℕ) (slots : List Row) → length batch ≡ 17 → Single on j → j < 16
+    → (count : ℕ) {r : ℕ} → r ≡ count + rangeAsked (askedAt batch j) slots .count
+    → {found : List ℕ} {area : List Entry} {found' : List ℕ} {area' : List Entry} → Collects part (only j (rangeAsked (askedAt batch j) slots .hits)) found area found' area'
+    → (r ≡ count + countOn batch on slots) × Collects part (hitsOn batch on slots) found area found' area'
+unfolding countOn only
+tree-alone [] part on j slots b one few count e c = absurd (omega arith)
+tree-alone (header ∷ queries) part on j slots b one few count e {found} {area} c = (
+  e ∙ ap (λ (n : ℕ). count + n) counts,
+  record {
+    same = c .same;
+    numbers = λ i. c .numbers i ∙ ap (λ (xs : List Entry). getD found i 0 + length xs) (same i);
+    parts = λ i. c .parts i ∙ ap (sets (partAt part i area) (getD found i 0)) (same i);
+  },
+)
+  where
+    counts : rangeAsked (askedAt (header ∷ queries) j) slots .count ≡ length (reachedBySome (distanceAsked (header ∷ queries)) (chosen (isOn on) queries) slots)
+    counts =
+        range-count (distanceAsked (askedAt (header ∷ queries) j)) (queryAsked (askedAt (header ∷ queries) j)) (reportsAsked (askedAt (header ∷ queries) j)) (radiusAsked (askedAt (header ∷ queries) j)) slots
+        ∙ sym (together-one (distanceAsked (header ∷ queries)) (getD queries j []) slots)
+        ∙ ap (λ (chose : List Row). length (reachedBySome (distanceAsked (header ∷ queries)) chose slots)) (sym (chosen-one queries (isOn on) j (omega (arith, b, few)) (one .present) (one .others)))
+
+    same : (i : ℕ) → only j (rangeAsked (askedAt (header ∷ queries) j) slots .hits) i ≡ hitsOn (header ∷ queries) on slots i
+    same i = go (eqb i j) refl
+      where
+        go : (x : Bool) → eqb i j ≡ x → elim x [ true ↦ rangeAsked (askedAt (header ∷ queries) j) slots .hits | false ↦ [] ] ≡ hitsOn (header ∷ queries) on slots i
+        go true q =
+            let is = eqb-true i j q in
+            ap (λ (k : ℕ). rangeAsked (askedAt (header ∷ queries) k) slots .hits) (sym is) ∙ sym (hits-at (header ∷ queries) on slots i true (ap (isOn on) is ∙ one .present))
+        go false q = sym (hits-at (header ∷ queries) on slots i false (one .others i (eqb-false i j q)))

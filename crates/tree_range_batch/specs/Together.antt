@@ -1,5 +1,5 @@
--- What a batch's visit of some slots leaves: each query's hits in its own part of the area, and the number of slots that some query visits.
--- A set of queries is a number, whose bit j says whether query j is in it.
+-- What a batch's visit of some slots leaves: each query's hits in its own part of the area, and the number of slots
+-- that some query visits. A set of queries is a number, whose bit j says whether query j is in it.
 use Prim.Native.Nat.{ℕ, zero, suc, _+_, _*_, _/_, _%_, _^_, _≤_, _<_}
 use mathlib.Core.Path.{_≡_}
 use mathlib.Core.Bool.{Bool, true, false}

@@ -1,19 +1,23 @@
-// Range for several queries over one tree: a slot is read once and compared with each query that would visit it, and each half is entered with those
-// whose test lets them in. Each query's hits go to its own part of the area.
+// Range for several queries over one tree: a slot is read once and compared with each query that would visit it, and
+// each half is entered with those whose test lets them in. Each query's hits go to its own part of the area.
 ghost use mathlib.Core.Path.{_≡_};
 ghost use mathlib.Core.Bool.{_&&_};
 ghost use mathlib.Core.List.{[], _∷_};
 ghost use Prim.Native.Nat.{ℕ, _+_, _*_, _/_, _<_, _≤_, _^_, suc};
 ghost use lib.ListN.{length};
 ghost use Rattle.metric_rules.specs.Row.{mayReport, thresholdOf};
-ghost use Rattle.tree_range.specs.Collected.{metAlone};
-ghost use Rattle.tree_range_batch.specs.Together.{isOn, Lowest, bitIf, only, goesLeftAt, goesRightAt, hitsAlone, aloneOn, hitsOn, countOn, hitsInHalves, countInHalves, Parts, Fewer, Collects};
+ghost use Rattle.tree_range.specs.Collected.{metAlone, rangeAsked};
+ghost use Rattle.tree_range_batch.specs.Together.{isOn, Lowest, bitIf, only, askedAt, goesLeftAt, goesRightAt};
+ghost use Rattle.tree_range_batch.specs.Together.{hitsAlone, aloneOn, hitsOn, countOn, hitsInHalves};
+ghost use Rattle.tree_range_batch.specs.Together.{countInHalves, Parts, Fewer, Collects};
 use metric::distance_between;
 use metric_rules::Row;
 use rows::tag_of;
 use rows::threshold_of;
 use search_asked::may_report;
 use search_rules::Entry;
+use tree_range::Found;
+use tree_range::range_tree;
 
 // What a batch goes by: the table's header row, and each query as a row, as a single search has them.
 pub type Batch = [Row; 17];
@@ -21,8 +25,8 @@ pub type Batch = [Row; 17];
 // How many hits each query has found.
 pub type Numbers = [usize; 16];
 
-// The queries that enter the left half below a slot, and those that enter the right half. A set of queries is a number, whose bit j says whether query
-// j is in it.
+// The queries that enter the left half below a slot, and those that enter the right half. A set of queries is a number,
+// whose bit j says whether query j is in it.
 struct Ways {
     left: u32,
     right: u32,
@@ -143,7 +147,31 @@ fn compare_each(
     Ways { left, right }
 }
 
-// The slots of one tree, for the queries of a set that is not empty: the first slot, and then its halves. The reply is the count.
+// Where one query is left, its single search goes on, in its own part of the area.
+fn range_alone(
+    count: usize,
+    j: usize,
+    slots: &[Row],
+    part: usize,
+    area: &mut [Entry],
+    found: &mut Numbers,
+    batch: &Batch,
+) -> usize
+    requires { ⌜ (j < 16) × (suc j * part ≤ length (now area)) × Fewer (length (now slots)) (now found) × (count + length (now slots) < 2 ^ 32) ⌝ }
+    ensures reply { λ r. ⌜ r ≡ count + rangeAsked (askedAt (now (batch .entry)) j) (now (slots .entry)) .count ⌝ }
+    ensures hits { λ _. ⌜ Collects part (only j (rangeAsked (askedAt (now (batch .entry)) j) (now (slots .entry)) .hits)) (now (found .entry)) (now (area .entry)) (now (found .exit)) (now (area .exit)) ⌝ }
+{
+    let asked = [batch[0], batch[j + 1]];
+    let from = j * part;
+    let to = from + part;
+    let hits = found[j];
+    let met = range_tree(Found { hits, count }, slots, &mut area[from..to], &asked);
+    found[j] = met.hits;
+    met.count
+}
+
+// The slots of one tree, for the queries of a set that is not empty: one query alone by its single search, and for more
+// the first slot, and then its halves. The reply is the count.
 pub fn range_together(
     count: usize,
     on: u32,
@@ -159,6 +187,10 @@ pub fn range_together(
 {
     if slots.len() == 0 {
         return count;
+    }
+    let first = lowest_of(on);
+    if behind(on, first) == 0 {
+        return range_alone(count, first as usize, slots, part, area, found, batch);
     }
     let ways = compare_each(on, slots[0], part, area, found, batch);
     halves_together(count + 1, ways, &slots[1..], part, area, found, batch)

@@ -10,7 +10,9 @@ use lib.Dec.{leb, eqb}
 use lib.ListN.{length, length-map, getD, take, drop, length-take, length-drop, take-append-drop}
 use borrow.Author.Tests.{leb-true, le-leb, eqb-true, eq-eqb}
 use Rattle.lists.specs.Lists.{last, every, All}
-use Rattle.lists.proofs.Lists.{Pairs, all-weaken, all-always, all-both, all-append, all-append-left, all-append-right, all-perm, all-map, all-of-map, all-swap, pairs-split, pairs-take, pairs-drop, pairs-weaken, pairs-map, pairs-left, pairs-right, pairs-of-map, pairs-perm, map-take, map-drop, map-alike, perm-map}
+use Rattle.lists.proofs.Lists.{Pairs, all-weaken, all-always, all-both, all-append, all-append-left, all-append-right, all-perm, all-map, all-of-map, all-swap}
+use Rattle.lists.proofs.Lists.{pairs-split, pairs-take, pairs-drop, pairs-weaken, pairs-map, pairs-left, pairs-right, pairs-of-map, pairs-perm, map-take}
+use Rattle.lists.proofs.Lists.{map-drop, map-alike, perm-map}
 use Rattle.lists.proofs.Tests.{and-first, and-second, and-pass, every-all, all-every, every-map, same-rows, rows-same}
 use Rattle.metric_rules.specs.declared.Profile.{Profile}
 use Rattle.metric_rules.specs.Row.{Row, rowWidth, tagOf, profileOf, thresholdOf, withMark}
@@ -18,10 +20,13 @@ use Rattle.metric_rules.proofs.Codec.{tag-with-mark, profile-with-mark, thresho
 use Rattle.tree_rules.specs.Sorting.{keyLe, sortBy}
 use Rattle.tree_rules.specs.Layout.{leftSize, Ranked, rankedFrom, tagKey, placed, fromPivot, nearKey, lastDistance, split, layout, isLayout}
 use Rattle.tree_rules.specs.Guided.{fromSlot, GuidedWithin, Guided}
-use Rattle.tree_rules.proofs.Sorting.{apart-less, NotAfter, Sorted, Determined, key-le-refl, key-le-cases, key-le-less, key-le-same, key-le-trans, key-le-first, sort-perm, sort-length, sort-sorted, sort-append}
+use Rattle.tree_rules.proofs.Sorting.{apart-less, NotAfter, Sorted, Determined, key-le-refl, key-le-cases, key-le-less, key-le-same, key-le-trans}
+use Rattle.tree_rules.proofs.Sorting.{key-le-first, sort-perm, sort-length, sort-sorted, sort-append}
 use Rattle.tree_rules.proofs.Placed.{tag-placed, profile-placed, threshold-placed, placed-own}
 use Rattle.tree_rules.proofs.LastKey.{slotKey, lastKey, lastOf, later-known, last-perm, last-upper, last-least, least-key, last-key-of}
-use Rattle.tree_rules.proofs.Layouts.{left-fits, take-left, drop-left, split-halves, ranked-length, layout-none, layoutOf, layout-by-nodes, layout-of-length, layout-of-permutes, layout-of-all, layout-reordered, layout-pivot, layout-ranked, layout-permutes, determined-by-tag}
+use Rattle.tree_rules.proofs.Layouts.{left-fits, take-left, drop-left, split-halves, ranked-length, layout-none, layoutOf, layout-by-nodes}
+use Rattle.tree_rules.proofs.Layouts.{layout-of-length, layout-of-permutes, layout-of-all, layout-reordered, layout-pivot, layout-ranked}
+use Rattle.tree_rules.proofs.Layouts.{layout-permutes, determined-by-tag}
 
 slotOf : Ranked → Row
 slotOf x = x .row

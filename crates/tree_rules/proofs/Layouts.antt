@@ -7,13 +7,15 @@ use mathlib.Core.List.{List, [], _∷_, _++_, map, map-append, map-map, List·Pe
 use lib.ListN.{length, length-map, getD, take, drop, length-take, length-drop, length-append, take-append-drop}
 use lib.Seq.{take-at, drop-at}
 use Rattle.lists.specs.Lists.{last, All}
-use Rattle.lists.proofs.Lists.{Pairs, all-always, all-perm, all-map, all-of-map, pairs-weaken, perm-length, perm-of-eq, perm-both, perm-map, map-take, map-drop, map-alike}
+use Rattle.lists.proofs.Lists.{Pairs, all-always, all-perm, all-map, all-of-map, pairs-weaken, perm-length, perm-of-eq, perm-both, perm-map, map-take, map-drop}
+use Rattle.lists.proofs.Lists.{map-alike}
 use Rattle.metric_rules.specs.declared.Profile.{Profile}
 use Rattle.metric_rules.specs.Row.{Row, tagOf}
 use Rattle.tree_rules.specs.Sorting.{sortBy}
 use Rattle.tree_rules.specs.Layout.{leftSize, Ranked, rankedFrom, tagKey, placed, fromPivot, nearKey, lastDistance, split, node, layoutWithin, layout}
 use Rattle.tree_rules.proofs.Placed.{tag-placed, profile-placed, placed-again}
-use Rattle.tree_rules.proofs.Sorting.{NotAfter, Sorted, Determined, sort-perm, sort-length, sort-sorted, sort-permuted, sort-cons, insert-first, sort-map}
+use Rattle.tree_rules.proofs.Sorting.{NotAfter, Sorted, Determined, sort-perm, sort-length, sort-sorted, sort-permuted, sort-cons, insert-first}
+use Rattle.tree_rules.proofs.Sorting.{sort-map}
 
 -- the left half is no longer than the rest
 pub left-fits : (n : ℕ) → leftSize (suc n) ≤ n

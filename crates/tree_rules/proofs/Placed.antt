@@ -6,7 +6,8 @@ use mathlib.Core.Path.{_≡_, _∙_, ap}
 use lib.ListN.{length, set}
 use lib.Seq.{set-set, set-comm, set-getD}
 use Rattle.metric_rules.specs.Row.{Row, rowWidth, thresholdAt, markAt, tagOf, profileOf, thresholdOf, withThreshold, withMark}
-use Rattle.metric_rules.proofs.Codec.{threshold-with-threshold, tag-with-threshold, profile-with-threshold, threshold-with-mark, tag-with-mark, profile-with-mark}
+use Rattle.metric_rules.proofs.Codec.{threshold-with-threshold, tag-with-threshold, profile-with-threshold, threshold-with-mark, tag-with-mark}
+use Rattle.metric_rules.proofs.Codec.{profile-with-mark}
 use Rattle.tree_rules.specs.Layout.{placed}
 
 module _ (m : ℕ) (row : Row) where

@@ -1,6 +1,6 @@
--- RULES 6.2, 6.3: what a tree's thresholds promise a search, of the slots alone and marks aside: at every slot the left half lies within its threshold and the
--- right half not below it. The laws on layouts end in this (`is-layout-guided`; RULES 5.5: a dead slot still guides), and the laws on searches
--- start from it.
+-- RULES 6.2, 6.3: what a tree's thresholds promise a search, of the slots alone and marks aside: at every slot the left
+-- half lies within its threshold and the right half not below it. The laws on layouts end in this (`is-layout-guided`;
+-- RULES 5.5: a dead slot still guides), and the laws on searches start from it.
 use Prim.Native.Nat.{ℕ, zero, suc, _≤_}
 use mathlib.Core.Path.{_≡_}
 use mathlib.Core.List.{List, [], _∷_}

@@ -13,7 +13,8 @@ use Rattle.tree_rules.specs.Sorting.{sortBy}
 unfoldable pub leftSize : ℕ → ℕ
 leftSize n = n / 2
 
--- RULES 6.7, c(n): no distance for 0 or 1 item, else n - 1 and those of the two halves. The first argument bounds the depth, and n is enough
+-- RULES 6.7, c(n): no distance for 0 or 1 item, else n - 1 and those of the two halves. The first argument bounds the
+-- depth, and n is enough
 unfoldable pub costWithin : ℕ → ℕ → ℕ
 unfolding leftSize
 costWithin zero n = 0
@@ -24,7 +25,8 @@ unfoldable pub cost : ℕ → ℕ
 unfolding costWithin
 cost n = costWithin n n
 
--- RULES 6.5: a gathered row with its rank, its place in the order gathered, by which equal tags are told apart at every depth
+-- RULES 6.5: a gathered row with its rank, its place in the order gathered, by which equal tags are told apart at every
+-- depth
 pub record Ranked : Type 0 where
   pub row : Row
   pub rank : ℕ
@@ -66,7 +68,8 @@ module _ (dist : Profile → Profile → ℕ) where
       let l = leftSize (suc (length near)) in
       placed (lastDistance v (take l near)) (v .row) ∷ below (take l near) ++ below (drop l near)
 
-  -- RULES 6.1, 6.2, rows of which the first has the smallest tag: it is the first slot, and the rest are sorted by distance from it, then tag
+  -- RULES 6.1, 6.2, rows of which the first has the smallest tag: it is the first slot, and the rest are sorted by
+  -- distance from it, then tag
   unfoldable pub node : (List Ranked → List Row) → List Ranked → List Row
   unfolding sortBy nearKey split
   node below [] = []

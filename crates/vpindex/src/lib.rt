@@ -1,8 +1,10 @@
-// The calls of the index as they ship, under their C names: every value of every argument, lent areas of any length and content, no condition on
-// the caller. Each contract is its call of crates/call_rules/specs/Calls, the one that the demands' theorems speak of.
+// The calls of the index as they ship, under their C names: every value of every argument, lent areas of any length and
+// content, no condition on the caller. Each contract is its call of crates/call_rules/specs/Calls, the one that the
+// demands' theorems speak of.
 ghost use mathlib.Core.Path.{_≡_};
 ghost use lib.ListN.{length};
-ghost use Rattle.call_rules.specs.Calls.{draftAreas, Ask, beginReply, tableBegun, changeReply, tableChanged, workChanged, askReply, areasAnswered, Write, writtenReply, bytesWritten};
+ghost use Rattle.call_rules.specs.Calls.{draftAreas, Ask, beginReply, tableBegun, changeReply, tableChanged};
+ghost use Rattle.call_rules.specs.Calls.{workChanged, askReply, areasAnswered, Write, writtenReply, bytesWritten};
 ghost use Rattle.call_rules.specs.Calls.Begin.{fresh, load, restore};
 ghost use Rattle.call_rules.specs.Calls.Change.{add, remove, readList};
 ghost use Rattle.call_rules.specs.Calls.Ask.{lookUp, range, nearest, rangeBatch};
@@ -31,7 +33,8 @@ pub extern "C" fn vpindex_fresh(table: &mut [Row], order: u32, metric: u32, weig
     table_fresh::fresh(table, order, Space { metric, weights })
 }
 
-// The table that these bytes are the image of. Refusals: 7, 3, 4, 8, 7, 32, 7, 24, 7, 23, 33, 8; and then 36, 37 or 38 with the lowest slot that one is of.
+// The table that these bytes are the image of. Refusals: 7, 3, 4, 8, 7, 32, 7, 24, 7, 23, 33, 8; and then 36, 37 or 38
+// with the lowest slot that one is of.
 #[no_mangle]
 pub extern "C" fn vpindex_load(table: &mut [Row], image: &[u8]) -> Loaded
     ensures reply { λ r. ⌜ r ≡ beginReply (load (now (image .entry))) (length (now (table .entry))) ⌝ }
@@ -40,7 +43,8 @@ pub extern "C" fn vpindex_load(table: &mut [Row], image: &[u8]) -> Loaded
     image_load::load(table, image)
 }
 
-// An item put in, with the day on which it was weighed; the reply has the bucket that was built and the distances that its build worked out.
+// An item put in, with the day on which it was weighed; the reply has the bucket that was built and the distances that
+// its build worked out.
 #[no_mangle]
 pub extern "C" fn vpindex_add(
     table: &mut [Row],
@@ -89,7 +93,8 @@ pub extern "C" fn vpindex_range(
     table_range::range(table, result, query, radius, first_day as u32)
 }
 
-// Of the live items weighed on the first day or later the k nearest to the query, or all if there are fewer, by distance, then tag.
+// Of the live items weighed on the first day or later the k nearest to the query, or all if there are fewer, by
+// distance, then tag.
 #[no_mangle]
 pub extern "C" fn vpindex_nearest(
     table: &[Row],
@@ -104,8 +109,8 @@ pub extern "C" fn vpindex_nearest(
     table_nearest::nearest(table, result, query, k, first_day as u32)
 }
 
-// Range for 1 to 16 queries at once, each a row with its profile, its radius and its first day: each query's list in its own part of the area, its number
-// in the reply, and a slot visited once if any of them visits it.
+// Range for 1 to 16 queries at once, each a row with its profile, its radius and its first day: each query's list in
+// its own part of the area, its number in the reply, and a slot visited once if any of them visits it.
 #[no_mangle]
 pub extern "C" fn vpindex_range_batch(
     table: &[Row],
@@ -127,7 +132,8 @@ pub extern "C" fn vpindex_write(table: &[Row], image: &mut [u8]) -> Written
     image_write::write(table, image)
 }
 
-// A herd list of one day: each line an add, up to the first line refused. The reply has that line's refusal and number, the items added and their distances.
+// A herd list of one day: each line an add, up to the first line refused. The reply has that line's refusal and number,
+// the items added and their distances.
 #[no_mangle]
 pub extern "C" fn vpindex_read_list(
     table: &mut [Row],
@@ -142,7 +148,8 @@ pub extern "C" fn vpindex_read_list(
     list_read::read_list(table, work, list, day as u32)
 }
 
-// A snapshot of the table saved under a name, its image's length in the reply; other parts, and the bytes after the snapshot, are unchanged.
+// A snapshot of the table saved under a name, its image's length in the reply; other parts, and the bytes after the
+// snapshot, are unchanged.
 #[no_mangle]
 pub extern "C" fn vpindex_save(table: &[Row], states: &mut [u8], name: u32) -> Written
     ensures reply { λ r. ⌜ r ≡ writtenReply (Write.save name) (now (table .entry)) (now (states .entry)) ⌝ }
@@ -160,7 +167,8 @@ pub extern "C" fn vpindex_restore(table: &mut [Row], states: &[u8], name: u32) -
     state_restore::restore(table, states, name)
 }
 
-// What the items with these tags pay at the gate, each number in the order of the list and their total in the reply; numbers after them are unchanged.
+// What the items with these tags pay at the gate, each number in the order of the list and their total in the reply;
+// numbers after them are unchanged.
 #[no_mangle]
 pub extern "C" fn vpindex_dues(table: &[Row], tags: &[u64], dues: &mut [u32]) -> Dues
     ensures reply { λ r. ⌜ r ≡ askReply (Ask.dues (now (tags .entry))) (now (table .entry)) (now (dues .entry)) ⌝ }
@@ -169,7 +177,8 @@ pub extern "C" fn vpindex_dues(table: &[Row], tags: &[u64], dues: &mut [u32]) ->
     table_dues::dues(table, tags, dues)
 }
 
-// The live items drafted into lots by each of some radii: the number of lots and the size of the largest for each, and the lots by the chosen one listed.
+// The live items drafted into lots by each of some radii: the number of lots and the size of the largest for each, and
+// the lots by the chosen one listed.
 #[no_mangle]
 pub extern "C" fn vpindex_lots(
     table: &[Row],

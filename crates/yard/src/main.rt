@@ -1,4 +1,5 @@
-// The program: reads standard input in pieces, has the conversation take each piece line by line, and writes at once what a line prints.
+// The program: reads standard input in pieces, has the conversation take each piece line by line, and writes at once
+// what a line prints.
 ghost use mathlib.Core.Path.{_≡_};
 ghost use mathlib.Core.Bool.{true};
 ghost use Prim.Native.Nat.{_+_, _*_, _^_, _≤_, _<_};
@@ -14,7 +15,8 @@ use metric_rules::Row;
 use search_rules::Entry;
 use yard_session::Place;
 
-// The areas for order 8, the largest that the program takes: a table's rows, its work area, and an entry for each item that can be live.
+// The areas for order 8, the largest that the program takes: a table's rows, its work area, and an entry for each item
+// that can be live.
 const TABLE_ROWS: usize = 521;
 
 const WORK_ROWS: usize = 256;
@@ -43,7 +45,8 @@ struct Taken {
     written: bool,
 }
 
-// A whole piece, line by line: what a line prints is written before the next one is looked at, and a write that fails ends it.
+// A whole piece, line by line: what a line prints is written before the next one is looked at, and a write that fails
+// ends it.
 fn take_piece(
     table: &mut [Row],
     work: &mut [Row],
@@ -69,8 +72,9 @@ fn take_piece(
     Taken { at, written: true }
 }
 
-// The input piece by piece, until a reply, the end of the input or a write that fails ends the program. A proved loop has to end, and nothing says that the input does: it
-// counts the pieces down from a number that no run uses up. A piece has no more lines than bytes, so the number of a line fits its type.
+// The input piece by piece, until a reply, the end of the input or a write that fails ends the program. A proved loop
+// has to end, and nothing says that the input does: it counts the pieces down from a number that no run uses up. A
+// piece has no more lines than bytes, so the number of a line fits its type.
 fn converse(
     table: &mut [Row],
     work: &mut [Row],

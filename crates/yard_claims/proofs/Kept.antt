@@ -1,5 +1,6 @@
--- The adds and removals of some lines as a list of calls, each lent the table that the line before it left. No call makes a table shorter, so what it leaves is all that
--- the list keeps: after every line list and conversation have the same table, and the same model.
+-- The adds and removals of some lines as a list of calls, each lent the table that the line before it left. No call
+-- makes a table shorter, so what it leaves is all that the list keeps: after every line list and conversation have the
+-- same table, and the same model.
 use Prim.Native.Nat.{ℕ, suc, _^_, _≤_, _<_}
 use native.Mathlib.Omega.{arith}
 use mathlib.Core.Path.{_≡_, refl, sym, _∙_, ap, subst}
@@ -27,7 +28,8 @@ use Rattle.text_rules.specs.Fields.{isTag}
 use Rattle.text_rules.proofs.Digits.{numeral-below}
 use Rattle.call_rules.specs.Calls.Begin.{fresh}
 use Rattle.history.specs.Trace.{Step, State, Shown, ownRows, overlaid, leftBy, beginShown, shown, stateAfter, shownAt, stateAfterAll}
-use Rattle.history.specs.Model.{Model, with, without, canRead, canChange, tagRefusal, itemRefusal, addRefusalOf, removeRefusalOf, afterUnless, modelBegun, beginAnswer, changeAnswer, answer, answerAt, modelAfterAll}
+use Rattle.history.specs.Model.{Model, with, without, canRead, canChange, tagRefusal, itemRefusal, addRefusalOf, removeRefusalOf, afterUnless, modelBegun}
+use Rattle.history.specs.Model.{beginAnswer, changeAnswer, answer, answerAt, modelAfterAll}
 use Rattle.history.specs.History.{IsBegin, IsCall, before, blankModel, opening, History, steps, finalState, finalModel}
 use Rattle.history.proofs.LongAreas.{begun-alike}
 use Rattle.history.proofs.Theorems.{any-area}
@@ -36,7 +38,8 @@ use Rattle.yard_rules.specs.declared.Header.the-variants as header
 use Rattle.yard_rules.specs.declared.Command.{Command}
 use Rattle.yard_rules.specs.declared.Command.the-variants as command
 use Rattle.yard_rules.specs.Line.{onlyByte, field, hasProfile, letterA, letterN, letterR, letterW, isNumber, opens, dayOr, headerIn, commandIn, profileIn}
-use Rattle.yard_rules.specs.Conversation.{Areas, Yard, Ample, mostYardOrder, yardSpace, headerRefusal, headerOutcome, areasAfter, commandOutcome, lineOutcome, after, afterLines, waiting}
+use Rattle.yard_rules.specs.Conversation.{Areas, Yard, Ample, mostYardOrder, yardSpace, headerRefusal, headerOutcome, areasAfter, commandOutcome, lineOutcome}
+use Rattle.yard_rules.specs.Conversation.{after, afterLines, waiting}
 use Rattle.yard_rules.proofs.Fitting.{CommandFits, command-fits}
 use Rattle.yard_claims.specs.Claims.{lineRefusal, modelAfter, firstRefusal, changeAt, changesOf, modelAfterLines, KeptByCalls, EveryTableKept}
 use Rattle.yard_claims.proofs.Serving.{ServedBy, serving, stays-served, firstOutcome, afterFirst, first-refused, first-served}

@@ -1,4 +1,5 @@
--- No call makes a table shorter, accepted or refused, whatever the table: a bucket is put in place with as many rows as it has room, and all else is set row by row.
+-- No call makes a table shorter, accepted or refused, whatever the table: a bucket is put in place with as many rows as
+-- it has room, and all else is set row by row.
 use Prim.Native.Nat.{ℕ, zero, suc, _+_, _-_, _≤_}
 use native.Mathlib.Nat.{le-trans}
 use native.Mathlib.Omega.{arith}

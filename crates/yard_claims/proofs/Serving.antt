@@ -1,5 +1,6 @@
--- One line of a conversation in areas that are long enough and hold a table that matches the model (`Served`): it prints what the model prints, with the counts of its own
--- reply, and leaves such areas. A first line in ample areas is refused by 3 or 4 alone, and an accepted one leaves them so.
+-- One line of a conversation in areas that are long enough and hold a table that matches the model (`Served`): it
+-- prints what the model prints, with the counts of its own reply, and leaves such areas. A first line in ample areas is
+-- refused by 3 or 4 alone, and an accepted one leaves them so.
 use Prim.Native.Nat.{ℕ, zero, suc, _-_, _≤_}
 use native.Mathlib.Omega.{arith}
 use native.Mathlib.Nat.{le-trans}
@@ -20,12 +21,14 @@ use Rattle.table_rules.specs.Geometry.{leastOrder, mostOrder, validOrder, first
 use Rattle.table_rules.specs.Fresh.{freshRefusal, tableAfterFresh}
 use Rattle.table_rules.specs.Add.{addReply}
 use Rattle.table_rules.specs.Remove.{removeReply}
-use Rattle.table_rules.specs.Search.{Answer, rangeAnswer, nearestAnswer, rangeRefusal, nearestRefusal, searchReply, zeroEntry, resultAfter, rangeReply, resultAfterRange, nearestReply, resultAfterNearest}
+use Rattle.table_rules.specs.Search.{Answer, rangeAnswer, nearestAnswer, rangeRefusal, nearestRefusal, searchReply, zeroEntry, resultAfter, rangeReply}
+use Rattle.table_rules.specs.Search.{resultAfterRange, nearestReply, resultAfterNearest}
 use Rattle.table_rules.proofs.Chains.{unless-zero}
 use Rattle.table_rules.proofs.Fill.{rooms-grow}
 use Rattle.call_rules.specs.Calls.Begin.{fresh}
 use Rattle.history.specs.Model.{Model, modelBegun}
-use Rattle.history.proofs.LongAreas.{Served, fresh-served, add-refusal-alike, remove-refusal-alike, add-served, remove-served, range-refused, nearest-refused, range-alike, nearest-alike, search-served}
+use Rattle.history.proofs.LongAreas.{Served, fresh-served, add-refusal-alike, remove-refusal-alike, add-served, remove-served, range-refused, nearest-refused}
+use Rattle.history.proofs.LongAreas.{range-alike, nearest-alike, search-served}
 use Rattle.yard_rules.specs.declared.Stage.the-variants as stage
 use Rattle.yard_rules.specs.declared.Command.{Command}
 use Rattle.yard_rules.specs.declared.Command.the-variants as command

@@ -1,4 +1,5 @@
--- The claims of `specs/Claims`, by the lines: the first one begins the model or ends all, and each later one prints as the model does and leaves areas for the next.
+-- The claims of `specs/Claims`, by the lines: the first one begins the model or ends all, and each later one prints as
+-- the model does and leaves areas for the next.
 use Prim.Native.Nat.{ℕ, zero, suc, _^_, _<_}
 use native.Mathlib.Omega.{arith}
 use mathlib.Core.Path.{_≡_, refl, _∙_, ap, ap₂}
@@ -19,10 +20,12 @@ use Rattle.yard_rules.specs.declared.Command.the-variants as command
 use Rattle.yard_rules.specs.declared.Stage.the-variants as stage
 use Rattle.yard_rules.specs.Line.{letterF, headerIn, commandIn, profileIn}
 use Rattle.yard_rules.specs.Reply.{replyLine}
-use Rattle.yard_rules.specs.Conversation.{Areas, Ample, LineOutcome, yardSpace, otherText, headerRefusal, headerOutcome, areasAfter, textAfter, commandOutcome, lineOutcome, after, afterLines, printed, linesIn, waiting, conversation}
+use Rattle.yard_rules.specs.Conversation.{Areas, Ample, LineOutcome, yardSpace, otherText, headerRefusal, headerOutcome, areasAfter, textAfter, commandOutcome}
+use Rattle.yard_rules.specs.Conversation.{lineOutcome, after, afterLines, printed, linesIn, waiting, conversation}
 use Rattle.yard_rules.proofs.Ended.{ended-prints}
 use Rattle.yard_rules.proofs.Fitting.{command-fits}
-use Rattle.yard_claims.specs.Claims.{Counts, countsOf, lineRefusal, modelAfter, modelText, modelPrinted, modelOpened, modelConversation, EveryConversation, NoAreaRefused}
+use Rattle.yard_claims.specs.Claims.{Counts, countsOf, lineRefusal, modelAfter, modelText, modelPrinted, modelOpened, modelConversation}
+use Rattle.yard_claims.specs.Claims.{EveryConversation, NoAreaRefused}
 use Rattle.yard_claims.proofs.Serving.{ServedBy, serving, text-served, stays-served, firstOutcome, afterFirst, first-refused, first-served}
 pub use Rattle.yard_claims.proofs.Kept.{every-table-kept}
 

@@ -1,4 +1,5 @@
-// A line after an accepted header: the command that it is, and what answering it leaves in the areas. Each command has a function: the call, and its reply as bytes.
+// A line after an accepted header: the command that it is, and what answering it leaves in the areas. Each command has
+// a function: the call, and its reply as bytes.
 ghost use mathlib.Core.Path.{_≡_};
 ghost use Prim.Native.Nat.{_+_, _*_, _≤_, _<_, _^_};
 ghost use lib.ListN.{length};

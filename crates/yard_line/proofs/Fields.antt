@@ -1,5 +1,5 @@
--- The fields of a line in turn: a number below a bound, a code, the fields behind the second one, the day behind these, and the command of a letter. Each law has
--- the tests in the order of the code.
+-- The fields of a line in turn: a number below a bound, a code, the fields behind the second one, the day behind these,
+-- and the command of a letter. Each law has the tests in the order of the code.
 use Prim.Native.Nat.{ℕ, zero, suc, _+_, _-_, _^_, _≤_, _<_}
 use mathlib.Core.Path.{_≡_, refl, ap, ap₂, sym, subst, _∙_}
 use mathlib.Core.Bool.{Bool, true, false, _&&_, _||_, false≢true}
@@ -24,7 +24,8 @@ use Rattle.text_read.proofs.Forms.{one-more, none-told, value-told}
 use Rattle.yard_rules.specs.declared.Header.the-variants as header
 use Rattle.yard_rules.specs.declared.Command.{Command}
 use Rattle.yard_rules.specs.declared.Command.the-variants as command
-use Rattle.yard_rules.specs.Line.{onlyByte, isBelow, isNumber, isDay, isCode, codeIn, hasDay, hasProfile, profileIn, headerIn, opens, dayOr, commandIn, letterA, letterN, letterR, letterW}
+use Rattle.yard_rules.specs.Line.{onlyByte, isBelow, isNumber, isDay, isCode, codeIn, hasDay, hasProfile, profileIn, headerIn, opens, dayOr, commandIn, letterA}
+use Rattle.yard_rules.specs.Line.{letterN, letterR, letterW}
 use Rattle.yard_line.specs.declared.WordRead.{WordRead}
 use Rattle.yard_line.specs.declared.WordRead.the-variants.{Word, NoWord}
 use Rattle.yard_line.specs.declared.CodeRead.{CodeRead}

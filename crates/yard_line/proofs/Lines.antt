@@ -12,7 +12,8 @@ use Rattle.yard_rules.specs.declared.Command.{Command}
 use Rattle.yard_rules.specs.declared.Command.the-variants as command
 use Rattle.text_rules.specs.Text.{space, point, partsIn, numeral}
 use Rattle.text_rules.specs.Fields.{isTag, isMeasure}
-use Rattle.yard_rules.specs.Line.{field, onlyByte, isNumber, isDay, isCode, hasDay, hasProfile, headerIn, opens, dayOr, commandIn, letterA, letterN, letterR, letterW}
+use Rattle.yard_rules.specs.Line.{field, onlyByte, isNumber, isDay, isCode, hasDay, hasProfile, headerIn, opens, dayOr, commandIn, letterA, letterN, letterR}
+use Rattle.yard_rules.specs.Line.{letterW}
 
 module _ (line : List ℕ) where
   -- a letter and a field of a form

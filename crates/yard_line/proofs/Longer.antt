@@ -15,12 +15,14 @@ use Rattle.yard_rules.specs.declared.Header.the-variants as header
 use Rattle.yard_rules.specs.declared.Command.the-variants as command
 use Rattle.text_rules.specs.Text.{space, point, minus, onto, parted, partAt, partsIn, isNumeral, numeral}
 use Rattle.text_rules.specs.Fields.{isTag, isMeasure, unsigned, isNegative}
-use Rattle.yard_rules.specs.Line.{field, onlyByte, isBelow, isNumber, isCode, hasDay, hasProfile, headerIn, opens, commandIn, letterA, letterN, letterR, letterW}
+use Rattle.yard_rules.specs.Line.{field, onlyByte, isBelow, isNumber, isCode, hasDay, hasProfile, headerIn, opens, commandIn, letterA, letterN, letterR}
+use Rattle.yard_rules.specs.Line.{letterW}
 use Rattle.text_rules.proofs.Parts.{SomeParts, parted-some, parted-separator, parted-byte}
 use Rattle.text_rules.proofs.Digits.{numeral-longest}
 use Rattle.text_rules.proofs.Signs.{unsigned-minus, unsigned-plain}
 use Rattle.yard_line.proofs.Fields.{fails, only-other, digits-code}
-use Rattle.yard_line.proofs.Lines.{opens-form, header-by, a-day, profile-ended, profile-seven, measure-2, measure-3, measure-4, measure-5, code-6, command-by}
+use Rattle.yard_line.proofs.Lines.{opens-form, header-by, a-day, profile-ended, profile-seven, measure-2, measure-3, measure-4, measure-5, code-6}
+use Rattle.yard_line.proofs.Lines.{command-by}
 
 -- the bytes of some parts, each with a separator
 spread : List (List ℕ) → ℕ

@@ -24,7 +24,8 @@ use Rattle.text_rules.proofs.Digits.{numeral-digits, numeral-longest, numeral-s
 use Rattle.text_rules.proofs.Signs.{measure-fits}
 use Rattle.yard_rules.specs.declared.Command.{Command}
 use Rattle.yard_rules.specs.declared.Command.the-variants as command
-use Rattle.yard_rules.specs.Line.{isNumber, onlyByte, isCode, codeIn, field, isBelow, isDay, hasDay, hasProfile, profileIn, letterA, letterN, letterR, letterW, opens, dayOr, commandIn}
+use Rattle.yard_rules.specs.Line.{isNumber, onlyByte, isCode, codeIn, field, isBelow, isDay, hasDay, hasProfile, profileIn, letterA, letterN, letterR}
+use Rattle.yard_rules.specs.Line.{letterW, opens, dayOr, commandIn}
 
 -- a code's two words
 code-fits : (text : List ℕ) → isCode text ≡ true → (length (codeIn text) ≡ 2) × Each (λ (n : ℕ). n < 2 ^ 64) (codeIn text)

@@ -216,8 +216,8 @@ dated-worked :
 unfolding computed scratch dated
 dated-worked = refl
 
--- -.5 and 123456.00 are no measures, 00000.00 is; a code of upper-case digits is none; 4294967295 is a number and 4294967296 is not; 65535 and 00000 are days, 65536 and
--- 000001 are not
+-- -.5 and 123456.00 are no measures, 00000.00 is; a code of upper-case digits is none; 4294967295 is a number and
+-- 4294967296 is not; 65535 and 00000 are days, 65536 and 000001 are not
 forms : List Bool
 unfolding
     every onto parted partAt partsIn digitOf isDigit isNumeral numeralAfter numeral isBelow onlyByte isCode isNegative unsigned isMeasure

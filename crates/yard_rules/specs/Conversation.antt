@@ -1,5 +1,5 @@
--- RULES 18: the whole conversation. A line and what stands before it give what stands after it and the bytes to print, by the calls' own
--- definitions.
+-- RULES 18: the whole conversation. A line and what stands before it give what stands after it and the bytes to print,
+-- by the calls' own definitions.
 use Prim.Native.Nat.{ℕ, zero, suc, _≤_}
 use mathlib.Core.List.{List, [], _∷_, _++_}
 use lib.ListN.{length}
@@ -52,7 +52,8 @@ otherText number = replyLine questionMark (number ∷ [])
 unfoldable pub mostYardOrder : ℕ
 mostYardOrder = 8
 
--- RULES 4.3, 4.5, areas that are long enough for it: no line is then refused for its areas (`EveryConversation` in `yard_claims`)
+-- RULES 4.3, 4.5, areas that are long enough for it: no line is then refused for its areas (`EveryConversation` in
+-- `yard_claims`)
 pub record Ample (a : Areas) : Type 0 where
   pub table : tableRows mostYardOrder ≤ length (a .table)
   pub work : workRows mostYardOrder ≤ length (a .work)

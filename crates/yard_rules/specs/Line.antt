@@ -1,4 +1,5 @@
--- RULES 18: the form of a line, and what a line of that form says. Every line of bytes is a header or not, and a command or not.
+-- RULES 18: the form of a line, and what a line of that form says. Every line of bytes is a header or not, and a
+-- command or not.
 use Prim.Native.Nat.{ℕ, _^_}
 use mathlib.Core.Bool.{Bool, true, false, _&&_, _||_}
 use mathlib.Core.List.{List, [], _∷_}
@@ -100,8 +101,8 @@ opens letter form line = eqb (onlyByte (field line 0)) letter && form (field lin
 unfoldable pub dayOr : ℕ → List ℕ → ℕ
 dayOr n line = elim (hasDay line) [ true ↦ numeral 10 (field line 7) | false ↦ n ]
 
--- RULES 18.3: `A tag profile`, `R tag`, `W radius profile`, `N k profile`. Behind each profile there may be a day; without it an item's is 1, and a search's
--- first day 0
+-- RULES 18.3: `A tag profile`, `R tag`, `W radius profile`, `N k profile`. Behind each profile there may be a day;
+-- without it an item's is 1, and a search's first day 0
 unfoldable pub commandIn : List ℕ → Command
 commandIn line =
     let number = numeral 10 (field line 1) in

@@ -1,4 +1,5 @@
--- A conversation whose input comes in pieces: what stands after each, which line is pending, and what is printed for it.
+-- A conversation whose input comes in pieces: what stands after each, which line is pending, and what is printed for
+-- it.
 use Prim.Native.Nat.{ℕ, zero, suc, _-_}
 use mathlib.Core.Bool.{Bool, true, false}
 use mathlib.Core.List.{List, [], _∷_, _++_}

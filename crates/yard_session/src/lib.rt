@@ -1,4 +1,5 @@
-// The conversation in steps: a piece of the input up to its next line feed or its end, and the end of the input. Each step leaves its reply in an area.
+// The conversation in steps: a piece of the input up to its next line feed or its end, and the end of the input. Each
+// step leaves its reply in an area.
 ghost use mathlib.Core.Path.{_≡_};
 ghost use mathlib.Core.Bool.{true, false};
 ghost use mathlib.Core.List.{List, [], _∷_};
@@ -15,8 +16,8 @@ use search_rules::Entry;
 use yard_lines::Held;
 use yard_rules::Stage;
 
-// How far the conversation is: the stage, the number of the line that comes in and what is held of it; and of the last step the place in the piece
-// where it ended, and how many bytes it printed.
+// How far the conversation is: the stage, the number of the line that comes in and what is held of it; and of the last
+// step the place in the piece where it ended, and how many bytes it printed.
 pub struct Place {
     pub stage: Stage,
     pub number: u64,
@@ -40,7 +41,8 @@ pub fn begin() -> Place
     }
 }
 
-// The line held in this much of the area. No command is longer than 96 bytes, so one that is longer than the area is answered as an empty one is, with `?`.
+// The line held in this much of the area. No command is longer than 96 bytes, so one that is longer than the area is
+// answered as an empty one is, with `?`.
 fn held_line(area: &[u8], n: usize, over: bool) -> &[u8]
     requires { ⌜ 96 ≤ length (now area) ⌝ }
     ensures { λ r. ⌜ length (now r) ≤ length (now (area .entry)) ⌝ }
@@ -55,7 +57,8 @@ fn held_line(area: &[u8], n: usize, over: bool) -> &[u8]
     &area[..0]
 }
 
-// A line feed, or the end of the input after a last line: the line that is held is answered. The next byte of the piece is at a place.
+// A line feed, or the end of the input after a last line: the line that is held is answered. The next byte of the piece
+// is at a place.
 fn end_line(
     table: &mut [Row],
     work: &mut [Row],

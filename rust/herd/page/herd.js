@@ -25,6 +25,11 @@ const moneyText = cents => grouped(measureText(cents));
 const codeText = ([first, second]) =>
   first || second ? [first, second].map(word => word.toString(16).padStart(16, "0")).join("") : "-";
 
+// A day is a date too where that of day 1 is known.
+const MILLISECONDS = 24 * 60 * 60 * 1000, DAY_ONE = Date.parse(document.getElementById("image").dataset.dayOne);
+const hasDates = !Number.isNaN(DAY_ONE);
+const dayText = day => hasDates ? new Date(DAY_ONE + (day - 1) * MILLISECONDS).toISOString().slice(0, 10) : String(day);
+
 // What a call says, in a yard's words: what the header calls a table is a herd, and its items are head.
 const ofHerd = words => words.replaceAll("table", "herd").replace(/items?/g, "head");
 
@@ -59,6 +64,13 @@ function readWhole(typed, most) {
   return Number(digits);
 }
 
+function readDay(typed) {
+  const text = typed.trim(), day = (Date.parse(text) - DAY_ONE) / MILLISECONDS + 1;
+  if (!hasDates || !/^\d+-\d\d-\d\d$/.test(text)) return readWhole(text, MAX_DAY);
+  if (day >= 1 && day <= MAX_DAY && dayText(day) === text) return day;
+  throw new Mistyped(`a date from ${dayText(1)} to ${dayText(MAX_DAY)} belongs here`);
+}
+
 // Hundredths or bits; with a point a radius is in units of measures.
 function readRadius(typed, { name }) {
   const units = /^(\d+)[.,](\d\d)$/.exec(typed.trim());
@@ -74,8 +86,9 @@ class Herd {
     this.name = name;
     this.image = index.write();
     this.table = index.table();
-    const found = index.range(ANY_PROFILE, ANY_DISTANCE, ANY_DAY);
-    this.head = found.map(({ tag }) => ({ tag, ...index.lookUp(tag), dues: duesOf(index, [tag]) }));
+    const tags = index.range(ANY_PROFILE, ANY_DISTANCE, ANY_DAY).map(({ tag }) => tag);
+    const dues = duesOf(index, tags)?.each ?? tags.map(tag => duesOf(index, [tag])?.total ?? null);
+    this.head = tags.map((tag, i) => ({ tag, ...index.lookUp(tag), dues: dues[i] }));
     this.head.sort((a, b) => a.tag < b.tag ? -1 : 1);
     this.byTag = new Map(this.head.map(head => [head.tag, head]));
     // How far the others are from the head of the lowest tag, which leads the first lot.
@@ -109,10 +122,11 @@ function draftFacts(index, tags, byTag) {
     head: tags.length, leader: tags[0], tags,
     least: Math.min(...kilos), most: Math.max(...kilos),
     mean: Math.round(kilos.reduce((sum, kilo) => sum + kilo, 0) / kilos.length),
-    dues: duesOf(index, tags),
+    dues: duesOf(index, tags)?.total ?? null,
   };
 }
 
+// What head pay, each and in all; null where one weighs below 0.
 function duesOf(index, tags) {
   try {
     return index.dues(tags);

@@ -15,7 +15,7 @@ class Index {
     this.rows = calls.rows(tableRows(MAX_ORDER));
     this.work = calls.rows(workRows(MAX_ORDER));
     this.result = calls.entries(MAX_HEAD);
-    this.drafting = calls.entries(MAX_HEAD);
+    this.drafting = calls.entries(lotsEntries(MAX_ORDER));
     this.radii = calls.numbers(MAX_RADII);
     this.summary = calls.pairs(MAX_RADII);
     this.listed = calls.tags(MAX_HEAD);
@@ -63,11 +63,12 @@ class Index {
     return this.calls.nearest(this.rows, this.result, profile, count, since).found;
   }
 
-  // In cents.
+  // In cents, of each and of all.
   dues(tags) {
     const listed = this.listed.first(tags.length);
     listed.put(tags);
-    return this.calls.dues(this.rows, listed, this.each).total;
+    const { total } = this.calls.dues(this.rows, listed, this.each);
+    return { each: [...this.each.get(0, tags.length)], total };
   }
 
   // By each radius the number of lots and the head of the largest; by the first of them the lots, as lists of tags.
@@ -94,8 +95,8 @@ class Index {
   }
 
   // The slots of a bucket's tree, read off its rows.
-  slots({ bucket, built }) {
-    const { order } = this.table(), first = 1 + order + (1 << bucket);
+  slots({ room, built }) {
+    const first = firstSlot(this.table().order) + room - 1;
     return Array.from({ length: built }, (_, i) => {
       const row = this.rows.get(first + i, first + i + 1);
       return { tag: BigInt(row[1]) << 32n | BigInt(row[0]), threshold: row[THRESHOLD], isLive: row[MARK] === 0 };

@@ -191,7 +191,7 @@ const plot = new Plot(at("plot"), chooseRadius);
 
 const headColumns = [
   { name: "tag", width: 17, words: true, by: ({ tag }) => tag, text: ({ tag }) => tagButton(tag) },
-  { name: "day", width: 7, by: ({ day }) => day, text: ({ day }) => day },
+  { name: "day", width: hasDates ? 12 : 7, by: ({ day }) => day, text: ({ day }) => dayText(day) },
   ...MEASURES.map((name, i) => (
     { name, width: 9, by: ({ measures }) => measures[i], text: ({ measures }) => measureText(measures[i]) })),
   { name: "lot", width: 6, by: ({ tag }) => lotOf.get(tag), text: ({ tag }) => grouped(lotOf.get(tag) ?? "") },
@@ -255,7 +255,7 @@ function fillProfile(prefix, head) {
 
 function searched() {
   const query = typedProfile("like");
-  const since = at("since").value.trim() ? typedWhole(at("since"), MAX_DAY) : ANY_DAY;
+  const since = at("since").value.trim() ? typed(at("since"), readDay) : ANY_DAY;
   return at("by-count").checked ? index.nearest(query, typedWhole(at("count"), ANY_DISTANCE), since)
     : index.range(query, typed(at("within"), text => readRadius(text, herd.metric)), since);
 }
@@ -347,7 +347,7 @@ function imageFault(refusal) {
 }
 
 function addList(bytes) {
-  const day = typedWhole(at("list-day"), MAX_DAY), list = tidied(bytes);
+  const day = typed(at("list-day"), readDay), list = tidied(bytes);
   if (startsWith(list, ...new TextEncoder().encode("tag,"))) {
     throw new Mistyped("it is a list as `herd list --csv` writes it, which `herd read` takes; this is for a scale head's");
   }
@@ -379,14 +379,14 @@ function showCrate() {
   at("new-code").placeholder = head ? codeText(head.code) : "";
   at("weigh").textContent = head ? "Weigh again" : "Add";
   at("remove").disabled = !head;
-  at("in-crate").textContent = head ? `In the herd, weighed on day ${head.day}. Blank fields stay as they were.`
+  at("in-crate").textContent = head ? `In the herd, weighed on ${hasDates ? "" : "day "}${dayText(head.day)}. Blank fields stay as they were.`
     : isTyped ? "Not in the herd." : "";
 }
 
 function weighTyped() {
   change(herd.name, () => {
     const tag = typed(at("tag"), readTag), profile = typedProfile("new", headInCrate());
-    const day = typedWhole(at("day"), MAX_DAY);
+    const day = typed(at("day"), readDay);
     const wasThere = replacing(index, tag, () => index.add(tag, profile, day));
     fillProfile("new", null);
     return `${tagText(tag)} was ${wasThere ? "weighed again" : "added"}`;
@@ -411,7 +411,7 @@ function take(next) {
   document.body.style.setProperty("--rows", Math.min(12, Math.max(5, herd.head.length)));
   if (!before) at("files").open = false;
   if (before?.hasCodes !== herd.hasCodes) layOutHead();
-  at("day").value ||= herd.lastDay;
+  at("day").value ||= dayText(herd.lastDay);
   showSummary();
   showHead();
   showCrate();
@@ -428,8 +428,8 @@ function showSummary() {
   const facts = [
     ["Head", `${grouped(head.length)} of at most ${grouped(herd.capacity)}`],
     ["Kilos", fromTo(head.map(({ measures }) => measures[0]), measureText)],
-    ["Days", fromTo(head.map(({ day }) => day), String)],
-    ["Dues of all", duesText(duesOf(index, head.map(({ tag }) => tag)), "none: a head is ")],
+    ["Days", fromTo(head.map(({ day }) => day), dayText)],
+    ["Dues of all", duesText(duesOf(index, head.map(({ tag }) => tag))?.total ?? null, "none: a head is ")],
     ["Likeness", `${metric.name}: ${metric.words}, in ${metric.unit}`],
     ["Weights", MEASURES.map((name, i) => `${name} ${table.weights[i]}`).join(", ")],
     ["Image", `${grouped(image.length)} bytes, ${grouped(herd.removed)} removed head not cleared yet`],
@@ -469,7 +469,7 @@ function lotSheet({ lot, head, least, mean, most, dues, tags }) {
   const title = `Lot ${grouped(lot)} of ${grouped(lots.length)}: ${grouped(head)} head`;
   const facts = `${measureText(least)} to ${measureText(most)} kg, mean ${measureText(mean)}; dues ${duesText(dues)}`;
   const names = ["tag", "day", ...MEASURES, "dues"];
-  const row = ({ tag, day, measures, dues }) => [tagText(tag), day, ...measures.map(measureText), duesText(dues)];
+  const row = ({ tag, day, measures, dues }) => [tagText(tag), dayText(day), ...measures.map(measureText), duesText(dues)];
   const cells = (kind, texts) => html("tr", {}, ...texts.map(text => html(kind, {}, text)));
   const above = html("tr", {}, html("th", { colspan: names.length, class: "words" },
     html("b", {}, title), ` · ${facts} · ${herd.name}, radius ${grouped(radius)}, ${date}`));
@@ -479,7 +479,11 @@ function lotSheet({ lot, head, least, mean, most, dues, tags }) {
 
 // The page
 
-const fromBase64 = text => Uint8Array.from(atob(text.trim()), character => character.charCodeAt(0));
+function fromBase64(text) {
+  const characters = atob(text.trim()), bytes = new Uint8Array(characters.length);
+  for (let i = 0; i < bytes.length; i++) bytes[i] = characters.charCodeAt(i);
+  return bytes;
+}
 
 function listen() {
   const on = (id, event, act) => at(id).addEventListener(event, act);

@@ -97,9 +97,10 @@ class Native:
 # The page
 
 
-# All rows of a long table, as they are drawn while it is scrolled from end to end.
+# All rows of a long table, as they are drawn while it is scrolled from end to end, in a higher frame where they are many.
 ROWS = """(box => {
   const table = { "lot-rows": lotTable, "head-rows": headTable, "found-rows": foundTable }[box.id], rows = new Map();
+  if (table.rows.length > 1000) box.style.height = "5000px";
   box.scrollTop = 0; table.draw();
   for (let top = -1; box.scrollTop > top; box.scrollTop += box.clientHeight - 80, table.draw()) {
     top = box.scrollTop;
@@ -110,6 +111,7 @@ ROWS = """(box => {
         rows.set(Number(row.getAttribute("aria-rowindex")), [...row.cells].map(cell => cell.innerText.trim()));
     });
   }
+  box.style.height = "";
   return [...rows.keys()].sort((a, b) => a - b).map(key => rows.get(key));
 })(document.getElementById("%s"))"""
 
@@ -216,6 +218,16 @@ def hold_searches(page, native, lot_of, rng, farthest):
             hold(f"{native.name}: {kind} {bound} of {' '.join(query)} since {since}", rows(page, "found-rows"), expected)
 
 
+def slots_in(image):
+    """Tag, threshold and whether it is live of each slot, from the bytes of an image of form 2."""
+    sizes = 8 + 4 * (image[0] + 1)
+    built = [int.from_bytes(image[at:at + 2], "little") for at in range(8, sizes, 4)]
+    number = lambda at, length: int.from_bytes(image[at:at + length], "little")
+    records = sizes + 8 * sum(built)
+    return [[f"{number(sizes + 8 * slot, 8):015}", number(records + 42 * slot + 32, 4),
+             number(records + 42 * slot + 36, 4) == 0] for slot in range(sum(built))]
+
+
 def hold_summary(page, native):
     table, head = native.show["table"], list(native.head.values())
 
@@ -241,8 +253,15 @@ def hold_summary(page, native):
     slots = lambda bucket: "1 slot" if bucket["built"] == 1 else f"{bucket['built']:,} slots"
     hold(f"{native.name}: the trees", page.texts("#trees figcaption .quiet"),
          [f"{slots(bucket)}, {bucket['dead']:,} dead" for bucket in in_use])
-    drawn = page.see("[...document.querySelectorAll('#trees .slot')].length")
-    hold(f"{native.name}: slots are drawn", 0 < drawn <= sum(bucket["built"] for bucket in in_use), True)
+    hold(f"{native.name}: the slots of the trees", page.see(
+        "herd.table.buckets.flatMap(bucket => index.slots(bucket))"
+        ".map(({ tag, threshold, isLive }) => [tagText(tag), threshold, isLive])"), slots_in(native.image.read_bytes()))
+    labels = page.see("[...document.querySelectorAll('#trees .slot')].map(slot => slot.getAttribute('aria-label'))")
+    told = {f"{tag} ({'live' if is_live else 'removed, still guides searches'})": f"Threshold {threshold:,}:"
+            for tag, threshold, is_live in slots_in(native.image.read_bytes())}
+    wrong = [label for label in labels if label.split(":")[0] not in told or
+             "vantage" in label and told[label.split(":")[0]] not in label]
+    hold(f"{native.name}: slots are drawn as they are", (len(labels) > 0, wrong), (True, []))
     page.see("at('stored').open = false")
 
 
@@ -461,6 +480,29 @@ def hold_alone(page):
     hold("the policy lets nothing out", page.see("fetch('https://example.com/').then(() => 'sent', () => 'kept')"), "kept")
 
 
+def hold_dates(browser, folder):
+    """Days as dates, where the date of day 1 is known."""
+    image, day_one = folder / "worst.img", ["--day-one", "2026-01-01"]
+    herd("page", image, "-o", folder / "dates.html", *day_one)
+    page = Page(browser, folder / "dates.html", 1280, 900)
+    wait(page, "herd")
+    dates = [head["date"] for head in answer("list", image, *day_one)]
+    hold("dates of all head", [row[1] for row in rows(page, "head-rows")], dates)
+    page.type("#like-tag", "001000000000001")
+    page.type("#since", "2026-10-28")
+    found = answer("nearest", image, 10, "001000000000001", "--since", "2026-10-28", *day_one)["found"]
+    hold("since a date", [row[:3] for row in rows(page, "found-rows")],
+         [[hit["tag"], grouped(hit["distance"]), hit["date"]] for hit in found])
+    for typed in ("2025-12-31", "2026-02-30", "2205-06-07"):
+        page.type("#since", typed)
+        hold(f"no such day: {typed}", blamed(page), [["since", "a date from 2026-01-01 to 2205-06-06 belongs here"]])
+    page.type("#since", "")
+    hold("weighed on a date", weigh(page, "001000000000001", ["1", "", "", ""], "2026-11-17"),
+         "001000000000001 was weighed again")
+    hold("which is its day", page.see("herd.byTag.get(1000000000001n).day"), 321)
+    page.close()
+
+
 # How it looks
 
 
@@ -652,6 +694,7 @@ def main():
                 page.close()
             hold_day(browser, folder)
             hold_documented(browser, folder)
+            hold_dates(browser, folder)
             hold_looks(browser, folder / "full.img.html", Native(folder / "full.img"))
         finally:
             browser.close()

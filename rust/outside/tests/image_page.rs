@@ -1,8 +1,8 @@
-//! The image that docs/IMAGE.md shows byte by byte.
+//! The image that docs/FORMAT.md shows byte by byte.
 
 use vpindex::{Day, Metric, Order, Profile, Refusal, Table, Tag};
 
-const PAGE: &str = include_str!("../../../docs/IMAGE.md");
+const PAGE: &str = include_str!("../../../docs/FORMAT.md");
 
 // The bytes of the page's one block of text; each line begins with its place.
 fn shown() -> Vec<u8> {

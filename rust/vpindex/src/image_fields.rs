@@ -1,5 +1,5 @@
-//! Where the fields of an image stand, and the numbers in them; docs/IMAGE.md shows them byte by byte. A field past the
-//! image's end, or one that its form does not have, is not there.
+//! Where the fields of an image stand, and the numbers in them; docs/FORMAT.md shows them byte by byte. A field past
+//! the image's end, or one that its form does not have, is not there.
 
 use alloc::vec::Vec;
 use core::fmt;

@@ -49,39 +49,34 @@ unfolding slotsBefore total countFrom
 loop-holds c =
     let a = c .before .before .args in (omega arith, refl, ap (every (passes (a .image .now))) (buckets-all (a .header .order .t)))
 
-built-in-requires : tie.Need-built-in-requires Inv-loop μ-loop
-built-in-requires c κs =
+sizes-in-requires : tie.Need-sizes-in-requires Inv-loop μ-loop
+sizes-in-requires c κs =
     let s = c .before .before .before .before in
     let k = c .before .loop .k in
     whole-sizes (s .pre .0) k (within s k (omega arith))
 
 cast-count : tie.Need-cast-count Inv-loop μ-loop
-cast-count c = omega (arith, c .built-in .ok)
-
-live-in-requires : tie.Need-live-in-requires Inv-loop μ-loop
-live-in-requires c κs =
-    let s = c .before .before .before .before .before .before in
-    let k = c .before .before .before .loop .k in
-    whole-sizes (s .pre .0) k (within s k (omega arith))
+cast-count c = omega arith
 
 slots-read-requires : tie.Need-slots-read-requires Inv-loop μ-loop
 slots-read-requires c κs =
     let s = c .before .before .before .before .before .before .before in
     let l = c .before .before .before .before .loop in
-    let built = c .before .before .built-in in
-    subst (InImage (s .args .image .now)) (sym (c .before .some-of .ensures))
-    (some-in (s .pre .1) (l .first) (built .result) (omega (arith, inside s (l .first) (l .k) (omega arith) (l .inv .1), built .ensures)))
+    let sizes = c .before .before .sizes-in in
+    subst (InImage (s .args .image .now)) (sym (c .some-of .ensures))
+    (some-in (s .pre .1) (l .first) (sizes .result .built) (omega (arith, inside s (l .first) (l .k) (omega arith) (l .inv .1), sizes .ensures .0)))
 
 -- the bucket's test as it was made
 tested : (c : tie.After-slots-read Inv-loop μ-loop) → passes (start-of (loop-at c) .args .image .now) (loop-at c .loop .k) ≡ c .slots-read .result
 tested c =
     let image = start-of (loop-at c) .args .image .now in
     let l = loop-at c .loop in
-    let some = c .before .before .some-of in
+    let some = c .before .some-of in
+    let sizes = c .before .before .before .sizes-in .ensures in
     sym (c .slots-read .ensures
     ∙ ap₂ bucketFieldsPass
-    (bucket-slots image (some .result) (l .k) (ap (λ (at : Slots). at .first) (some .ensures) ∙ l .inv .1) (ap (λ (at : Slots). at .count) (some .ensures) ∙ c .before .before .before .built-in .ensures))
-    (c .before .live-in .ensures))
+    (bucket-slots image (some .result) (l .k) (ap (λ (at : Slots). at .first) (some .ensures) ∙ l .inv .1) (ap (λ (at : Slots). at .count) (some .ensures) ∙ sizes .0))
+    (sizes .1))
 
 returns : tie.Need-returns Inv-loop μ-loop
 unfolding allFieldsPass
@@ -96,7 +91,7 @@ add-first : tie.Need-add-first Inv-loop μ-loop
 add-first c =
     let s = start-of (loop-at (c .before)) in
     let l = loop-at (c .before) .loop in
-    omega (arith, inside s (l .first) (l .k) (omega arith) (l .inv .1), few-slots (s .pre .1), c .before .before .before .before .built-in .ensures)
+    omega (arith, inside s (l .first) (l .k) (omega arith) (l .inv .1), few-slots (s .pre .1), c .before .before .before .before .sizes-in .ensures .0)
 
 add-k : tie.Need-add-k Inv-loop μ-loop
 add-k c = let w = start-of (loop-at (c .before)) .pre .0 in omega (arith, w .headed .order, w .order)
@@ -110,7 +105,7 @@ loop-again c =
     let image = s .args .image .now in
     let l = loop-at (c .before) .loop in (
       omega arith,
-      omega (arith, before-more image (l .k), l .inv .1, c .before .before .before .before .built-in .ensures),
+      omega (arith, before-more image (l .k), l .inv .1, c .before .before .before .before .sizes-in .ensures .0),
       bucket-passes (passes image) (s .args .header .order .t) (l .k) (omega arith) (l .inv .2) (tested (c .before) ∙ not-false (c .before .slots-read .result) (c .if1 .left)),
     )
 
@@ -129,10 +124,9 @@ buckets-read-spec =
     Inv-loop
     μ-loop
     loop-holds
-    built-in-requires
+    sizes-in-requires
     cast-count
     (λ c κs. search needs)
-    live-in-requires
     slots-read-requires
     returns
     add-first

@@ -12,7 +12,7 @@ use Rattle.table_rules.specs.Table.{Table, putSizes}
 use Rattle.table_order.proofs.Orders.{room-fits}
 use Rattle.image_rules.specs.Read.{bucketIn}
 use Rattle.image_read.specs.InImage.{slotsAt}
-use Rattle.image_read.proofs.Places.{slots-sizes, slots-length, bucket-slots}
+use Rattle.image_read.proofs.Places.{slots-length, bucket-slots}
 use Rattle.table_buckets.proofs.Places.{sizes-inside, room-inside, room-given-back}
 use Rattle.image_fill.proofs.put_bucket.Statement.{statement}
 use Rattle.image_fill.proofs.put_bucket.Tie as tie
@@ -49,16 +49,13 @@ start-of c = c .before .before .before .before .before
 -- the slots are few
 cast-put-sizes : tie.Need-cast-put-sizes
 cast-put-sizes c =
-    let s = start-of (c .before .before .before .before) in
+    let s = start-of (c .before .before .before) in
     let b = s .pre .2 in
     omega (arith, b .count, b .room, room-fits (s .args .k) (omega (arith, s .pre .0 .most, s .pre .1)))
 
-live-in-requires : tie.Need-live-in-requires
-live-in-requires c κs = let b = start-of (c .before .before .before .before) .pre .2 in slots-sizes (b .inside) _ (b .among)
-
 put-sizes-requires : tie.Need-put-sizes-requires
 put-sizes-requires c κs =
-    let d = c .before .before .before .before .before in
+    let d = c .before .before .before in
     let s = start-of d in
     let f = d .fill-room in
     let first : ℕ = d .before .before .before .first-slot .result in
@@ -67,7 +64,7 @@ put-sizes-requires c κs =
 
 returns : tie.Need-returns
 returns c =
-    let d = c .before .before .before .before .before .before .before in
+    let d = c .before .before .before .before .before in
     let s = start-of d in
     let b = s .pre .2 in
     let k = s .args .k in
@@ -84,7 +81,7 @@ returns c =
     let block : f .last .0 ≡ slots ++ replicate (room k - length slots) zeroRow =
     f .ensures ∙ ap₂ (λ (rows : List Row) (n : ℕ). rows ++ replicate n zeroRow) here rest in
     c .before .put-sizes .ensures
-    ∙ ap₂ (λ (n v : ℕ). putSizes k n v (putMid (first .result) (first .result + size .result - first .result) t (f .last .0))) (sym long) (c .before .before .live-in .ensures)
+    ∙ ap (λ (n : ℕ). putSizes k n (s .args .live) (putMid (first .result) (first .result + size .result - first .result) t (f .last .0))) (sym long)
     ∙ room-given-back (s .pre .0) k slots _ (first .result) (first .result + size .result - first .result) (f .last .0) (first .ensures)
     (omega (arith, size .ensures)) (omega (arith, long, b .count, b .room)) block
 
@@ -99,7 +96,6 @@ put-bucket-spec =
     part-fill-room-end
     fill-room-requires
     cast-put-sizes
-    live-in-requires
     put-sizes-requires
     (λ c. search needs)
     returns)

@@ -32,7 +32,7 @@ abbrev μ-loop : tie.MeasureT-loop
 
 -- from where a bucket's slots are in hand back to the loop, and to the start
 abbrev loop-at : tie.After-some-of Inv-loop μ-loop → tie.At-loop Inv-loop μ-loop
-loop-at c = c .before .before .before .before
+loop-at c = c .before .before .before .before .before
 
 abbrev start-of : tie.After-some-of Inv-loop μ-loop → tie.Start Inv-loop μ-loop
 start-of c = loop-at c .before .before .before .before
@@ -54,11 +54,11 @@ loop-holds c =
     let s = c .before .before .before in
     (omega arith, refl, refl, subst (OfOrder (s .args .table .now)) (sym (s .pre .1 .headed .order)) (s .pre .0), ap (foldl (put (s .args .image .now)) (s .args .table .now)) (buckets-all (s .args .header .order .t)))
 
-built-in-requires : tie.Need-built-in-requires Inv-loop μ-loop
-built-in-requires c κs = let s = c .before .before .before .before .before in whole-sizes (s .pre .1) (c .before .loop .k) (within s (c .before .loop .k) (omega arith))
+sizes-in-requires : tie.Need-sizes-in-requires Inv-loop μ-loop
+sizes-in-requires c κs = let s = c .before .before .before .before .before in whole-sizes (s .pre .1) (c .before .loop .k) (within s (c .before .loop .k) (omega arith))
 
 cast-count : tie.Need-cast-count Inv-loop μ-loop
-cast-count c = omega (arith, c .built-in .ok)
+cast-count c = omega arith
 
 -- the slots of a bucket begin where those of the buckets before it end
 begins : (c : tie.After-some-of Inv-loop μ-loop) → c .some-of .result .first ≡ slotsBefore (start-of c .args .image .now) (loop-at c .loop .k)
@@ -71,15 +71,15 @@ put-bucket-requires c κs =
     let s = start-of c in
     let l = loop-at c .loop in
     let image = s .args .image .now in
-    let built = c .before .before .built-in in
+    let sizes = c .before .before .before .sizes-in in
     let low : l .k ≤ s .args .header .order .t = omega arith in (
       l .inv .3,
       low,
       record {
-        inside = subst (InImage image) (sym (c .some-of .ensures)) (some-in (s .pre .2) (l .first) (built .result) (omega (arith, inside s (l .k) low, l .inv .2, built .ensures)));
+        inside = subst (InImage image) (sym (c .some-of .ensures)) (some-in (s .pre .2) (l .first) (sizes .result .built) (omega (arith, inside s (l .k) low, l .inv .2, sizes .ensures .0)));
         among = within s (l .k) low;
         first = begins c;
-        count = ap (λ (at : Slots). at .count) (c .some-of .ensures) ∙ built .ensures;
+        count = ap (λ (at : Slots). at .count) (c .some-of .ensures) ∙ sizes .ensures .0;
         room = roomy s (l .k) low;
       },
     )
@@ -88,7 +88,7 @@ add-first : tie.Need-add-first Inv-loop μ-loop
 add-first c =
     let s = start-of (c .before .before) in
     let l = loop-at (c .before .before) .loop in
-    omega (arith, inside s (l .k) (omega arith), few-slots (s .pre .2), l .inv .2, c .before .before .before .before .built-in .ensures)
+    omega (arith, inside s (l .k) (omega arith), few-slots (s .pre .2), l .inv .2, c .before .before .before .before .before .sizes-in .ensures .0)
 
 add-k : tie.Need-add-k Inv-loop μ-loop
 add-k c = let w = start-of (c .before .before) .pre .1 in omega (arith, w .headed .order, w .order)
@@ -103,12 +103,14 @@ loop-again c =
     let image = s .args .image .now in
     let t = s .args .header .order .t in
     let stored = c .before .put-bucket in
+    let sizes = c .before .before .before .before .before .sizes-in .ensures in
+    let made : stored .last .0 ≡ put image (l .table) (l .k) = stored .ensures ∙ ap (λ (live : ℕ). putBucket (l .k) (bucketIn image (l .k)) live (l .table)) (sizes .1) in
     let fits : length (bucketIn image (l .k)) ≤ room (l .k) = omega (arith, length-bucket-in image (l .k), roomy s (l .k) (omega arith)) in (
       omega arith,
       stored .kept .0 ∙ l .inv .1,
-      omega (arith, before-more image (l .k), l .inv .2, c .before .before .before .before .built-in .ensures),
-      rw (stored .ensures) (lent-put (l .inv .3) (l .k) (omega arith) (bucketIn image (l .k)) (liveIn image (l .k)) fits),
-      ap (λ (u : Table). foldl (put image) u (bucketsFrom t (l .k + 1))) (stored .ensures)
+      omega (arith, before-more image (l .k), l .inv .2, sizes .0),
+      rw made (lent-put (l .inv .3) (l .k) (omega arith) (bucketIn image (l .k)) (liveIn image (l .k)) fits),
+      ap (λ (u : Table). foldl (put image) u (bucketsFrom t (l .k + 1))) made
           ∙ ap (foldl (put image) (l .table)) (sym (buckets-next t (l .k) (omega arith)))
           ∙ l .inv .4,
     )
@@ -132,7 +134,7 @@ put-buckets-spec =
     Inv-loop
     μ-loop
     loop-holds
-    built-in-requires
+    sizes-in-requires
     cast-count
     (λ c κs. search needs)
     put-bucket-requires

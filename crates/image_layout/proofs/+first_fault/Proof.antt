@@ -8,7 +8,8 @@ use Rattle.image_read.specs.InImage.{slotIn}
 use Rattle.image_entries.specs.Faults.{noFault}
 use Rattle.image_entries.specs.Entries.{places}
 use Rattle.image_layout.proofs.Faults.{fault-none}
-use Rattle.image_layout.proofs.Halves.{Prepared, first-within, fault-first, fault-in-left, fault-in-right, left-sound, left-lent-length, back-length, right-sound, right-lent-length, done-length}
+use Rattle.image_layout.proofs.Halves.{Prepared, first-within, fault-first, fault-in-left, fault-in-right, left-sound, left-lent-length, back-length}
+use Rattle.image_layout.proofs.Halves.{right-sound, right-lent-length, done-length}
 use Prim.Native.Nat.{ℕ, _+_, _^_, _≤_, _<_}
 use borrow.Fn.Kinds.{In}
 use borrow.Fn.PlainCycle.{Measures, is, falls, and}

@@ -23,20 +23,27 @@ loop-holds : tie.Need-loop-holds Inv-loop μ-loop
 unfolding slotsBefore total countFrom
 loop-holds c = (omega arith, omega arith, refl)
 
-built-in-requires : tie.Need-built-in-requires Inv-loop μ-loop
-built-in-requires c κs =
+sizes-in-requires : tie.Need-sizes-in-requires Inv-loop μ-loop
+sizes-in-requires c κs =
     let p = c .before .before .before .before .before .pre in sizes-below (p .2) (c .before .loop .k) (omega (arith, p .0 .order))
+
+-- from where a bucket's sizes are in hand back to the loop, and to the start
+abbrev loop-at : tie.After-sizes-in Inv-loop μ-loop → tie.At-loop Inv-loop μ-loop
+loop-at c = c .before .before
+
+abbrev start-of : tie.After-sizes-in Inv-loop μ-loop → tie.Start Inv-loop μ-loop
+start-of c = loop-at c .before .before .before .before
 
 cast-slots : tie.Need-cast-slots Inv-loop μ-loop
 cast-slots c = omega arith
 
 add-slots : tie.Need-add-slots Inv-loop μ-loop
 add-slots c =
-    let p = c .before .before .before .before .before .before .pre in omega (arith, p .0 .order, p .1)
+    let p = start-of (c .before) .pre in omega (arith, p .0 .order, p .1)
 
 add-k : tie.Need-add-k Inv-loop μ-loop
 add-k c =
-    let p = c .before .before .before .before .before .before .pre in omega (arith, p .0 .order, p .1)
+    let p = start-of (c .before) .pre in omega (arith, p .0 .order, p .1)
 
 loop-less : tie.Need-loop-less Inv-loop μ-loop
 loop-less c = omega arith
@@ -44,11 +51,11 @@ loop-less c = omega arith
 loop-again : tie.Need-loop-again Inv-loop μ-loop
 unfolding slotsBefore
 loop-again c =
-    let l = c .before .before .loop in
-    let image = c .before .before .before .before .before .before .args .image .now in (
+    let l = loop-at (c .before) .loop in
+    let image = start-of (c .before) .args .image .now in (
       omega arith,
       omega arith,
-      rw (add-one (l .k)) (ap₂ _+_ (l .inv .2) (c .built-in .ensures) ∙ sym (total-more (builtIn image) (l .k))),
+      rw (add-one (l .k)) (ap₂ _+_ (l .inv .2) (c .before .sizes-in .ensures .0) ∙ sym (total-more (builtIn image) (l .k))),
     )
 
 returns : tie.Need-returns Inv-loop μ-loop
@@ -67,7 +74,7 @@ slots-in-spec =
     μ-loop
     add-buckets
     loop-holds
-    built-in-requires
+    sizes-in-requires
     cast-slots
     add-slots
     add-k

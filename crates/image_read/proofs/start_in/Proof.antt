@@ -11,9 +11,9 @@ two-from-requires : tie.Need-two-from-requires
 unfolding startBytes startFields total
 two-from-requires c κs = (refl, refl, omega (arith, c .before .pre))
 
-two-from-requires-2 : tie.Need-two-from-requires-2
+number-at-requires : tie.Need-number-at-requires
 unfolding startBytes startFields total
-two-from-requires-2 c κs = (refl, refl, omega (arith, c .before .before .pre))
+number-at-requires c κs = (refl, omega (arith, c .before .before .pre))
 
 returns : tie.Need-returns
 unfolding orderIn spaceIn formIn startNumbers startFields fieldsAt
@@ -21,8 +21,8 @@ returns c =
     record {
       order = ap (λ two. two .first) (c .before .two-from .ensures);
       metric = ap (λ two. two .second) (c .before .two-from .ensures);
-      form = ap (λ two. two .second) (c .two-from2 .ensures);
+      form = c .number-at .ensures;
     }
 
 pub start-in-spec : {M : Type 1} → statement M
-start-in-spec = tie.close (tie.spec two-from-requires two-from-requires-2 returns)
+start-in-spec = tie.close (tie.spec two-from-requires number-at-requires returns)

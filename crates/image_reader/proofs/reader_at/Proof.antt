@@ -1,5 +1,5 @@
--- `image_reader::reader_at` meets its contract: a walk of its MIR, by hand. A `Reader` is made of the slice and the number passed, in the result's local: what the two own
--- together is what the struct owns.
+-- `image_reader::reader_at` meets its contract: a walk of its MIR, by hand. A `Reader` is made of the slice and the
+-- number passed, in the result's local: what the two own together is what the struct owns.
 use mathlib.Core.Path.{refl}
 use Prim.Native.Nat.{ℕ, _<_, _^_}
 use mathlib.Core.List.{List, [], _∷_}

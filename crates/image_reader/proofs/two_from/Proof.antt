@@ -1,5 +1,7 @@
--- `image_reader::two_from` meets its contract: a walk of its MIR, by hand. A reader is made in a local, and the local is lent to `next` twice; each time it comes back moved on.
--- What a loan takes and what it gives back is said once, in `loan` and `back`, by the lemmas of `loan_proofs`. All that the proof knows of `reader_at` and `next` is that each meets its contract.
+-- `image_reader::two_from` meets its contract: a walk of its MIR, by hand. A reader is made in a local, and the local
+-- is lent to `next` twice; each time it comes back moved on. What a loan takes and what it gives back is said once, in
+-- `loan` and `back`, by the lemmas of `loan_proofs`. All that the proof knows of `reader_at` and `next` is that each
+-- meets its contract.
 use mathlib.Core.Path.{_≡_, refl, ap}
 use mathlib.Core.Bool.{true}
 use Prim.Native.Nat.{ℕ, _<_, _≤_, _^_, _+_}
@@ -21,9 +23,11 @@ use contract.BorrowLft.{meet-⊑-right}
 use contract.Lifetimes.{Lfts, Shares}
 use contract.Monad.{Fun, fact, factI}
 use contract.Running.{givenOf, tables, tablesOf}
-use types.Kit.{Given, ‵, raw, use0, some, later, _⊛_, _$_, _∵_, !, qed, by, move, keep, drop, use1, use2, use3, split, join, pick, rewrite, fsplit, fjoin, suffices, frame, await, updating, now as at-once, show, done}
+use types.Kit.{Given, ‵, raw, use0, some, later, _⊛_, _$_, _∵_, !, qed, by, move, keep, drop, use1, use2, use3, split, join, pick, rewrite, fsplit, fjoin}
+use types.Kit.{suffices, frame, await, updating, now as at-once, show, done}
 use types.Part.{agg}
-use types.Run.{look, init, forget, stop, from, load, addr, of-opd, and-then, no-more, assigns, land, returns, enter, alloc1, alloc0, params1, pass1, pass0, free1, free0}
+use types.Run.{look, init, forget, stop, from, load, addr, of-opd, and-then, no-more, assigns, land, returns, enter, alloc1, alloc0, params1, pass1, pass0}
+use types.Run.{free1, free0}
 use types.SemTy.{Body}
 use types.Tokens.{lft-new, lft-end}
 use sound.WpLaws.{FmC, fmOf, WpFn-mono}

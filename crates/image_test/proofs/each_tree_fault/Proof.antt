@@ -47,7 +47,7 @@ module _ (s : tie.Start Inv-loop μ-loop) (k : ℕ) (h : k < s .args .header .or
 
 -- from where a bucket's slots are in hand back to the loop, and from the loop to the start
 abbrev loop-at : tie.After-some-of Inv-loop μ-loop → tie.At-loop Inv-loop μ-loop
-loop-at c = c .before .before .before
+loop-at c = c .before .before .before .before
 
 abbrev start-of : tie.At-loop Inv-loop μ-loop → tie.Start Inv-loop μ-loop
 start-of c = c .before .before .before .before
@@ -58,13 +58,13 @@ module _ (c : tie.After-some-of Inv-loop μ-loop) where
   here-first = ap (λ (at : Slots). at .first) (c .some-of .ensures) ∙ loop-at c .loop .inv .2
 
   here-count : c .some-of .result .count ≡ builtIn (start-of (loop-at c) .args .image .now) (loop-at c .loop .k)
-  here-count = ap (λ (at : Slots). at .count) (c .some-of .ensures) ∙ c .before .built-in .ensures
+  here-count = ap (λ (at : Slots). at .count) (c .some-of .ensures) ∙ c .before .before .sizes-in .ensures .0
 
-  room : c .before .built-in .result ≤ length (loop-at c .loop .entries)
+  room : c .before .before .sizes-in .result .built ≤ length (loop-at c .loop .entries)
   room =
       let s = start-of (loop-at c) in
       let l = loop-at c .loop in
-      omega (arith, l .inv .1, s .pre .2, c .before .built-in .ensures, few s (l .k) (omega arith))
+      omega (arith, l .inv .1, s .pre .2, c .before .before .sizes-in .ensures .0, few s (l .k) (omega arith))
 
 add-buckets : tie.Need-add-buckets Inv-loop μ-loop
 add-buckets c = let w = c .before .before .before .pre .0 in omega (arith, w .headed .order, w .order)
@@ -73,8 +73,8 @@ loop-holds : tie.Need-loop-holds Inv-loop μ-loop
 unfolding slotsBefore countFrom total
 loop-holds c = (omega arith, refl, refl, refl)
 
-built-in-requires : tie.Need-built-in-requires Inv-loop μ-loop
-built-in-requires c κs = let s = c .before .before .before .before .before in whole-sizes (s .pre .0) (c .before .loop .k) (within s (c .before .loop .k) (omega arith))
+sizes-in-requires : tie.Need-sizes-in-requires Inv-loop μ-loop
+sizes-in-requires c κs = let s = c .before .before .before .before .before in whole-sizes (s .pre .0) (c .before .loop .k) (within s (c .before .loop .k) (omega arith))
 
 slice-relend-prefix-tree-fault : tie.Need-slice-relend-prefix-tree-fault Inv-loop μ-loop
 slice-relend-prefix-tree-fault c = room c
@@ -88,11 +88,11 @@ tree-fault-requires c κs =
     let l = loop-at (c .before) .loop in
     let image = s .args .image .now in
     let some = c .before .some-of in
-    let built = c .before .before .built-in in
+    let sizes = c .before .before .before .sizes-in in
     let in-image : InImage image (some .result) =
-    subst (InImage image) (sym (some .ensures)) (some-in (s .pre .1) (l .first) (built .result) (omega (arith, inside s (l .k) (omega arith), l .inv .2, built .ensures))) in
+    subst (InImage image) (sym (some .ensures)) (some-in (s .pre .1) (l .first) (sizes .result .built) (omega (arith, inside s (l .k) (omega arith), l .inv .2, sizes .ensures .0))) in
     bucket-asks image (some .result) (l .k) (within s (l .k) (omega arith)) (here-first (c .before)) (here-count (c .before)) in-image
-    (all-few image (s .pre .0 .order) (s .pre .0 .sizes)) (l .entries) (built .result) (built .ensures ∙ sym (here-count (c .before))) (room (c .before)) (s .pre .3)
+    (all-few image (s .pre .0 .order) (s .pre .0 .sizes)) (l .entries) (sizes .result .built) (sizes .ensures .0 ∙ sym (here-count (c .before))) (room (c .before)) (s .pre .3)
 
 -- the bucket's test as it was made
 tested : (c : tie.After-tree-fault Inv-loop μ-loop)
@@ -110,7 +110,7 @@ same-length c =
     let e = c .before .before .before .before .before in
     let l = loop-at e .loop in
     let d = c .before .before .before .tree-fault in
-    length-front (l .entries) (d .last .1 .1 .1 .0) (e .before .built-in .result) (d .kept .1 .1 .1 .0) ∙ l .inv .1
+    length-front (l .entries) (d .last .1 .1 .1 .0) (e .before .before .sizes-in .result .built) (d .kept .1 .1 .1 .0) ∙ l .inv .1
 
 returns : tie.Need-returns Inv-loop μ-loop
 returns c =
@@ -128,7 +128,7 @@ add-first c =
     let e = c .before .before .before .before .before in
     let s = start-of (loop-at e) in
     let l = loop-at e .loop in
-    omega (arith, l .inv .2, e .before .built-in .ensures, inside s (l .k) (omega arith), few-slots (s .pre .1))
+    omega (arith, l .inv .2, e .before .before .sizes-in .ensures .0, inside s (l .k) (omega arith), few-slots (s .pre .1))
 
 add-k : tie.Need-add-k Inv-loop μ-loop
 add-k c = let w = start-of (loop-at (c .before .before .before .before .before)) .pre .0 in omega (arith, w .headed .order, w .order)
@@ -138,13 +138,13 @@ loop-again c =
     let e = c .before .before .before .before .before in
     let s = start-of (loop-at e) in
     let l = loop-at e .loop in
-    let b = e .before .built-in in
+    let b = e .before .before .sizes-in in
     let d = c .before .before .before in
     let t = d .tree-fault in
     let image = s .args .image .now in (
       omega arith,
-      length-front (l .entries) (t .last .1 .1 .1 .0) (b .result) (t .kept .1 .1 .1 .0) ∙ l .inv .1,
-      omega (arith, before-more image (l .k), l .inv .2, b .ensures),
+      length-front (l .entries) (t .last .1 .1 .1 .0) (b .result .built) (t .kept .1 .1 .1 .0) ∙ l .inv .1,
+      omega (arith, before-more image (l .k), l .inv .2, b .ensures .0),
       fault-passed (faults image (s .args .row .now)) 0 (bucketsOf (orderIn image)) (l .k) (buckets-more (orderIn image) (l .k) (within s (l .k) (omega arith))) (l .inv .3)
           (ap (λ (f : Loaded). f .refusal) (tested d) ∙ c .if1 .left),
     )
@@ -168,7 +168,7 @@ each-tree-fault-spec =
     μ-loop
     add-buckets
     loop-holds
-    built-in-requires
+    sizes-in-requires
     (λ c. search needs)
     (λ c κs. search needs)
     slice-relend-prefix-tree-fault

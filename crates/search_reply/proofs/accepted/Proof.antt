@@ -1,37 +1,11 @@
--- `search_reply::accepted` zeroes what is behind the reply: the part lent is given back as zeros, and the front stays.
+-- `search_reply::accepted`: the reply names the numbers, and what is behind it is zeroed.
 use borrow.Author.Needs.{needs}
-use native.Mathlib.Omega.{arith}
-use Prim.Native.Nat.{ℕ, _-_}
-use mathlib.Core.Path.{_≡_, refl, ap, _∙_}
-use mathlib.Core.List.{List, _++_}
-use lib.ListN.{length, take, drop, replicate, length-take, length-drop}
-use Rattle.search_rules.specs.Range.{Entry}
-use Rattle.table_rules.specs.Search.{zeroEntry}
-use Rattle.tree_rules.proofs.Parts.{put-rest}
+use mathlib.Core.Path.{refl}
 use Rattle.search_reply.proofs.accepted.Statement.{statement}
 use Rattle.search_reply.proofs.accepted.Tie as tie
 
 returns : tie.Need-returns
-returns c =
-    let s = c .before .before .before in
-    let a = s .args in
-    let area = a .area .now in
-    let behind : length (take (length area - a .found) (drop (a .found) area)) ≡ length area - a .found = simp (length-take, length-drop) (omega arith) in (
-      refl,
-      put-rest (a .found) area _
-          ∙ ap (λ (l : List Entry). take (a .found) area ++ l) (c .before .zero-entries .ensures ∙ ap (λ (n : ℕ). replicate n zeroEntry) behind),
-    )
+returns c = (refl, c .before .zero-behind .ensures)
 
 pub accepted-spec : {M : Type 1} → statement M
-accepted-spec =
-    tie.close
-    (tie.spec
-    (λ c. search needs)
-    (λ c. search needs)
-    (λ c. search needs)
-    (λ c. search needs)
-    (λ c κs. search needs)
-    (λ c. search needs)
-    (λ c. search needs)
-    (λ c. search needs)
-    returns)
+accepted-spec = tie.close (tie.spec (λ c κs. search needs) (λ c. search needs) (λ c. search needs) (λ c. search needs) returns)

@@ -32,7 +32,7 @@ located :
     let i = c .bucket .given .0 .1 .0 in
     some (place k i (getD (slotsOf (a .table .now) k) i [])) ≡ find (a .table .now) (a .tag)
 unfolding placeOf
-located c = ap (placeOf (c .before .before .before .args .table .now)) (sym (c .bucket .given .1)) ∙ c .before .before .find .ensures
+located c = ap (placeOf (c .before .before .before .args .table .now)) (sym (c .bucket .given .1)) ∙ c .before .before .find .ensures .0
 
 stands :
     (c : tie.After-bucket)
@@ -70,7 +70,7 @@ returns : tie.Need-returns
 unfolding placeOf isFound isWeight pays
 returns c =
     let a = c .before .before .before .args in
-    ap foundOf (by-place (a .table .now) (a .tag) none (ap (placeOf (a .table .now)) (sym (c .enum-told .given .1)) ∙ c .before .before .find .ensures))
+    ap foundOf (by-place (a .table .now) (a .tag) none (ap (placeOf (a .table .now)) (sym (c .enum-told .given .1)) ∙ c .before .before .find .ensures .0))
 
 returns-2 : tie.Need-returns-2
 unfolding isFound measure

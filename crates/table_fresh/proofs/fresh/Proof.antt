@@ -1,12 +1,15 @@
 -- `table_fresh::fresh` meets its contract: the four tests in their order, and then the rows written.
 use native.Mathlib.Omega.{arith}
-use Prim.Native.Nat.{_≤_}
+use Prim.Native.Nat.{ℕ, _-_, _≤_}
 use borrow.Author.Tests.{not-true, not-false, lt-leb}
 use mathlib.Core.Path.{_≡_, sym, _∙_, ap}
 use mathlib.Core.Bool.{true}
-use lib.ListN.{length}
+use mathlib.Core.List.{_∷_, _++_}
+use lib.ListN.{length, drop, replicate}
+use Rattle.metric_rules.specs.Row.{zeroRow}
 use Rattle.metric_rules.specs.Distance.{validMetric, validWeights}
 use Rattle.table_rules.specs.Geometry.{validOrder, firstSlot, tableRows}
+use Rattle.table_rules.specs.Table.{headerOf}
 use Rattle.table_rules.proofs.Buckets.{order-valid}
 use Rattle.table_order.specs.Answers.{answerOf}
 use Rattle.table_order.proofs.Orders.{is-order, no-order}
@@ -75,7 +78,7 @@ returns-5 c =
     let a = v .before .before .before .args in
     accepted (a .order) (a .space) (a .table .now) (order-known v) (metric-known m) (weights-known w) (r .table-rows .result) (rows-known r) (omega arith)
     (c .before .write-fresh .last .0)
-    (c .before .write-fresh .ensures)
+    (c .before .write-fresh .ensures ∙ ap (λ (o : ℕ). headerOf o (a .space) ∷ replicate (r .table-rows .result - 1) zeroRow ++ drop (r .table-rows .result) (a .table .now)) (order-is v .0))
 
 pub fresh-spec : {M : Type 1} → statement M
 fresh-spec =

@@ -1,10 +1,9 @@
 -- `table_fresh::write_fresh` meets its contract: the front is zeroed, and the header is put first.
 use native.Mathlib.Omega.{arith}
-use Prim.Native.Nat.{_-_}
-use mathlib.Core.Path.{_∙_, ap}
-use mathlib.Core.List.{_∷_, _++_}
-use lib.ListN.{length-take, drop, replicate}
-use Rattle.metric_rules.specs.Row.{Row, zeroRow}
+use mathlib.Core.Path.{_∙_}
+use lib.ListN.{length-take}
+use Rattle.table_rules.specs.Geometry.{headerRow}
+use Rattle.table_rules.specs.Table.{headerOf}
 use Rattle.table_fresh.proofs.Setting.{header-first}
 use borrow.Author.Needs.{needs}
 use Rattle.table_fresh.proofs.write_fresh.Statement.{statement}
@@ -14,18 +13,12 @@ slice-aggregate-zero-rows : tie.Need-slice-aggregate-zero-rows
 slice-aggregate-zero-rows c = omega (arith, length-take (c .before .args .rows) (c .before .args .table .now))
 
 returns : tie.Need-returns
+unfolding headerRow
 returns c =
-    let s = c .before .before .before .before in
-    let t = s .args .table .now in
-    let z = c .before .before .zero-rows in
-    header-first t (z .last .0) (s .args .rows) (c .header-row .result) (s .pre .0) (s .pre .1) (z .ensures)
-    ∙ ap (λ (h : Row). h ∷ replicate (s .args .rows - 1) zeroRow ++ drop (s .args .rows) t) (c .header-row .ensures)
+    let zeroed = c .before .before .before .before in
+    let s = zeroed .before .before in
+    let z = zeroed .zero-rows in
+    c .before .put-header .ensures ∙ header-first (s .args .table .now) (z .last .0) (s .args .rows) (headerOf (s .args .order .t) (s .args .space)) (s .pre .0) (s .pre .1) (z .ensures)
 
 pub write-fresh-spec : {M : Type 1} → statement M
-write-fresh-spec =
-    tie.close
-    (tie.spec
-    (λ c. search needs)
-    slice-aggregate-zero-rows
-    (λ c κs. search needs) (λ c κs. search needs) (λ c. search needs) (λ c. search needs)
-    returns)
+write-fresh-spec = tie.close (tie.spec (λ c. search needs) slice-aggregate-zero-rows (λ c κs. search needs) (λ c κs. search needs) (λ c. search needs) returns)

@@ -9,6 +9,7 @@ use lib.Dec.{ltb}
 use Rattle.table_rules.specs.Geometry.{room}
 use Rattle.table_rules.specs.Add.{addBucket}
 use Rattle.table_rules.proofs.Sizes.{room-zero}
+use Rattle.table_rebuild.proofs.Filling.{most-room}
 use Rattle.table_insert.proofs.add_bucket.Statement.{statement}
 use Rattle.table_insert.proofs.add_bucket.Tie as tie
 
@@ -35,4 +36,4 @@ returns-2 c =
     by-size (a .k) (a .n) false (le-ltb (room (a .k)) (2 * a .n) (omega (arith, c .before .room .ensures, c .if1 .left)))
 
 pub add-bucket-spec : {M : Type 1} → statement M
-add-bucket-spec = tie.close (tie.spec (λ c κs. search needs) (λ c. search needs) sub-result returns returns-2)
+add-bucket-spec = tie.close (tie.spec (λ c κs. search needs) (λ c. omega (arith, c .before .pre .2, most-room)) sub-result returns returns-2)

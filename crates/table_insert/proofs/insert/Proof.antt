@@ -12,7 +12,9 @@ use Rattle.table_rules.specs.Geometry.{workRows}
 use Rattle.table_rules.specs.Rebuild.{liveItems}
 use Rattle.table_rules.proofs.Adding.{lowest-within}
 use Rattle.table_buckets.specs.OfOrder.{OfOrder, BuiltFits}
-use Rattle.table_insert.proofs.PutIn.{Accepted, changes, built-fits, few, some-gathered, cost-counted, number-gathered, target-found, target-fits, work-cleared, table-built, lent-emptied}
+use Rattle.table_insert.proofs.PutIn.{Accepted, changes, built-fits, few, some-gathered, cost-counted, number-gathered, target-found, target-fits}
+use Rattle.table_insert.proofs.PutIn.{work-cleared, table-built, lent-emptied}
+use Rattle.table_rebuild.proofs.Filling.{most-room}
 use Rattle.table_insert.proofs.insert.Statement.{statement}
 use Rattle.table_insert.proofs.insert.Tie as tie
 
@@ -65,7 +67,7 @@ add-bucket-requires c κs =
     let g = gathered .gather-below in (
       omega (arith, l .ensures, lowest-within (s .args .table .now), changes (ok s) .passed .framed .order),
       omega (arith, g .ensures .0),
-      omega (arith, number-gathered (ok s) (l .ensures) (g .ensures .0), few (ok s) .1),
+      omega (arith, number-gathered (ok s) (l .ensures) (g .ensures .0), few (ok s) .1, most-room),
     )
 
 build-bucket-requires : tie.Need-build-bucket-requires

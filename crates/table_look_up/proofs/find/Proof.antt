@@ -2,15 +2,19 @@
 use native.Mathlib.Omega.{arith}
 use Prim.Native.Nat.{ℕ, _+_, _-_, _≤_, _<_}
 use mathlib.Core.Path.{_≡_, sym, _∙_, ap}
+use mathlib.Core.Bool.{Bool}
 use mathlib.Core.List.{[]}
+use mathlib.Core.Option.{none, some}
 use lib.ListN.{getD}
 use Rattle.table_rules.specs.Geometry.{bucketsOf}
+use Rattle.table_rules.specs.Refusals.{notLive, unless}
 use Rattle.table_rules.specs.Table.{Table, orderOf, slotsOf}
 use Rattle.table_rules.specs.LookUp.{placeIn, find}
 use Rattle.table_rules.proofs.Buckets.{bucketsFrom, buckets-all}
 use Rattle.table_rules.proofs.Passing.{slots-asked}
-use Rattle.table_look_up.specs.Spots.{placeOf}
+use Rattle.table_look_up.specs.Spots.{numberOf, placeOf}
 use Rattle.table_look_up.proofs.Seeking.{place, here, not-here, bucket-hit, bucket-missed, buckets-ended}
+use Rattle.table_look_up.proofs.Replying.{is-live, is-not-live}
 use borrow.Author.Needs.{needs}
 use Rattle.table_look_up.proofs.find.Statement.{statement}
 use Rattle.table_look_up.proofs.find.Tie as tie
@@ -32,17 +36,20 @@ slots-of-requires : tie.Need-slots-of-requires Inv-loop μ-loop
 slots-of-requires c κs = let o = c .before .before in slots-asked (o .pre .1) (o .args .order .t) (c .before .loop .k) (o .pre .0) (omega arith)
 
 returns : tie.Need-returns Inv-loop μ-loop
-unfolding placeOf
+unfolding placeOf numberOf
 returns c =
     let o = c .before .before .before .before .before in
     let a = o .args in
+    let t = a .table .now in
     let l = c .before .before .before .before .loop in
     let s = c .before .before .slots-of in
     let w = c .before .slot-with in
-    sym (bucket-hit (a .table .now) (a .tag) (a .order .t) (l .k) (omega arith) (place (l .k) (w .result) (getD (slotsOf (a .table .now) (l .k)) (w .result) []))
-    (here (a .table .now) (a .tag) (l .k) (w .result) (s .result .now) (s .ensures) (w .ensures (l .k)) (c .if1 .taken)))
+    let at = place (l .k) (w .result) (getD (slotsOf t (l .k)) (w .result) []) in
+    let e : some at ≡ find t (a .tag) =
+    sym (bucket-hit t (a .tag) (a .order .t) (l .k) (omega arith) at (here t (a .tag) (l .k) (w .result) (s .result .now) (s .ensures) (w .ensures (l .k)) (c .if1 .taken)))
     ∙ l .inv .1
-    ∙ all-found (a .table .now) (a .tag) (a .order .t) (o .pre .0)
+    ∙ all-found t (a .tag) (a .order .t) (o .pre .0) in
+    (e, ap (λ (live : Bool). unless live notLive 0) (is-live t (a .tag) at e))
 
 add-k : tie.Need-add-k Inv-loop μ-loop
 add-k c =
@@ -66,15 +73,16 @@ loop-again c =
     )
 
 returns-2 : tie.Need-returns-2 Inv-loop μ-loop
-unfolding placeOf
+unfolding placeOf numberOf
 returns-2 c =
     let o = c .before .before in
     let a = o .args in
+    let t = a .table .now in
     let l = c .before .loop in
     let past : a .order .t < l .k = omega arith in
-    sym (buckets-ended (a .table .now) (a .tag) (a .order .t) (l .k) past)
-    ∙ l .inv .1
-    ∙ all-found (a .table .now) (a .tag) (a .order .t) (o .pre .0)
+    let e : none ≡ find t (a .tag) =
+    sym (buckets-ended t (a .tag) (a .order .t) (l .k) past) ∙ l .inv .1 ∙ all-found t (a .tag) (a .order .t) (o .pre .0) in
+    (e, ap (λ (live : Bool). unless live notLive 0) (is-not-live t (a .tag) e))
 
 pub find-spec : {M : Type 1} → statement M
 find-spec =

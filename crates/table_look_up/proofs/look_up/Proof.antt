@@ -45,7 +45,7 @@ located :
     let i = c .bucket .given .0 .1 .0 in
     some (place k i (getD (slotsOf (a .table .now) k) i [])) ≡ find (a .table .now) (a .tag)
 unfolding placeOf
-located c = ap (placeOf (start-of c .args .table .now)) (sym (c .bucket .given .1)) ∙ c .before .before .find .ensures
+located c = ap (placeOf (start-of c .args .table .now)) (sym (c .bucket .given .1)) ∙ c .before .before .find .ensures .0
 
 stands :
     (c : tie.After-bucket)
@@ -99,7 +99,7 @@ returns-3 c =
     let at = f .before .before .before .before in
     let a = at .before .before .before .args in
     c .not-found3 .ensures
-    ∙ missing-refused (a .table .now) (a .tag) (goes at .0) (valid (f .before)) (ap (placeOf (a .table .now)) (sym (c .before .enum-told .given .1)) ∙ f .find .ensures)
+    ∙ missing-refused (a .table .now) (a .tag) (goes at .0) (valid (f .before)) (ap (placeOf (a .table .now)) (sym (c .before .enum-told .given .1)) ∙ f .find .ensures .0)
 
 returns-4 : tie.Need-returns-4
 returns-4 c =

@@ -14,7 +14,8 @@ use Rattle.table_rules.specs.Search.{zeroEntry}
 use Rattle.table_checks.specs.declared.Checked.the-variants.{Passes, Refused}
 use Rattle.table_checks.proofs.Told.{tells}
 use Rattle.lots_rules.specs.Lots.{Summary, summaryOf}
-use Rattle.lots_rules.specs.Drafting.{zeroSummary, betweenRows, draftedItems, tableLots, chosenRadius, tableSummaries, tableListing, lotsRefusal, summaryAfterLots, listingAfterLots, workAfterLots}
+use Rattle.lots_rules.specs.Drafting.{zeroSummary, betweenRows, draftedItems, tableLots, chosenRadius, tableSummaries, tableListing, lotsRefusal}
+use Rattle.lots_rules.specs.Drafting.{summaryAfterLots, listingAfterLots, workAfterLots}
 use Rattle.lots_rules.proofs.Claims.{listing-length}
 use Rattle.lots_rules.proofs.Answers.{answer-kept, answer-short, answer-all}
 use Rattle.table_lots.proofs.lots.Statement.{statement}

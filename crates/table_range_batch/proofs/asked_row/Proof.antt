@@ -15,7 +15,7 @@ returns c =
     let day = c .before in
     let threshold = day .before in
     let profile = threshold .before in (
-      c .row-of .ensures ∙ (λ i. rowOf 0 (profile .profile-of .ensures i) (threshold .threshold-of .ensures i) 0 (day .day-of .ensures i % 2 ^ 16)),
+      c .query-row .ensures ∙ (λ i. rowOf 0 (profile .profile-of .ensures i) (threshold .threshold-of .ensures i) 0 (day .day-of .ensures i % 2 ^ 16)),
       subst IsProfile (profile .profile-of .ensures) (is-profile (profile .profile-of .result) _ (profile .profile-of .ok)),
     )
 

@@ -26,35 +26,34 @@ use Rattle.table_range_batch.proofs.range_batch.Tie as tie
 returns : tie.Need-returns
 returns c =
     let r = c .before .before in
-    let read = r .before .before .before in
-    let a = read .before .args in
-    let n = r .checked .given .0 .0 in
-    let told = stops (readRefusal (a .table .now)) (a .table .now) _ n (read .read-check .ensures) (r .checked .given .1) in
+    let a = r .before .before .before .args in
+    let n = r .refusal .given .0 .0 in
+    let told = stops (readRefusal (a .table .now)) (a .table .now) _ n (r .before .before .read-check .ensures) (r .refusal .given .1) in
     let stop = refused-table (a .table .now) (a .result .now) (a .queries .now) n (told .0) (told .1) in
     (c .refused .ensures ∙ stop .0, stop .1)
 
 -- the table passed its tests, and the order is its own
-goes : (c : tie.After-checked2) → Goes (c .before .before .before .before .args .table .now) (c .checked2 .given .0 .0)
-goes c = goes-on (c .before .before .before .before .args .table .now) _ (c .checked2 .given .0 .0) (c .before .before .before .read-check .ensures) (c .checked2 .given .1)
+goes : (c : tie.After-order) → Goes (c .before .before .before .args .table .now) (c .order .given .0 .0)
+goes c = goes-on (c .before .before .before .args .table .now) _ (c .order .given .0 .0) (c .before .before .read-check .ensures) (c .order .given .1)
 
 returns-2 : tie.Need-returns-2
 returns-2 c =
-    let at = c .before .before .before in
-    let asked = at .before .before in
-    let a = asked .before .before .args in
+    let asked = c .before .before in
+    let at = asked .before .before in
+    let a = at .before .before .before .args in
     let stop = refused-queries (a .table .now) (a .result .now) (a .queries .now) (goes at .0) (asked .queries-refusal .result) (asked .queries-refusal .ensures) (c .before .if1 .taken) in
     (c .refused2 .ensures ∙ stop .0, stop .1)
 
 -- past both tests: the table passes, and there are 1 to 16 queries
 module _ (c : tie.Else1) where
-  abbrev start : tie.Start
-  start = c .before .before .before .before .before .before
+  abbrev ordered : tie.After-order
+  ordered = c .before .before .before
 
-  abbrev ordered : tie.After-checked2
-  ordered = c .before .before
+  abbrev start : tie.Start
+  start = ordered .before .before .before
 
   queried : queriesRefusal (start .args .queries .now) ≡ 0
-  queried = sym (ordered .before .before .queries-refusal .ensures) ∙ c .if1 .left
+  queried = sym (c .before .queries-refusal .ensures) ∙ c .if1 .left
 
   number : (1 ≤ length (start .args .queries .now)) × (length (start .args .queries .now) ≤ 16)
   number = queries-number (start .args .queries .now) queried
@@ -114,7 +113,7 @@ module _ (c : tie.After-buckets-together) where
   abbrev begin : tie.Start
   begin = start (past allOf)
 
-  order-is : ordered (past allOf) .checked2 .given .0 .0 .t ≡ orderOf (begin .args .table .now)
+  order-is : ordered (past allOf) .order .given .0 .0 .t ≡ orderOf (begin .args .table .now)
   order-is = goes (ordered (past allOf)) .1 .0
 
   counts : c .buckets-together .result ≡ countBelow (batchOf (rowAt (begin .args .table .now) headerRow) (begin .args .queries .now)) (allOf .all-of .result) (begin .args .table .now) (suc (orderOf (begin .args .table .now)))
@@ -158,11 +157,11 @@ range-batch-spec =
     tie.close
     (tie.spec
     (λ c κs. search needs)
-    (λ c κs. search needs)
     (λ c. search needs)
     (λ c κs. search needs)
     returns
     (λ c. search needs)
+    (λ c κs. search needs)
     (λ c κs. search needs)
     returns-2
     (λ c. number c .0)

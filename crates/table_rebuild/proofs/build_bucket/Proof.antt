@@ -14,7 +14,7 @@ use Rattle.table_rules.specs.Geometry.{room, headerRow, firstSlot, workRows}
 use Rattle.table_rules.specs.Table.{rowAt, tableSpace}
 use Rattle.table_rules.proofs.Fill.{rooms-grow, room-most}
 use Rattle.table_buckets.proofs.Places.{sizes-inside, room-inside}
-use Rattle.table_rebuild.proofs.Filling.{bucket-built, cleared-again}
+use Rattle.table_rebuild.proofs.Filling.{most-room, bucket-built, cleared-again}
 use Rattle.table_rebuild.proofs.build_bucket.Statement.{statement}
 use Rattle.table_rebuild.proofs.build_bucket.Tie as tie
 
@@ -59,7 +59,7 @@ fill-requires c κs =
     let t : List Row = s .args .table .now in
     let part : length (take (first + size - first) (drop first t)) ≡ room (s .args .k) =
     omega (arith, length-take (first + size - first) (drop first t), length-drop first t, inside s) in
-    (omega (arith, part), omega (arith, few s), omega (arith, few s))
+    (omega (arith, part), omega (arith, few s), omega (arith, few s, most-room))
 
 cast-put-sizes : tie.Need-cast-put-sizes
 cast-put-sizes c = omega (arith, few (start-of (c .before .before .before)))

@@ -8,7 +8,7 @@ use lib.ListN.{length, take, drop, replicate}
 use lib.Seq.{length-take-le}
 use Rattle.metric_rules.specs.Row.{Row, zeroRow}
 use Rattle.tree_rules.specs.Layout.{cost}
-use Rattle.table_rebuild.proofs.Filling.{filled}
+use Rattle.table_rebuild.proofs.Filling.{most-room, filled}
 use Rattle.table_rebuild.proofs.fill.Statement.{statement}
 use Rattle.table_rebuild.proofs.fill.Tie as tie
 
@@ -23,7 +23,7 @@ build-requires c κs =
     let s = c .before .before in
     let a : length (take (s .args .n) (s .args .slots .now)) ≡ s .args .n = length-take-le (s .args .n) (s .args .slots .now) (s .pre .0) in
     let b : length (take (s .args .n) (s .args .work .now)) ≡ s .args .n = length-take-le (s .args .n) (s .args .work .now) (s .pre .1) in
-    (a ∙ sym b, omega (arith, b, s .pre .2))
+    (a ∙ sym b, omega (arith, b, s .pre .2, most-room))
 
 returns : tie.Need-returns
 returns c =

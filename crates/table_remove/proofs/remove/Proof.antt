@@ -67,7 +67,7 @@ place c = record { bucket = c .bucket .given .0 .0; slot = c .bucket .given .0 .
 
 located : (c : tie.After-bucket) → find (start-of c .args .table .now) (start-of c .args .tag) ≡ some (place c)
 unfolding placeOf place
-located c = sym (ap (placeOf (start-of c .args .table .now)) (sym (c .bucket .given .1)) ∙ c .before .before .find .ensures)
+located c = sym (ap (placeOf (start-of c .args .table .now)) (sym (c .bucket .given .1)) ∙ c .before .before .find .ensures .0)
 
 stands : (c : tie.After-bucket) → Found (start-of c .args .table .now) (start-of c .args .tag) (place c)
 stands c = found (start-of c .args .table .now) (start-of c .args .tag) (place c) (located c)
@@ -144,7 +144,7 @@ returns-3 c =
     let at = c .before .before .before .before .before .before .before .before in
     let a = begin at .args in
     let r =
-    refused-missing (a .table .now) (a .work .now) (a .tag) (past-first at) (valid (c .before .before .before .before .before)) (ap (placeOf (a .table .now)) (sym (c .before .enum-told .given .1)) ∙ c .before .before .before .find .ensures) in
+    refused-missing (a .table .now) (a .work .now) (a .tag) (past-first at) (valid (c .before .before .before .before .before)) (ap (placeOf (a .table .now)) (sym (c .before .enum-told .given .1)) ∙ c .before .before .before .find .ensures .0) in
     (c .refused3 .ensures ∙ r .0, (r .1, r .2))
 
 returns-4 : tie.Need-returns-4

@@ -14,7 +14,8 @@ use Rattle.metric_rules.specs.Distance.{distance, spaceOf}
 use Rattle.tree_rules.specs.Layout.{cost, placed, layoutWithin}
 use Rattle.tree_rows.specs.Working.{rankedOf}
 use Rattle.tree_rules.proofs.Cost.{cost-few, cost-bound}
-use Rattle.tree_build.proofs.Halving.{Built, Arranged, target-set, source-set, leftTarget, leftSource, left-asks, rightTarget, rightSource, right-asks, target-length, source-length, slots-length, rows-length, part-count, part-laid, part-cleared}
+use Rattle.tree_build.proofs.Halving.{Built, Arranged, target-set, source-set, leftTarget, leftSource, left-asks, rightTarget, rightSource, right-asks}
+use Rattle.tree_build.proofs.Halving.{target-length, source-length, slots-length, rows-length, part-count, part-laid, part-cleared}
 use Prim.Native.Nat.{ℕ, _+_, _*_, _/_, _^_, _<_, _≤_}
 use borrow.Fn.Kinds.{In}
 use borrow.Fn.PlainCycle.{Measures, is, falls, and}

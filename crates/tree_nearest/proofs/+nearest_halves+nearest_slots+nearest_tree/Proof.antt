@@ -1,23 +1,21 @@
--- A slot's own item and then its halves leave what the tree's definition says, and the half on the query's side and then the other what the halves' does;
--- so do slots that are passed over. The measures are three times the slots' number, one more for the tree, and two more for the halves.
+-- A slot's own item and then its halves leave what the tree's definition says, and the half on the query's side and then the other what the halves' does. Seven
+-- slots or fewer are the leaf's. The measures are three times the slots' number, one more for the tree, and two more for the halves.
 use Prim.Native.Nat.{ℕ, _+_, _-_, _*_, _/_, _≤_, _<_}
-use mathlib.Core.Path.{_≡_, refl, sym, ap, _∙_}
-use mathlib.Core.Bool.{Bool, true, false, _&&_}
-use mathlib.Core.Logic.{⊎-elim, _⊎_, inl, inr}
+use mathlib.Core.Path.{_≡_, _∙_}
+use mathlib.Core.List.{List}
 use native.Mathlib.Omega.{arith}
 use borrow.Author.Needs.{needs}
-use borrow.Author.Tests.{ltb-true, ltb-false, leb-true, leb-false}
-use lib.Dec.{leb, ltb}
-use Rattle.lists.proofs.Tests.{and-first, and-second}
 use borrow.Fn.Kinds.{In}
 use borrow.Fn.PlainCycle.{Measures, is, falls, and}
 use lib.ListN.{length, take, drop, length-take, length-drop}
-use Rattle.search_rules.specs.Range.{toQuery}
+use Rattle.search_rules.specs.Range.{Entry, toQuery}
 use Rattle.search_asked.specs.Asked.{distanceAsked, queryAsked, reportsAsked, kAsked}
-use Rattle.tree_nearest.specs.Nearby.{tallyOf, Leaves, reportedIn, Ready, nearestAsked}
-use Rattle.tree_nearest.proofs.Steps.{short, leaves-as, ready-less, leaves-same, near-empty, second-ready, second-none, second-far, second-within, leftHalf, rightHalf, halves-slots, halves-reported, halves-near, halves-far, halves-none, tree-ready, tree-leave, first-reported}
-use Rattle.tree_few.proofs.Few.{passed-most}
-use Rattle.tree_nearest.proofs.Passing.{passed-leaves}
+use Rattle.tree_leaf.proofs.Known.{short}
+use Rattle.tree_nearest.specs.declared.Nearby.{Nearby}
+use Rattle.tree_nearest.specs.Nearby.{Leaves, nearInHalves}
+use Rattle.tree_nearest.proofs.Steps.{leaves-as, ready-less, leftHalf, rightHalf, left-is, right-is, halves-slots, halves-reported, halves-near}
+use Rattle.tree_nearest.proofs.Steps.{halves-far, tree-ready, tree-leave, first-reported, nearThenFar}
+use Rattle.tree_nearest.proofs.LeafSteps.{tally, reported, Starts, Left, then-ready, then-far, then-within}
 use Rattle.tree_nearest.proofs.nearest_halves.Reads as nearest-halves
 use Rattle.tree_nearest.proofs.nearest_halves.Kinds as nearest-halves-kinds
 use Rattle.tree_nearest.proofs.+nearest_halves+nearest_slots+nearest_tree.Lts-nearest_halves as nearest-halves-lts
@@ -28,10 +26,9 @@ use Rattle.tree_nearest.proofs.nearest_tree.Reads as nearest-tree
 use Rattle.tree_nearest.proofs.nearest_tree.Kinds as nearest-tree-kinds
 use Rattle.tree_nearest.proofs.+nearest_halves+nearest_slots+nearest_tree.Lts-nearest_tree as nearest-tree-lts
 use Rattle.metric.proofs.distance_between.Reads as distance-between-reads
-use Rattle.tree_nearest.proofs.excess.Reads as excess-reads
 use Rattle.tree_nearest.proofs.take_in.Reads as take-in-reads
 use Rattle.rows.proofs.threshold_of.Reads as threshold-of-reads
-use Rattle.tree_few.proofs.passed_over.Reads as passed-over-reads
+use Rattle.tree_nearest.proofs.nearest_leaf.Reads as nearest-leaf-reads
 use Rattle.tree_nearest.proofs.+nearest_halves+nearest_slots+nearest_tree.{statement}
 use Rattle.tree_nearest.proofs.+nearest_halves+nearest_slots+nearest_tree.Tie.{close}
 
@@ -85,269 +82,237 @@ nearest-tree-below t =
     nearest-tree.Pre
 
 abbrev nearest-halves-callees : ℕ → nearest-halves-lts.Claims
-nearest-halves-callees t = (nearest-tree-below t, nearest-tree.Post, excess-reads.Asked, excess-reads.Learnt)
+nearest-halves-callees t = (nearest-tree-below t, nearest-tree.Post)
 
 abbrev nearest-slots-callees : ℕ → nearest-slots-lts.Claims
 nearest-slots-callees t = (distance-between-reads.Asked, distance-between-reads.Learnt, take-in-reads.Asked, take-in-reads.Learnt, threshold-of-reads.Asked, threshold-of-reads.Learnt, nearest-halves-below t, nearest-halves.Post)
 
 abbrev nearest-tree-callees : ℕ → nearest-tree-lts.Claims
-nearest-tree-callees t = (passed-over-reads.Asked, passed-over-reads.Learnt, nearest-slots-below t, nearest-slots.Post)
+nearest-tree-callees t = (nearest-leaf-reads.Asked, nearest-leaf-reads.Learnt, nearest-slots-below t, nearest-slots.Post)
 
--- where a call of the halves' step begins, and what it goes by
-abbrev Begins : ℕ → Type 0
-Begins t = nearest-halves-lts.Start (nearest-halves-callees t) (nearest-halves-at t) nearest-halves.Post
+module _ (t : ℕ) where
+  -- the states of the halves' walk: its start, and the half on the query's side visited, the left one or the right one
+  abbrev Begins : Type 0
+  Begins = nearest-halves-lts.Start (nearest-halves-callees t) (nearest-halves-at t) nearest-halves.Post
 
--- both halves are to come, in either order
-near-ready : (t : ℕ) (s : Begins t) → (let a = s .args in
-    Ready (kAsked (a .asked .now)) (reportedIn (reportsAsked (a .asked .now)) (leftHalf (a .rest .now)) + reportedIn (reportsAsked (a .asked .now)) (rightHalf (a .rest .now))) (length (leftHalf (a .rest .now)) + length (rightHalf (a .rest .now))) (a .area .now) (a .near))
-near-ready t s =
-    let a = s .args in
-    ready-less (omega (arith, halves-reported (reportsAsked (a .asked .now)) (a .rest .now))) (omega (arith, halves-slots (a .rest .now))) (s .pre .1)
+  abbrev LeftVisited : Type 0
+  LeftVisited = nearest-halves-lts.After-struct-known (nearest-halves-callees t) (nearest-halves-at t) nearest-halves.Post
 
-far-ready : (t : ℕ) (s : Begins t) → (let a = s .args in
-    Ready (kAsked (a .asked .now)) (reportedIn (reportsAsked (a .asked .now)) (rightHalf (a .rest .now)) + reportedIn (reportsAsked (a .asked .now)) (leftHalf (a .rest .now))) (length (rightHalf (a .rest .now)) + length (leftHalf (a .rest .now))) (a .area .now) (a .near))
-far-ready t s =
-    let a = s .args in
-    ready-less (omega (arith, halves-reported (reportsAsked (a .asked .now)) (a .rest .now))) (omega (arith, halves-slots (a .rest .now))) (s .pre .1)
+  abbrev RightVisited : Type 0
+  RightVisited = nearest-halves-lts.After-struct-known2 (nearest-halves-callees t) (nearest-halves-at t) nearest-halves.Post
 
-nearest-halves-returns : (t : ℕ) → nearest-halves-lts.Need-returns (nearest-halves-callees t) (nearest-halves-at t) nearest-halves.Post
-nearest-halves-returns t c =
-    let a = c .before .args in
-    leaves-as (kAsked (a .asked .now)) (a .area .now) _ _ (halves-none (distanceAsked (a .asked .now)) (queryAsked (a .asked .now)) (reportsAsked (a .asked .now)) (kAsked (a .asked .now)) (a .d) (a .m) (a .rest .now) (tallyOf (kAsked (a .asked .now)) (a .area .now) (a .near)) (c .if1 .taken))
-    (leaves-same (c .before .pre .1))
+  -- what a call of the halves' step starts from, in either order, and goes by
+  module _ (s : Begins) where
+    abbrev asked : List (List ℕ)
+    asked = s .args .asked .now
 
-nearest-halves-nearest-tree-requires : (t : ℕ) → nearest-halves-lts.Need-nearest-tree-requires (nearest-halves-callees t) (nearest-halves-at t) nearest-halves.Post
-nearest-halves-nearest-tree-requires t c κs =
-    let s = c .before .before .before .before in
-    let size : length (leftHalf (s .args .rest .now)) ≡ length (s .args .rest .now) - length (s .args .rest .now) / 2 = rw length-take (omega arith) in
-    (omega (arith, s .pre .0, size), (omega (arith, size, c .before .before .before .if1 .left), ready-less (omega arith) (omega arith) (near-ready t s)))
+    abbrev rest : List (List ℕ)
+    rest = s .args .rest .now
 
--- the test on the far half, as facts: it has slots and its gap is within the bound, or not
-passes : (l n gap bound : ℕ) → ltb l n && leb gap bound ≡ true → (l < n) × (gap ≤ bound)
-passes l n gap bound h = (ltb-true l n (and-first (ltb l n) (leb gap bound) h), leb-true gap bound (and-second (ltb l n) (leb gap bound) h))
+    near-ready : Starts asked (reported asked (leftHalf rest) + reported asked (rightHalf rest)) (length (leftHalf rest) + length (rightHalf rest)) (s .args .area .now) (s .args .near)
+    near-ready = ready-less (omega (arith, halves-reported (reportsAsked asked) rest)) (omega (arith, halves-slots rest)) (s .pre .1 .1)
 
-fails : (l n gap bound : ℕ) → ltb l n && leb gap bound ≡ false → (n ≤ l) ⊎ (bound < gap)
-fails l n gap bound h = go (ltb l n) refl h
-  where
-    go : (b : Bool) → ltb l n ≡ b → b && leb gap bound ≡ false → (n ≤ l) ⊎ (bound < gap)
-    go true f g = inr (leb-false gap bound g)
-    go false f g = inl (ltb-false l n f)
+    far-ready : Starts asked (reported asked (rightHalf rest) + reported asked (leftHalf rest)) (length (rightHalf rest) + length (leftHalf rest)) (s .args .area .now) (s .args .near)
+    far-ready = ready-less (omega (arith, halves-reported (reportsAsked asked) rest)) (omega (arith, halves-slots rest)) (s .pre .1 .1)
 
-nearest-halves-nearest-tree-requires-2 : (t : ℕ) → nearest-halves-lts.Need-nearest-tree-requires-2 (nearest-halves-callees t) (nearest-halves-at t) nearest-halves.Post
-nearest-halves-nearest-tree-requires-2 t c κs =
-    let test = c .before .before in
-    let gap = test .before .before in
-    let call = gap .before .before in
-    let s = call .before .before .before .before .before in
-    let a = s .args in
-    let size : length (rightHalf (a .rest .now)) ≡ length (a .rest .now) / 2 = simp (length-take, length-drop) (omega arith) in
-    let open′ = passes (length (a .rest .now) - length (a .rest .now) / 2) (length (a .rest .now)) (gap .excess .result) (call .nearest-tree .result .bound) (test .if3 .taken) in (
-      omega (arith, s .pre .0, size),
-      (
-        omega (arith, size, open′ .0),
-        second-ready (distanceAsked (a .asked .now)) (queryAsked (a .asked .now)) (reportsAsked (a .asked .now)) (kAsked (a .asked .now)) (short (a .asked .now)) (leftHalf (a .rest .now)) (rightHalf (a .rest .now)) (a .m) (a .d) (s .fits .m .fits) (near-ready t s) (call .nearest-tree .ensures),
-      ),
-    )
+    left-size : length (leftHalf rest) ≡ length rest - length rest / 2
+    left-size = rw length-take (omega arith)
 
-nearest-halves-nearest-tree-requires-3 : (t : ℕ) → nearest-halves-lts.Need-nearest-tree-requires-3 (nearest-halves-callees t) (nearest-halves-at t) nearest-halves.Post
-nearest-halves-nearest-tree-requires-3 t c κs =
-    let s = c .before .before .before .before .before in
-    let size : length (rightHalf (s .args .rest .now)) ≡ length (s .args .rest .now) / 2 = simp (length-take, length-drop) (omega arith) in
-    (omega (arith, s .pre .0, size), (omega (arith, size, c .before .before .if4 .taken), ready-less (omega arith) (omega arith) (far-ready t s)))
+    right-size : length (rightHalf rest) ≡ length rest / 2
+    right-size = simp (length-take, length-drop) (omega arith)
 
--- what the right half's turn leaves where it goes first, if it has slots
-right-left : (t : ℕ) (c : nearest-halves-lts.Joined4 (nearest-halves-callees t) (nearest-halves-at t) nearest-halves.Post) → (let a = c .before .before .before .args in
-    Leaves (kAsked (a .asked .now)) (nearestAsked (a .asked .now) (rightHalf (a .rest .now)) (a .area .now) (a .near)) (a .area .now) (c .if4 .area) (c .if4 .met))
-right-left t c =
-    let s = c .before .before .before in
-    let a = s .args in
-    let k = kAsked (a .asked .now) in
-    let same = leaves-same (s .pre .1) in
-    ⊎-elim
-    (λ w. (w .6 ∙ w .3 .ensures .0, w .5 ∙ w .3 .ensures .1))
-    (λ w.
-    leaves-as k (a .area .now) _ _
-    (sym (near-empty (distanceAsked (a .asked .now)) (queryAsked (a .asked .now)) (reportsAsked (a .asked .now)) k (rightHalf (a .rest .now)) (tallyOf k (a .area .now) (a .near)) (simp (length-take, length-drop) (omega (arith, w .0 .left)))))
-    (w .2 ∙ same .0, w .1 ∙ same .1))
-    (c .if4 .came)
+    -- both halves' turns, in their order
+    halves-left-first : s .args .d ≤ s .args .m → {last : List Entry} {z : Nearby}
+        → Left asked (nearThenFar (distanceAsked asked) (queryAsked asked) (reportsAsked asked) (kAsked asked) (leftHalf rest) (rightHalf rest) (s .args .m) (s .args .d) (tally asked (s .args .area .now) (s .args .near))) (s .args .area .now) last z
+        → Left asked (nearInHalves (distanceAsked asked) (queryAsked asked) (reportsAsked asked) (kAsked asked) (s .args .d) (s .args .m) rest (tally asked (s .args .area .now) (s .args .near))) (s .args .area .now) last z
+    halves-left-first h {last} {z} l =
+        leaves-as (kAsked asked) (s .args .area .now) last z (halves-near (distanceAsked asked) (queryAsked asked) (reportsAsked asked) (kAsked asked) (s .args .d) (s .args .m) rest (tally asked (s .args .area .now) (s .args .near)) (left-is rest) (right-is rest) h) l
 
-right-length : (t : ℕ) (c : nearest-halves-lts.Joined4 (nearest-halves-callees t) (nearest-halves-at t) nearest-halves.Post) → length (c .if4 .area) ≡ length (c .before .before .before .args .area .now)
-right-length t c = ⊎-elim (λ w. ap length (w .5) ∙ w .3 .kept .1 .1 .0) (λ w. ap length (w .1)) (c .if4 .came)
+    halves-right-first : s .args .m < s .args .d → {last : List Entry} {z : Nearby}
+        → Left asked (nearThenFar (distanceAsked asked) (queryAsked asked) (reportsAsked asked) (kAsked asked) (rightHalf rest) (leftHalf rest) (s .args .d) (s .args .m) (tally asked (s .args .area .now) (s .args .near))) (s .args .area .now) last z
+        → Left asked (nearInHalves (distanceAsked asked) (queryAsked asked) (reportsAsked asked) (kAsked asked) (s .args .d) (s .args .m) rest (tally asked (s .args .area .now) (s .args .near))) (s .args .area .now) last z
+    halves-right-first h {last} {z} l =
+        leaves-as (kAsked asked) (s .args .area .now) last z (halves-far (distanceAsked asked) (queryAsked asked) (reportsAsked asked) (kAsked asked) (s .args .d) (s .args .m) rest (tally asked (s .args .area .now) (s .args .near)) (left-is rest) (right-is rest) h) l
 
-nearest-halves-nearest-tree-requires-4 : (t : ℕ) → nearest-halves-lts.Need-nearest-tree-requires-4 (nearest-halves-callees t) (nearest-halves-at t) nearest-halves.Post
-nearest-halves-nearest-tree-requires-4 t c κs =
-    let joined = c .before .before .before .before .before in
-    let some = joined .before .before in
-    let s = some .before in
-    let a = s .args in
-    let size : length (leftHalf (a .rest .now)) ≡ length (a .rest .now) - length (a .rest .now) / 2 = rw length-take (omega arith) in (
-      omega (arith, s .pre .0, size),
-      (
-        omega (arith, size, some .if1 .left),
-        second-ready (distanceAsked (a .asked .now)) (queryAsked (a .asked .now)) (reportsAsked (a .asked .now)) (kAsked (a .asked .now)) (short (a .asked .now)) (rightHalf (a .rest .now)) (leftHalf (a .rest .now)) (a .d) (a .m) (s .fits .d .fits) (far-ready t s) (right-left t joined),
-      ),
-    )
+  nearest-halves-nearest-tree-requires : nearest-halves-lts.Need-nearest-tree-requires (nearest-halves-callees t) (nearest-halves-at t) nearest-halves.Post
+  nearest-halves-nearest-tree-requires c κs =
+      let s : Begins = search in
+      (omega (arith, s .pre .0, left-size s, s .pre .1 .0), (omega (arith, left-size s, s .pre .1 .0), ready-less (omega arith) (omega arith) (near-ready s)))
 
-nearest-halves-same-length : (t : ℕ) → nearest-halves-lts.Need-same-length (nearest-halves-callees t) (nearest-halves-at t) nearest-halves.Post
-nearest-halves-same-length t c = c .before .nearest-tree2 .kept .1 .1 .0 ∙ c .before .before .before .before .before .before .before .before .nearest-tree .kept .1 .1 .0
+  nearest-halves-nearest-tree-requires-3 : nearest-halves-lts.Need-nearest-tree-requires-3 (nearest-halves-callees t) (nearest-halves-at t) nearest-halves.Post
+  nearest-halves-nearest-tree-requires-3 c κs =
+      let s : Begins = search in
+      (omega (arith, s .pre .0, right-size s, s .pre .1 .0), (omega (arith, right-size s, s .pre .1 .0), ready-less (omega arith) (omega arith) (far-ready s)))
 
-nearest-halves-returns-2 : (t : ℕ) → nearest-halves-lts.Need-returns-2 (nearest-halves-callees t) (nearest-halves-at t) nearest-halves.Post
-nearest-halves-returns-2 t c =
-    let test = c .before .before .before .before in
-    let gap = test .before .before in
-    let call = gap .before .before in
-    let side = call .before .before .before in
-    let s = side .before .before in
-    let a = s .args in
-    let k = kAsked (a .asked .now) in
-    let dist = distanceAsked (a .asked .now) in
-    let query = queryAsked (a .asked .now) in
-    let open′ = passes (length (a .rest .now) - length (a .rest .now) / 2) (length (a .rest .now)) (gap .excess .result) (call .nearest-tree .result .bound) (test .if3 .taken) in
-    leaves-as k (a .area .now) _ _ (halves-near dist query (reportsAsked (a .asked .now)) k (a .d) (a .m) (a .rest .now) (tallyOf k (a .area .now) (a .near)) (side .if2 .taken))
-    (second-within dist query (reportsAsked (a .asked .now)) k (short (a .asked .now)) (leftHalf (a .rest .now)) (rightHalf (a .rest .now)) (a .m) (a .d) (s .fits .m .fits) (near-ready t s) (call .nearest-tree .ensures)
-    (gap .excess .result) (gap .excess .ensures) (open′ .1) _ _ (c .before .nearest-tree2 .ensures))
+  module _ (c : LeftVisited) where
+    abbrev left-in : nearest-halves-lts.After-nearest-tree (nearest-halves-callees t) (nearest-halves-at t) nearest-halves.Post
+    left-in = c .before .before
 
-nearest-halves-same-length-2 : (t : ℕ) → nearest-halves-lts.Need-same-length-2 (nearest-halves-callees t) (nearest-halves-at t) nearest-halves.Post
-nearest-halves-same-length-2 t c = c .before .before .before .before .nearest-tree .kept .1 .1 .0
+    abbrev near-in : nearest-halves-lts.Then1 (nearest-halves-callees t) (nearest-halves-at t) nearest-halves.Post
+    near-in = left-in .before .before .before
 
-nearest-halves-returns-3 : (t : ℕ) → nearest-halves-lts.Need-returns-3 (nearest-halves-callees t) (nearest-halves-at t) nearest-halves.Post
-nearest-halves-returns-3 t c =
-    let gap = c .before .before in
-    let call = gap .before .before in
-    let side = call .before .before .before in
-    let s = side .before .before in
-    let a = s .args in
-    let k = kAsked (a .asked .now) in
-    let dist = distanceAsked (a .asked .now) in
-    let query = queryAsked (a .asked .now) in
-    leaves-as k (a .area .now) _ _ (halves-near dist query (reportsAsked (a .asked .now)) k (a .d) (a .m) (a .rest .now) (tallyOf k (a .area .now) (a .near)) (side .if2 .taken))
-    (⊎-elim
-    (λ none. second-none dist query (reportsAsked (a .asked .now)) k (short (a .asked .now)) (leftHalf (a .rest .now)) (rightHalf (a .rest .now)) (a .m) (a .d) (s .fits .m .fits) (near-ready t s) (call .nearest-tree .ensures) (simp (length-take, length-drop) (omega (arith, none))))
-    (λ far. second-far dist query (reportsAsked (a .asked .now)) k (short (a .asked .now)) (leftHalf (a .rest .now)) (rightHalf (a .rest .now)) (a .m) (a .d) (s .fits .m .fits) (near-ready t s) (call .nearest-tree .ensures) (gap .excess .result) (gap .excess .ensures) far)
-    (fails (length (a .rest .now) - length (a .rest .now) / 2) (length (a .rest .now)) (gap .excess .result) (call .nearest-tree .result .bound) (c .if3 .left)))
+    abbrev near-start : Begins
+    near-start = near-in .before
 
-nearest-halves-same-length-3 : (t : ℕ) → nearest-halves-lts.Need-same-length-3 (nearest-halves-callees t) (nearest-halves-at t) nearest-halves.Post
-nearest-halves-same-length-3 t c = c .before .nearest-tree4 .kept .1 .1 .0 ∙ right-length t (c .before .before .before .before .before .before .before)
+  nearest-halves-nearest-tree-requires-2 : nearest-halves-lts.Need-nearest-tree-requires-2 (nearest-halves-callees t) (nearest-halves-at t) nearest-halves.Post
+  nearest-halves-nearest-tree-requires-2 c κs =
+      let side : LeftVisited = search in
+      let s = near-start side in
+      let a = s .args in
+      (omega (arith, s .pre .0, right-size s, s .pre .1 .0), (omega (arith, right-size s, s .pre .1 .0), then-ready (asked s) (leftHalf (rest s)) (rightHalf (rest s)) (a .m) (a .d) (s .fits .m .fits) (near-ready s) (left-in side .nearest-tree .ensures)))
 
-nearest-halves-returns-4 : (t : ℕ) → nearest-halves-lts.Need-returns-4 (nearest-halves-callees t) (nearest-halves-at t) nearest-halves.Post
-nearest-halves-returns-4 t c =
-    let test = c .before .before .before .before in
-    let gap = test .before .before in
-    let joined = gap .before in
-    let s = joined .before .before .before in
-    let a = s .args in
-    let k = kAsked (a .asked .now) in
-    let dist = distanceAsked (a .asked .now) in
-    let query = queryAsked (a .asked .now) in
-    leaves-as k (a .area .now) _ _ (halves-far dist query (reportsAsked (a .asked .now)) k (a .d) (a .m) (a .rest .now) (tallyOf k (a .area .now) (a .near)) (joined .before .if2 .left))
-    (second-within dist query (reportsAsked (a .asked .now)) k (short (a .asked .now)) (rightHalf (a .rest .now)) (leftHalf (a .rest .now)) (a .d) (a .m) (s .fits .d .fits) (far-ready t s) (right-left t joined)
-    (gap .excess2 .result) (gap .excess2 .ensures) (omega (arith, test .if5 .taken)) _ _ (c .before .nearest-tree4 .ensures))
+  nearest-halves-same-length : nearest-halves-lts.Need-same-length (nearest-halves-callees t) (nearest-halves-at t) nearest-halves.Post
+  nearest-halves-same-length c = let side : LeftVisited = search in c .before .nearest-tree2 .kept .1 .1 .0 ∙ left-in side .nearest-tree .kept .1 .1 .0
 
-nearest-halves-returns-5 : (t : ℕ) → nearest-halves-lts.Need-returns-5 (nearest-halves-callees t) (nearest-halves-at t) nearest-halves.Post
-nearest-halves-returns-5 t c =
-    let gap = c .before .before in
-    let joined = gap .before in
-    let s = joined .before .before .before in
-    let a = s .args in
-    let k = kAsked (a .asked .now) in
-    let dist = distanceAsked (a .asked .now) in
-    let query = queryAsked (a .asked .now) in
-    leaves-as k (a .area .now) _ _ (halves-far dist query (reportsAsked (a .asked .now)) k (a .d) (a .m) (a .rest .now) (tallyOf k (a .area .now) (a .near)) (joined .before .if2 .left))
-    (second-far dist query (reportsAsked (a .asked .now)) k (short (a .asked .now)) (rightHalf (a .rest .now)) (leftHalf (a .rest .now)) (a .d) (a .m) (s .fits .d .fits) (far-ready t s) (right-left t joined)
-    (gap .excess2 .result) (gap .excess2 .ensures) (omega (arith, c .if5 .left)))
+  nearest-halves-returns : nearest-halves-lts.Need-returns (nearest-halves-callees t) (nearest-halves-at t) nearest-halves.Post
+  nearest-halves-returns c =
+      let open′ : nearest-halves-lts.Then2 (nearest-halves-callees t) (nearest-halves-at t) nearest-halves.Post = search in
+      let side = open′ .before in
+      let s = near-start side in
+      let a = s .args in
+      halves-left-first s (near-in side .if1 .taken)
+      (then-within (asked s) (leftHalf (rest s)) (rightHalf (rest s)) (a .m) (a .d) (s .fits .m .fits) (near-ready s) (left-in side .nearest-tree .ensures) (open′ .if2 .taken) (c .before .nearest-tree2 .ensures))
 
-nearest-slots-take-in-requires : (t : ℕ) → nearest-slots-lts.Need-take-in-requires (nearest-slots-callees t) (nearest-slots-at t) nearest-slots.Post
-nearest-slots-take-in-requires t c κs =
-    let s = c .before .before .before .before .before .before in
-    let a = s .args in
-    ready-less (omega (arith, first-reported (reportsAsked (a .asked .now)) (a .slots .now) (s .pre .1 .0))) (omega (arith, s .pre .1 .0)) (s .pre .1 .1)
+  nearest-halves-returns-2 : nearest-halves-lts.Need-returns-2 (nearest-halves-callees t) (nearest-halves-at t) nearest-halves.Post
+  nearest-halves-returns-2 c =
+      let side = c .before in
+      let s = near-start side in
+      let a = s .args in
+      halves-left-first s (near-in side .if1 .taken)
+      (then-far (asked s) (leftHalf (rest s)) (rightHalf (rest s)) (a .m) (a .d) (s .fits .m .fits) (near-ready s) (left-in side .nearest-tree .ensures) (c .if2 .left))
 
-nearest-slots-nearest-halves-requires : (t : ℕ) → nearest-slots-lts.Need-nearest-halves-requires (nearest-slots-callees t) (nearest-slots-at t) nearest-slots.Post
-unfolding toQuery
-nearest-slots-nearest-halves-requires t c κs =
-    let own = c .before .before .before .before in
-    let d = own .before .before .before in
-    let s = d .before .before .before .before in
-    let a = s .args in
-    let size : length (take (length (a .slots .now) - 1) (drop 1 (a .slots .now))) ≡ length (a .slots .now) - 1 = simp (length-take, length-drop) (omega arith) in (
-      omega (arith, s .pre .0, s .pre .1 .0, size),
-      tree-ready (distanceAsked (a .asked .now)) (queryAsked (a .asked .now)) (reportsAsked (a .asked .now)) (kAsked (a .asked .now)) (short (a .asked .now)) (a .slots .now) (s .pre .1 .0) (s .pre .1 .1) (d .distance-between .result) (d .distance-between .ensures) (own .take-in .ensures),
-    )
+  module _ (c : RightVisited) where
+    abbrev right-in : nearest-halves-lts.After-nearest-tree3 (nearest-halves-callees t) (nearest-halves-at t) nearest-halves.Post
+    right-in = c .before .before
 
-nearest-slots-same-length : (t : ℕ) → nearest-slots-lts.Need-same-length (nearest-slots-callees t) (nearest-slots-at t) nearest-slots.Post
-nearest-slots-same-length t c = c .before .nearest-halves .kept .1 .1 .1 .1 .0 ∙ c .before .before .before .before .before .before .take-in .kept .1 .1 .1 .1 .0
+    abbrev far-in : nearest-halves-lts.Else1 (nearest-halves-callees t) (nearest-halves-at t) nearest-halves.Post
+    far-in = right-in .before .before .before
 
-nearest-slots-returns : (t : ℕ) → nearest-slots-lts.Need-returns (nearest-slots-callees t) (nearest-slots-at t) nearest-slots.Post
-unfolding toQuery
-nearest-slots-returns t c =
-    let m = c .before .before .before in
-    let own = m .before .before .before in
-    let d = own .before .before .before in
-    let s = d .before .before .before .before in
-    let a = s .args in
-    tree-leave (distanceAsked (a .asked .now)) (queryAsked (a .asked .now)) (reportsAsked (a .asked .now)) (kAsked (a .asked .now)) (short (a .asked .now)) (a .slots .now) (s .pre .1 .0) (s .pre .1 .1) (d .distance-between .result) (d .distance-between .ensures) (own .take-in .ensures)
-    (m .threshold-of .result) (m .threshold-of .ensures) _ _ (c .before .nearest-halves .ensures)
+    abbrev far-start : Begins
+    far-start = far-in .before
 
-nearest-tree-add-t9 : (t : ℕ) → nearest-tree-lts.Need-add-t9 (nearest-tree-callees t) (nearest-tree-at t) nearest-tree.Post
-nearest-tree-add-t9 t c =
-    let call = c .before in
-    let s = call .before in
-    let a = s .args in
-    omega (arith, passed-most (distanceAsked (a .asked .now)) (queryAsked (a .asked .now)) (reportsAsked (a .asked .now)) (a .near .bound) (a .slots .now) (call .passed-over .result) (call .passed-over .ensures), s .pre .1 .1 .counts)
+  nearest-halves-nearest-tree-requires-4 : nearest-halves-lts.Need-nearest-tree-requires-4 (nearest-halves-callees t) (nearest-halves-at t) nearest-halves.Post
+  nearest-halves-nearest-tree-requires-4 c κs =
+      let side : RightVisited = search in
+      let s = far-start side in
+      let a = s .args in
+      (omega (arith, s .pre .0, left-size s, s .pre .1 .0), (omega (arith, left-size s, s .pre .1 .0), then-ready (asked s) (rightHalf (rest s)) (leftHalf (rest s)) (a .d) (a .m) (s .fits .d .fits) (far-ready s) (right-in side .nearest-tree3 .ensures)))
 
-nearest-tree-returns : (t : ℕ) → nearest-tree-lts.Need-returns (nearest-tree-callees t) (nearest-tree-at t) nearest-tree.Post
-nearest-tree-returns t c =
-    let call = c .before in
-    let s = call .before in
-    let a = s .args in
-    let passed = call .passed-over .ensures (omega (arith, c .if1 .taken)) in
-    passed-leaves (distanceAsked (a .asked .now)) (queryAsked (a .asked .now)) (reportsAsked (a .asked .now)) (kAsked (a .asked .now)) (short (a .asked .now)) (a .slots .now) (s .pre .1 .0) (s .pre .1 .1) (call .passed-over .result) (passed .0) (passed .1)
+  nearest-halves-same-length-3 : nearest-halves-lts.Need-same-length-3 (nearest-halves-callees t) (nearest-halves-at t) nearest-halves.Post
+  nearest-halves-same-length-3 c = let side : RightVisited = search in c .before .nearest-tree4 .kept .1 .1 .0 ∙ right-in side .nearest-tree3 .kept .1 .1 .0
 
-nearest-tree-nearest-slots-requires : (t : ℕ) → nearest-tree-lts.Need-nearest-slots-requires (nearest-tree-callees t) (nearest-tree-at t) nearest-tree.Post
-nearest-tree-nearest-slots-requires t c κs = let s = c .before .before .before in (omega (arith, s .pre .0), s .pre .1)
+  nearest-halves-returns-3 : nearest-halves-lts.Need-returns-3 (nearest-halves-callees t) (nearest-halves-at t) nearest-halves.Post
+  nearest-halves-returns-3 c =
+      let open′ : nearest-halves-lts.Then3 (nearest-halves-callees t) (nearest-halves-at t) nearest-halves.Post = search in
+      let side = open′ .before in
+      let s = far-start side in
+      let a = s .args in
+      halves-right-first s (far-in side .if1 .left)
+      (then-within (asked s) (rightHalf (rest s)) (leftHalf (rest s)) (a .d) (a .m) (s .fits .d .fits) (far-ready s) (right-in side .nearest-tree3 .ensures) (open′ .if3 .taken) (c .before .nearest-tree4 .ensures))
 
-nearest-tree-same-length : (t : ℕ) → nearest-tree-lts.Need-same-length (nearest-tree-callees t) (nearest-tree-at t) nearest-tree.Post
-nearest-tree-same-length t c = c .before .nearest-slots .kept .1 .1 .0
+  nearest-halves-returns-4 : nearest-halves-lts.Need-returns-4 (nearest-halves-callees t) (nearest-halves-at t) nearest-halves.Post
+  nearest-halves-returns-4 c =
+      let side = c .before in
+      let s = far-start side in
+      let a = s .args in
+      halves-right-first s (far-in side .if1 .left)
+      (then-far (asked s) (rightHalf (rest s)) (leftHalf (rest s)) (a .d) (a .m) (s .fits .d .fits) (far-ready s) (right-in side .nearest-tree3 .ensures) (c .if3 .left))
 
-nearest-tree-returns-2 : (t : ℕ) → nearest-tree-lts.Need-returns-2 (nearest-tree-callees t) (nearest-tree-at t) nearest-tree.Post
-nearest-tree-returns-2 t c = c .before .nearest-slots .ensures
+  -- the states of a walk of eight slots or more
+  abbrev SlotsStart : Type 0
+  SlotsStart = nearest-slots-lts.Start (nearest-slots-callees t) (nearest-slots-at t) nearest-slots.Post
+
+  abbrev Measured : Type 0
+  Measured = nearest-slots-lts.After-distance-between (nearest-slots-callees t) (nearest-slots-at t) nearest-slots.Post
+
+  abbrev Taken : Type 0
+  Taken = nearest-slots-lts.After-take-in (nearest-slots-callees t) (nearest-slots-at t) nearest-slots.Post
+
+  nearest-slots-take-in-requires : nearest-slots-lts.Need-take-in-requires (nearest-slots-callees t) (nearest-slots-at t) nearest-slots.Post
+  nearest-slots-take-in-requires c κs =
+      let s : SlotsStart = search in
+      let d : Measured = search in
+      let a = s .args in
+      (omega (arith, d .distance-between .ok), ready-less (omega (arith, first-reported (reportsAsked (a .asked .now)) (a .slots .now) (omega (arith, s .pre .1 .0)))) (omega (arith, s .pre .1 .0)) (s .pre .1 .1))
+
+  nearest-slots-nearest-halves-requires : nearest-slots-lts.Need-nearest-halves-requires (nearest-slots-callees t) (nearest-slots-at t) nearest-slots.Post
+  unfolding toQuery
+  nearest-slots-nearest-halves-requires c κs =
+      let s : SlotsStart = search in
+      let d : Measured = search in
+      let own : Taken = search in
+      let a = s .args in
+      let size : length (take (length (a .slots .now) - 1) (drop 1 (a .slots .now))) ≡ length (a .slots .now) - 1 = simp (length-take, length-drop) (omega arith) in (
+        omega (arith, s .pre .0, s .pre .1 .0, size),
+        (
+          omega (arith, size, s .pre .1 .0),
+          tree-ready (distanceAsked (a .asked .now)) (queryAsked (a .asked .now)) (reportsAsked (a .asked .now)) (kAsked (a .asked .now)) (short (a .asked .now)) (a .slots .now) (omega (arith, s .pre .1 .0)) (s .pre .1 .1) (d .distance-between .result) (d .distance-between .ensures) (own .take-in .ensures),
+        ),
+      )
+
+  nearest-slots-same-length : nearest-slots-lts.Need-same-length (nearest-slots-callees t) (nearest-slots-at t) nearest-slots.Post
+  nearest-slots-same-length c = let own : Taken = search in c .before .nearest-halves .kept .1 .1 .1 .1 .0 ∙ own .take-in .kept .1 .1 .1 .1 .0
+
+  nearest-slots-returns : nearest-slots-lts.Need-returns (nearest-slots-callees t) (nearest-slots-at t) nearest-slots.Post
+  unfolding toQuery
+  nearest-slots-returns c =
+      let s : SlotsStart = search in
+      let d : Measured = search in
+      let own : Taken = search in
+      let m : nearest-slots-lts.After-threshold-of (nearest-slots-callees t) (nearest-slots-at t) nearest-slots.Post = search in
+      let a = s .args in
+      tree-leave (distanceAsked (a .asked .now)) (queryAsked (a .asked .now)) (reportsAsked (a .asked .now)) (kAsked (a .asked .now)) (short (a .asked .now)) (a .slots .now) (omega (arith, s .pre .1 .0)) (s .pre .1 .1) (d .distance-between .result) (d .distance-between .ensures) (own .take-in .ensures)
+      (m .threshold-of .result) (m .threshold-of .ensures) _ _ (c .before .nearest-halves .ensures)
+
+  nearest-tree-nearest-leaf-requires : nearest-tree-lts.Need-nearest-leaf-requires (nearest-tree-callees t) (nearest-tree-at t) nearest-tree.Post
+  nearest-tree-nearest-leaf-requires c κs =
+      let s : nearest-tree-lts.Start (nearest-tree-callees t) (nearest-tree-at t) nearest-tree.Post = search in
+      let few : nearest-tree-lts.Then1 (nearest-tree-callees t) (nearest-tree-at t) nearest-tree.Post = search in
+      (s .pre .1 .0, few .if1 .taken, s .pre .1 .1)
+
+  nearest-tree-nearest-slots-requires : nearest-tree-lts.Need-nearest-slots-requires (nearest-tree-callees t) (nearest-tree-at t) nearest-tree.Post
+  nearest-tree-nearest-slots-requires c κs =
+      let s : nearest-tree-lts.Start (nearest-tree-callees t) (nearest-tree-at t) nearest-tree.Post = search in
+      let many : nearest-tree-lts.Else1 (nearest-tree-callees t) (nearest-tree-at t) nearest-tree.Post = search in
+      (omega (arith, s .pre .0), (omega (arith, many .if1 .left), s .pre .1 .1))
 
 pub +nearest-halves+nearest-slots+nearest-tree-spec : {M : Type 1} → statement M
 +nearest-halves+nearest-slots+nearest-tree-spec =
     close μ-nearest-halves μ-nearest-slots μ-nearest-tree (λ t. nearest-halves-lts.spec (nearest-halves-callees t) (nearest-halves-at t)
     nearest-halves.Post
-    (nearest-halves-returns t)
     (λ c. search needs)
     (λ c. simp length-take (omega arith))
     (nearest-halves-nearest-tree-requires t)
-    (λ c κs. search needs) (λ c. search needs) (λ c. search needs) (λ c. search needs) (λ c. search needs)
+    (λ c. search needs) (λ c. search needs) (λ c. search needs) (λ c. search needs) (λ c. search needs)
     (nearest-halves-nearest-tree-requires-2 t)
     (λ c. search needs) (λ c. search needs) (λ c. search needs) (λ c. search needs)
     (nearest-halves-nearest-tree-requires-3 t)
-    (λ c κs. search needs)
+    (λ c. search needs) (λ c. search needs)
     (λ c. simp length-take (omega arith))
     (nearest-halves-nearest-tree-requires-4 t)
     (nearest-halves-same-length t)
+    (nearest-halves-returns t)
+    (λ c. left-in t (c .before) .nearest-tree .kept .1 .1 .0)
     (nearest-halves-returns-2 t)
-    (nearest-halves-same-length-2 t)
-    (nearest-halves-returns-3 t)
     (nearest-halves-same-length-3 t)
-    (nearest-halves-returns-4 t)
-    (λ c. right-length t (c .before .before .before))
-    (nearest-halves-returns-5 t))
+    (nearest-halves-returns-3 t)
+    (λ c. right-in t (c .before) .nearest-tree3 .kept .1 .1 .0)
+    (nearest-halves-returns-4 t))
     (λ t. nearest-slots-lts.spec (nearest-slots-callees t) (nearest-slots-at t)
     nearest-slots.Post
-    (λ c. search needs) (λ c. search needs) (λ c. search needs) (λ c κs. search needs) (λ c. search needs)
+    (λ c. let s : SlotsStart t = search in omega (arith, s .pre .1 .0))
+    (λ c. search needs) (λ c. search needs) (λ c κs. search needs) (λ c. search needs) (λ c. search needs)
     (nearest-slots-take-in-requires t)
-    (λ c. search needs) (λ c. search needs) (λ c. search needs) (λ c κs. search needs)
+    (λ c. search needs) (λ c. search needs) (λ c. search needs)
+    (λ c κs. search needs)
     (nearest-slots-nearest-halves-requires t)
     (nearest-slots-same-length t)
     (nearest-slots-returns t))
     λ t. nearest-tree-lts.spec (nearest-tree-callees t) (nearest-tree-at t)
     nearest-tree.Post
-    (λ c κs. search needs)
-    (nearest-tree-add-t9 t)
-    (nearest-tree-returns t)
+    (nearest-tree-nearest-leaf-requires t)
+    (λ c. c .before .nearest-leaf .kept .1 .1 .0)
+    (λ c. c .before .nearest-leaf .ensures)
     (nearest-tree-nearest-slots-requires t)
-    (nearest-tree-same-length t)
-    (nearest-tree-returns-2 t)
+    (λ c. c .before .nearest-slots .kept .1 .1 .0)
+    (λ c. c .before .nearest-slots .ensures)

@@ -1,6 +1,7 @@
--- `tree_nearest_tally::visited` meets its contract: a walk of its MIR, by hand. The tally that came by value lies in a local, which is lent to `visit` for a lifetime that the walk
--- makes; the lifetime is ended, and the local, back at the tally that `visit` left there, is copied out (`walks`, `Lending`).
--- All that the proof knows of `visit` is that it meets its contract.
+-- `tree_nearest_tally::visited` meets its contract: a walk of its MIR, by hand. The tally that came by value lies in a
+-- local, which is lent to `visit` for a lifetime that the walk makes; the lifetime is ended, and the local, back at the
+-- tally that `visit` left there, is copied out (`walks`, `Lending`). All that the proof knows of `visit` is that it
+-- meets its contract.
 use mathlib.Core.Path.{_≡_, refl, sym, ap, subst}
 use Prim.Native.Nat.{ℕ, _<_}
 use mathlib.Core.List.{[], _∷_, List}
@@ -19,9 +20,11 @@ use ghost.Atoms.{Atoms}
 use contract.Lifetimes.{Lfts, Shares}
 use contract.Monad.{Fun, fact}
 use contract.Running.{givenOf, tables, tablesOf}
-use types.Kit.{Given, ‵, raw, some, later, _⊛_, ⋆, _$_, _∵_, !, qed, by, move, keep, drop, use1, use2, use3, split, join, pick, fsplit, fjoin, feqL, suffices, frame, await, done}
+use types.Kit.{Given, ‵, raw, some, later, _⊛_, ⋆, _$_, _∵_, !, qed, by, move, keep, drop, use1, use2, use3, split, join, pick, fsplit, fjoin, feqL, suffices}
+use types.Kit.{frame, await, done}
 use types.Part.{agg, whole, sub, look-in}
-use types.Run.{look, init, forget, stop, hop, fld, from, load, addr, of-opd, and-then, no-more, assigns, land, returns, enter, alloc1, alloc0, params1, pass1, pass0, free1, free0}
+use types.Run.{look, init, forget, stop, hop, fld, from, load, addr, of-opd, and-then, no-more, assigns, land, returns, enter, alloc1, alloc0, params1, pass1}
+use types.Run.{pass0, free1, free0}
 use types.SemTy.{Body}
 use types.Tokens.{lft-new, lft-end}
 use sound.WpLaws.{FmC, fmOf, WpFn-mono}

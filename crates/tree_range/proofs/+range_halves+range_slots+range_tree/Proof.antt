@@ -1,24 +1,22 @@
--- A slot's visit and its halves' add up to the tree's, and the two halves' turns to the halves', and no slots give nothing.
--- Slots that are passed over have no hit. The measures are three times the slots' number, one more for the tree, and two more for the halves.
+-- A slot's visit and its halves' add up to the tree's, and the two halves' turns to the halves', and no slots give
+-- nothing. Seven slots or fewer are the leaf's. The measures are three times the slots' number, one more for the tree,
+-- and two more for the halves.
 use mathlib.Core.Path.{_≡_, refl, sym, ap, _∙_}
 use mathlib.Core.Logic.{⊎-elim}
 use mathlib.Core.List.{List, []}
-use mathlib.Core.Bool.{Bool, true, false, _&&_}
-use borrow.Author.Tests.{ltb-false}
-use lib.Dec.{leb, ltb}
-use Rattle.lists.proofs.Tests.{and-second}
+use borrow.Author.Tests.{le-leb, lt-leb}
+use lib.Dec.{leb}
 use Rattle.tree_rules.proofs.Parts.{left-size, part-rest}
 use Rattle.metric_rules.specs.Row.{Row}
 use Rattle.tree_rules.specs.Layout.{leftSize}
-use Rattle.search_rules.specs.Range.{Met, nothing, entersLeft, entersRight, toQuery}
+use Rattle.search_rules.specs.Range.{Entry, Met, nothing, entersLeft, entersRight, toQuery}
 use Rattle.search_rules.proofs.RangeLaws.{ifEntered, range-count-le, range-hits-le}
-use Rattle.search_rules.proofs.Beyond.{range-beyond}
-use Rattle.tree_few.proofs.Few.{passed-most}
 use Rattle.tree_range.specs.declared.Found.{Found}
 use Rattle.search_asked.specs.Asked.{distanceAsked, queryAsked, reportsAsked, radiusAsked}
-use Rattle.tree_range.specs.Collected.{foundAfter, collected, metInHalves, rangeAsked}
-use Rattle.tree_range.proofs.Collecting.{tree-empty, empty-half, entered, skipped, half-found, found-nothing, collected-nothing, found-without-hits, collected-without-hits, collected-length, alone-found, two-steps, tree-visit}
-use Prim.Native.Nat.{ℕ, suc, _+_, _-_, _*_, _/_, _^_, _<_}
+use Rattle.tree_range.specs.Collected.{Room, foundAfter, metInHalves, rangeAsked}
+use Rattle.tree_range.proofs.Collecting.{tree-empty, entered, skipped, half-found, collected-length, alone-found, two-steps, tree-visit}
+use Rattle.tree_range.proofs.Leaves.{Leaves, leaves-as, leaves-nothing}
+use Prim.Native.Nat.{ℕ, suc, _+_, _-_, _*_, _/_, _≤_, _<_}
 use native.Mathlib.Omega.{arith}
 use borrow.Author.Needs.{needs}
 use lib.ListN.{length, take, drop, getD, length-take, length-drop}
@@ -37,7 +35,7 @@ use Rattle.tree_range.proofs.+range_halves+range_slots+range_tree.Lts-r
 use Rattle.metric.proofs.distance_between.Reads as distance-between-reads
 use Rattle.rows.proofs.threshold_of.Reads as threshold-of-reads
 use Rattle.tree_range.proofs.meet.Reads as meet-reads
-use Rattle.tree_range.proofs.no_hit_among.Reads as no-hit-among-reads
+use Rattle.tree_range.proofs.range_leaf.Reads as range-leaf-reads
 use Rattle.tree_range.proofs.+range_halves+range_slots+range_tree.{statement}
 use Rattle.tree_range.proofs.+range_halves+range_slots+range_tree.Tie.{close}
 
@@ -85,7 +83,7 @@ abbrev range-slots-callees : ℕ → range-slots-lts.Claims
 range-slots-callees t = (distance-between-reads.Asked, distance-between-reads.Learnt, meet-reads.Asked, meet-reads.Learnt, threshold-of-reads.Asked, threshold-of-reads.Learnt, range-halves-below t, range-halves.Post)
 
 abbrev range-tree-callees : ℕ → range-tree-lts.Claims
-range-tree-callees t = (no-hit-among-reads.Asked, no-hit-among-reads.Learnt, range-slots-below t, range-slots.Post)
+range-tree-callees t = (range-leaf-reads.Asked, range-leaf-reads.Learnt, range-slots-below t, range-slots.Post)
 
 -- what the left half gives, and what the right half gives
 abbrev leftMet : List Row → ℕ → ℕ → List Row → Met
@@ -96,189 +94,176 @@ rightMet asked d m rest = ifEntered (entersRight d m (radiusAsked asked)) (range
 
 -- r is the radius as the code has it
 module _ (asked : List Row) (r d m : ℕ) (rest : List Row) (q : r ≡ radiusAsked asked) where
-  left-entered : ltb 0 (length rest - length rest / 2) && leb d (m + r) ≡ true → rangeAsked asked (take (length rest - length rest / 2) rest) ≡ leftMet asked d m rest
+  left-entered : d ≤ m + r → rangeAsked asked (take (length rest - length rest / 2) rest) ≡ leftMet asked d m rest
   unfolding entersLeft
   left-entered h =
       ap (λ (l : ℕ). rangeAsked asked (take l rest)) (left-size (length rest))
-      ∙ sym (entered (leb d (m + radiusAsked asked)) _ (ap (λ (x : ℕ). leb d (m + x)) (sym q) ∙ and-second (ltb 0 (length rest - length rest / 2)) (leb d (m + r)) h))
+      ∙ sym (entered (leb d (m + radiusAsked asked)) _ (le-leb d (m + radiusAsked asked) (omega (arith, h, q))))
 
-  left-skipped : ltb 0 (length rest - length rest / 2) && leb d (m + r) ≡ false → nothing ≡ leftMet asked d m rest
+  left-skipped : m + r < d → nothing ≡ leftMet asked d m rest
   unfolding entersLeft
-  left-skipped h = go (ltb 0 (length rest - length rest / 2)) refl h
-    where
-      go : (b : Bool) → ltb 0 (length rest - length rest / 2) ≡ b → b && leb d (m + r) ≡ false → nothing ≡ leftMet asked d m rest
-      go true e f = sym (skipped (leb d (m + radiusAsked asked)) _ (ap (λ (x : ℕ). leb d (m + x)) (sym q) ∙ f))
-      go false e f = sym (empty-half (distanceAsked asked) (queryAsked asked) (reportsAsked asked) (radiusAsked asked) (leb d (m + radiusAsked asked)) (take (leftSize (suc (length rest))) rest) (rw length-take (omega (arith, ltb-false 0 (length rest - length rest / 2) e, left-size (length rest)))))
+  left-skipped h = sym (skipped (leb d (m + radiusAsked asked)) _ (lt-leb d (m + radiusAsked asked) (omega (arith, h, q))))
 
-  right-entered : ltb (length rest - length rest / 2) (length rest) && leb m (d + r) ≡ true
-      → rangeAsked asked (take (length rest - (length rest - length rest / 2)) (drop (length rest - length rest / 2) rest)) ≡ rightMet asked d m rest
+  right-entered : m ≤ d + r → rangeAsked asked (take (length rest - (length rest - length rest / 2)) (drop (length rest - length rest / 2) rest)) ≡ rightMet asked d m rest
   unfolding entersRight
   right-entered h =
       ap (rangeAsked asked) (part-rest (length rest - length rest / 2) rest ∙ ap (λ (l : ℕ). drop l rest) (left-size (length rest)))
-      ∙ sym (entered (leb m (d + radiusAsked asked)) _ (ap (λ (x : ℕ). leb m (d + x)) (sym q) ∙ and-second (ltb (length rest - length rest / 2) (length rest)) (leb m (d + r)) h))
+      ∙ sym (entered (leb m (d + radiusAsked asked)) _ (le-leb m (d + radiusAsked asked) (omega (arith, h, q))))
 
-  right-skipped : ltb (length rest - length rest / 2) (length rest) && leb m (d + r) ≡ false → nothing ≡ rightMet asked d m rest
+  right-skipped : d + r < m → nothing ≡ rightMet asked d m rest
   unfolding entersRight
-  right-skipped h = go (ltb (length rest - length rest / 2) (length rest)) refl h
-    where
-      go : (b : Bool) → ltb (length rest - length rest / 2) (length rest) ≡ b → b && leb m (d + r) ≡ false → nothing ≡ rightMet asked d m rest
-      go true e f = sym (skipped (leb m (d + radiusAsked asked)) _ (ap (λ (x : ℕ). leb m (d + x)) (sym q) ∙ f))
-      go false e f = sym (empty-half (distanceAsked asked) (queryAsked asked) (reportsAsked asked) (radiusAsked asked) (leb m (d + radiusAsked asked)) (drop (leftSize (suc (length rest))) rest) (rw length-drop (omega (arith, ltb-false (length rest - length rest / 2) (length rest) e, left-size (length rest)))))
+  right-skipped h = sym (skipped (leb m (d + radiusAsked asked)) _ (lt-leb m (d + radiusAsked asked) (omega (arith, h, q))))
 
 -- the numbers that the left half's turn leaves have room for the right half
-left-leaves : (asked : List Row) (d m : ℕ) (rest : List Row) (f met : Found) → met ≡ foundAfter f (leftMet asked d m rest)
-    → f .hits + length rest < 2 ^ 32 → f .count + length rest < 2 ^ 32
-    → (met .hits + length (take (length rest - (length rest - length rest / 2)) (drop (length rest - length rest / 2) rest)) < 2 ^ 32)
-    × (met .count + length (take (length rest - (length rest - length rest / 2)) (drop (length rest - length rest / 2) rest)) < 2 ^ 32)
-left-leaves asked d m rest f met e p q =
+left-leaves : (asked : List Row) (d m : ℕ) (rest : List Row) (f met : Found) → met ≡ foundAfter f (leftMet asked d m rest) → Room f (length rest)
+    → Room met (length (take (length rest - (length rest - length rest / 2)) (drop (length rest - length rest / 2) rest)))
+left-leaves asked d m rest f met e room =
     let left = take (leftSize (suc (length rest))) rest in
     let size : length left ≡ length rest - length rest / 2 = ap (λ (l : ℕ). length (take l rest)) (sym (left-size (length rest))) ∙ length-take-le (length rest - length rest / 2) rest (omega arith) in
     let few =
-    half-found f (entersLeft d m (radiusAsked asked)) (rangeAsked asked left) (length left) (length rest / 2) (range-hits-le (distanceAsked asked) (queryAsked asked) (reportsAsked asked) (radiusAsked asked) left) (range-count-le (distanceAsked asked) (queryAsked asked) (reportsAsked asked) (radiusAsked asked) left) (omega arith) (omega arith)
+    half-found f (entersLeft d m (radiusAsked asked)) (rangeAsked asked left) (length left) (length rest / 2) (range-hits-le (distanceAsked asked) (queryAsked asked) (reportsAsked asked) (radiusAsked asked) left) (range-count-le (distanceAsked asked) (queryAsked asked) (reportsAsked asked) (radiusAsked asked) left) (omega (arith, room .0)) (omega (arith, room .1))
     in
     let far : length (take (length rest - (length rest - length rest / 2)) (drop (length rest - length rest / 2) rest)) ≡ length rest / 2 = simp (length-take, length-drop) (omega arith) in
     (omega (arith, few .0, ap (λ (g : Found). g .hits) e), omega (arith, few .1, ap (λ (g : Found). g .count) e))
 
--- what the left half's turn leaves
-after-left : (t : ℕ) (c : range-halves-lts.Joined1 (range-halves-callees t) (range-halves-at t) range-halves.Post) → let a = c .before .before .before .args in
-    (c .if1 .met ≡ foundAfter (a .found) (leftMet (a .asked .now) (a .d) (a .m) (a .rest .now)))
-    × (c .if1 .area ≡ collected (a .area .now) (a .found) (leftMet (a .asked .now) (a .d) (a .m) (a .rest .now)))
-after-left t c =
-    let a = c .before .before .before .args in
-    let r = c .before .threshold-of in
-    ⊎-elim
-    (λ w.
-    let e = left-entered (a .asked .now) (r .result) (a .d) (a .m) (a .rest .now) (r .ensures) (w .0 .taken) in
-    (w .6 ∙ w .3 .ensures .0 ∙ ap (foundAfter (a .found)) e, w .5 ∙ w .3 .ensures .1 ∙ ap (collected (a .area .now) (a .found)) e))
-    (λ w.
-    let e = left-skipped (a .asked .now) (r .result) (a .d) (a .m) (a .rest .now) (r .ensures) (w .0 .left) in (
-      w .2 ∙ sym (found-nothing (a .found)) ∙ ap (foundAfter (a .found)) e,
-      w .1 ∙ sym (collected-nothing (a .area .now) (a .found)) ∙ ap (collected (a .area .now) (a .found)) e,
-    ))
-    (c .if1 .came)
+module _ (t : ℕ) where
+  -- the states of the three walks
+  abbrev HalvesStart : Type 0
+  HalvesStart = range-halves-lts.Start (range-halves-callees t) (range-halves-at t) range-halves.Post
 
-left-length : (t : ℕ) (c : range-halves-lts.Joined1 (range-halves-callees t) (range-halves-at t) range-halves.Post) → length (c .if1 .area) ≡ length (c .before .before .before .args .area .now)
-left-length t c = ap length (after-left t c .1) ∙ collected-length (c .before .before .before .args .area .now) (c .before .before .before .args .found) _
+  abbrev HalvesJoined : Type 0
+  HalvesJoined = range-halves-lts.Joined1 (range-halves-callees t) (range-halves-at t) range-halves.Post
 
-range-halves-slice-aggregate-range-tree :
-    (t : ℕ) → range-halves-lts.Need-slice-aggregate-range-tree (range-halves-callees t) (range-halves-at t) range-halves.Post
-range-halves-slice-aggregate-range-tree t c = simp length-take (omega arith)
+  abbrev SlotsStart : Type 0
+  SlotsStart = range-slots-lts.Start (range-slots-callees t) (range-slots-at t) range-slots.Post
 
-range-halves-range-tree-requires : (t : ℕ) → range-halves-lts.Need-range-tree-requires (range-halves-callees t) (range-halves-at t) range-halves.Post
-range-halves-range-tree-requires t c κs =
-    let start = c .before .before .before .before .before in
-    (simp length-take (omega (arith, start .pre .0)), (simp length-take (omega (arith, start .pre .1 .0)), simp length-take (omega (arith, start .pre .1 .1))))
+  abbrev SlotsMeasured : Type 0
+  SlotsMeasured = range-slots-lts.After-distance-between (range-slots-callees t) (range-slots-at t) range-slots.Post
 
-range-halves-range-tree-requires-2 : (t : ℕ) → range-halves-lts.Need-range-tree-requires-2 (range-halves-callees t) (range-halves-at t) range-halves.Post
-range-halves-range-tree-requires-2 t c κs =
-    let joined = c .before .before .before in
-    let start = joined .before .before .before in
-    let a = start .args in (
-      simp (length-take, length-drop) (omega (arith, start .pre .0)),
-      left-leaves (a .asked .now) (a .d) (a .m) (a .rest .now) (a .found) (joined .if1 .met) (after-left t joined .0) (start .pre .1 .0) (start .pre .1 .1),
-    )
+  abbrev SlotsMet : Type 0
+  SlotsMet = range-slots-lts.After-meet (range-slots-callees t) (range-slots-at t) range-slots.Post
 
-range-halves-same-length : (t : ℕ) → range-halves-lts.Need-same-length (range-halves-callees t) (range-halves-at t) range-halves.Post
-range-halves-same-length t c = c .before .range-tree2 .kept .1 .1 .0 ∙ left-length t (c .before .before .before .before .before)
+  abbrev SlotsThreshold : Type 0
+  SlotsThreshold = range-slots-lts.After-threshold-of (range-slots-callees t) (range-slots-at t) range-slots.Post
 
-range-halves-returns : (t : ℕ) → range-halves-lts.Need-returns (range-halves-callees t) (range-halves-at t) range-halves.Post
-unfolding metInHalves ifEntered
-range-halves-returns t c =
-    let j = c .before .before .before .before .before in
-    let a = j .before .before .before .args in
-    let r = j .before .threshold-of in
-    let left = leftMet (a .asked .now) (a .d) (a .m) (a .rest .now) in
-    let right = rightMet (a .asked .now) (a .d) (a .m) (a .rest .now) in
-    let e = right-entered (a .asked .now) (r .result) (a .d) (a .m) (a .rest .now) (r .ensures) (c .before .before .before .before .if2 .taken) in
-    two-steps (a .found) (a .area .now) left right (j .if1 .met) (j .if1 .area) (after-left t j .0) (after-left t j .1) _ _
-    (c .before .range-tree2 .ensures .0 ∙ ap (foundAfter (j .if1 .met)) e)
-    (c .before .range-tree2 .ensures .1 ∙ ap (collected (j .if1 .area) (j .if1 .met)) e)
+  abbrev TreeStart : Type 0
+  TreeStart = range-tree-lts.Start (range-tree-callees t) (range-tree-at t) range-tree.Post
 
-range-halves-returns-2 : (t : ℕ) → range-halves-lts.Need-returns-2 (range-halves-callees t) (range-halves-at t) range-halves.Post
-unfolding metInHalves ifEntered
-range-halves-returns-2 t c =
-    let j = c .before in
-    let a = j .before .before .before .args in
-    let r = j .before .threshold-of in
-    let left = leftMet (a .asked .now) (a .d) (a .m) (a .rest .now) in
-    let right = rightMet (a .asked .now) (a .d) (a .m) (a .rest .now) in
-    let e = right-skipped (a .asked .now) (r .result) (a .d) (a .m) (a .rest .now) (r .ensures) (c .if2 .left) in
-    two-steps (a .found) (a .area .now) left right (j .if1 .met) (j .if1 .area) (after-left t j .0) (after-left t j .1) _ _
-    (sym (found-nothing (j .if1 .met)) ∙ ap (foundAfter (j .if1 .met)) e)
-    (sym (collected-nothing (j .if1 .area) (j .if1 .met)) ∙ ap (collected (j .if1 .area) (j .if1 .met)) e)
+  abbrev TreeSome : Type 0
+  TreeSome = range-tree-lts.Else1 (range-tree-callees t) (range-tree-at t) range-tree.Post
 
-range-slots-returns : (t : ℕ) → range-slots-lts.Need-returns (range-slots-callees t) (range-slots-at t) range-slots.Post
-range-slots-returns t c =
-    let a = c .before .args in
-    let none = tree-empty (distanceAsked (a .asked .now)) (queryAsked (a .asked .now)) (reportsAsked (a .asked .now)) (radiusAsked (a .asked .now)) (a .slots .now) (c .if1 .taken) in (
-      sym (ap (foundAfter (a .found)) none ∙ found-nothing (a .found)),
-      sym (ap (collected (a .area .now) (a .found)) none ∙ collected-nothing (a .area .now) (a .found)),
-    )
+  -- what the left half's turn leaves
+  abbrev halves-start : HalvesJoined → HalvesStart
+  halves-start c = c .before .before .before
 
-range-slots-range-halves-requires : (t : ℕ) → range-slots-lts.Need-range-halves-requires (range-slots-callees t) (range-slots-at t) range-slots.Post
-range-slots-range-halves-requires t c κs =
-    let met = c .before .before .before .before in
-    let d = met .before .before .before in
-    let start = d .before .before .before .before .before in
-    let a = start .args in
-    let n = length (a .slots .now) in
-    let few = alone-found (reportsAsked (a .asked .now)) (a .found) (getD (a .slots .now) 0 []) (d .distance-between .result) (radiusAsked (a .asked .now)) n (search needs) (start .pre .1 .0) (start .pre .1 .1) in
-    let size : length (take (n - 1) (drop 1 (a .slots .now))) ≡ n - 1 = simp (length-take, length-drop) (omega arith) in (
-      omega (arith, start .pre .0, size),
-      (omega (arith, size, few .0, ap (λ (g : Found). g .hits) (met .meet .ensures .0)), omega (arith, size, few .1, ap (λ (g : Found). g .count) (met .meet .ensures .0))),
-    )
+  after-left : (c : HalvesJoined) → (let a = halves-start c .args in Leaves (a .found) (a .area .now) (leftMet (a .asked .now) (a .d) (a .m) (a .rest .now)) (c .if1 .met) (c .if1 .area))
+  after-left c =
+      let a = halves-start c .args in
+      let r = c .before .threshold-of in
+      ⊎-elim
+      (λ w. leaves-as (a .found) (a .area .now) (left-entered (a .asked .now) (r .result) (a .d) (a .m) (a .rest .now) (r .ensures) (w .0 .taken)) (w .6 ∙ w .3 .ensures .0, w .5 ∙ w .3 .ensures .1))
+      (λ w. leaves-as (a .found) (a .area .now) (left-skipped (a .asked .now) (r .result) (a .d) (a .m) (a .rest .now) (r .ensures) (w .0 .left)) (leaves-nothing (a .found) (a .area .now) (w .2) (w .1)))
+      (c .if1 .came)
 
-range-slots-same-length : (t : ℕ) → range-slots-lts.Need-same-length (range-slots-callees t) (range-slots-at t) range-slots.Post
-range-slots-same-length t c = c .before .range-halves .kept .1 .1 .1 .1 .0 ∙ c .before .before .before .before .before .before .meet .kept .1 .1 .1 .1 .0
+  left-length : (c : HalvesJoined) → length (c .if1 .area) ≡ length (halves-start c .args .area .now)
+  left-length c = ap length (after-left c .1) ∙ collected-length (halves-start c .args .area .now) (halves-start c .args .found) _
 
-range-slots-returns-2 : (t : ℕ) → range-slots-lts.Need-returns-2 (range-slots-callees t) (range-slots-at t) range-slots.Post
-unfolding toQuery
-range-slots-returns-2 t c =
-    let m = c .before .before .before in
-    let met = m .before .before .before in
-    let d = met .before .before .before in
-    let a = d .before .before .before .before .before .args in
-    let halves = c .before .range-halves in
-    tree-visit (distanceAsked (a .asked .now)) (queryAsked (a .asked .now)) (reportsAsked (a .asked .now)) (radiusAsked (a .asked .now)) (a .slots .now) (a .found) (a .area .now)
-    (omega (arith, d .before .before .before .before .if1 .left))
-    (d .distance-between .result) (m .threshold-of .result) (d .distance-between .ensures) (m .threshold-of .ensures)
-    (met .meet .result) (met .meet .last .1 .1 .1 .1 .0)
-    (met .meet .ensures .0)
-    (met .meet .ensures .1)
-    (halves .result) (halves .last .1 .1 .1 .1 .0) (halves .ensures .0) (halves .ensures .1)
+  range-halves-range-tree-requires : range-halves-lts.Need-range-tree-requires (range-halves-callees t) (range-halves-at t) range-halves.Post
+  range-halves-range-tree-requires c κs =
+      let s : HalvesStart = search in
+      (simp length-take (omega (arith, s .pre .0)), (simp length-take (omega (arith, s .pre .1 .0)), simp length-take (omega (arith, s .pre .1 .1))))
 
-range-tree-no-hit-among-requires : (t : ℕ) → range-tree-lts.Need-no-hit-among-requires (range-tree-callees t) (range-tree-at t) range-tree.Post
-range-tree-no-hit-among-requires t c κs = omega (arith, c .pre .1 .0)
+  range-halves-range-tree-requires-2 : range-halves-lts.Need-range-tree-requires-2 (range-halves-callees t) (range-halves-at t) range-halves.Post
+  range-halves-range-tree-requires-2 c κs =
+      let joined : HalvesJoined = search in
+      let s = halves-start joined in
+      let a = s .args in
+      (simp (length-take, length-drop) (omega (arith, s .pre .0)), left-leaves (a .asked .now) (a .d) (a .m) (a .rest .now) (a .found) (joined .if1 .met) (after-left joined .0) (s .pre .1))
 
-range-tree-add-t9 : (t : ℕ) → range-tree-lts.Need-add-t9 (range-tree-callees t) (range-tree-at t) range-tree.Post
-range-tree-add-t9 t c =
-    let call = c .before in
-    let s = call .before in
-    let a = s .args in
-    omega (arith, passed-most (distanceAsked (a .asked .now)) (queryAsked (a .asked .now)) (reportsAsked (a .asked .now)) (radiusAsked (a .asked .now)) (a .slots .now) (call .no-hit-among .result) (call .no-hit-among .ensures), s .pre .1 .1)
+  range-halves-same-length : range-halves-lts.Need-same-length (range-halves-callees t) (range-halves-at t) range-halves.Post
+  range-halves-same-length c = let joined : HalvesJoined = search in c .before .range-tree2 .kept .1 .1 .0 ∙ left-length joined
 
-range-tree-returns : (t : ℕ) → range-tree-lts.Need-returns (range-tree-callees t) (range-tree-at t) range-tree.Post
-range-tree-returns t c =
-    let call = c .before in
-    let a = call .before .args in
-    let passed = call .no-hit-among .ensures (omega (arith, c .if1 .taken)) in
-    let none = range-beyond (distanceAsked (a .asked .now)) (queryAsked (a .asked .now)) (reportsAsked (a .asked .now)) (radiusAsked (a .asked .now)) (a .slots .now) (passed .0) in
-    (found-without-hits (a .found) (rangeAsked (a .asked .now) (a .slots .now)) (call .no-hit-among .result) none (passed .1), collected-without-hits (a .area .now) (a .found) (rangeAsked (a .asked .now) (a .slots .now)) none)
+  -- both halves' turns, the right one's having left this
+  after-right : (c : HalvesJoined) {r : Found} {last : List Entry}
+      → (let a = halves-start c .args in Leaves (c .if1 .met) (c .if1 .area) (rightMet (a .asked .now) (a .d) (a .m) (a .rest .now)) r last)
+      → (let a = halves-start c .args in Leaves (a .found) (a .area .now) (metInHalves (distanceAsked (a .asked .now)) (queryAsked (a .asked .now)) (reportsAsked (a .asked .now)) (radiusAsked (a .asked .now)) (a .d) (a .m) (a .rest .now)) r last)
+  unfolding metInHalves ifEntered
+  after-right c {r} {last} right =
+      let a = halves-start c .args in
+      two-steps (a .found) (a .area .now) (leftMet (a .asked .now) (a .d) (a .m) (a .rest .now)) (rightMet (a .asked .now) (a .d) (a .m) (a .rest .now)) (c .if1 .met) (c .if1 .area) (after-left c .0) (after-left c .1) r last (right .0) (right .1)
 
-range-tree-range-slots-requires : (t : ℕ) → range-tree-lts.Need-range-slots-requires (range-tree-callees t) (range-tree-at t) range-tree.Post
-range-tree-range-slots-requires t c κs = let s = c .before .before .before in (omega (arith, s .pre .0), s .pre .1)
+  range-halves-returns : range-halves-lts.Need-returns (range-halves-callees t) (range-halves-at t) range-halves.Post
+  range-halves-returns c =
+      let j : HalvesJoined = search in
+      let entered′ : range-halves-lts.Then2 (range-halves-callees t) (range-halves-at t) range-halves.Post = search in
+      let a = halves-start j .args in
+      let r = j .before .threshold-of in
+      after-right j (leaves-as (j .if1 .met) (j .if1 .area) (right-entered (a .asked .now) (r .result) (a .d) (a .m) (a .rest .now) (r .ensures) (entered′ .if2 .taken)) (c .before .range-tree2 .ensures))
 
-range-tree-same-length : (t : ℕ) → range-tree-lts.Need-same-length (range-tree-callees t) (range-tree-at t) range-tree.Post
-range-tree-same-length t c = c .before .range-slots .kept .1 .1 .0
+  range-halves-returns-2 : range-halves-lts.Need-returns-2 (range-halves-callees t) (range-halves-at t) range-halves.Post
+  range-halves-returns-2 c =
+      let j : HalvesJoined = search in
+      let a = halves-start j .args in
+      let r = j .before .threshold-of in
+      after-right j (leaves-as (j .if1 .met) (j .if1 .area) (right-skipped (a .asked .now) (r .result) (a .d) (a .m) (a .rest .now) (r .ensures) (c .if2 .left)) (leaves-nothing (j .if1 .met) (j .if1 .area) refl refl))
 
-range-tree-returns-2 : (t : ℕ) → range-tree-lts.Need-returns-2 (range-tree-callees t) (range-tree-at t) range-tree.Post
-range-tree-returns-2 t c = c .before .range-slots .ensures
+  range-slots-meet-requires : range-slots-lts.Need-meet-requires (range-slots-callees t) (range-slots-at t) range-slots.Post
+  range-slots-meet-requires c κs = let s : SlotsStart = search in (omega (arith, s .pre .1), omega (arith, s .pre .1))
+
+  range-slots-range-halves-requires : range-slots-lts.Need-range-halves-requires (range-slots-callees t) (range-slots-at t) range-slots.Post
+  range-slots-range-halves-requires c κs =
+      let s : SlotsStart = search in
+      let d : SlotsMeasured = search in
+      let met : SlotsMet = search in
+      let a = s .args in
+      let n = length (a .slots .now) in
+      let few = alone-found (reportsAsked (a .asked .now)) (a .found) (getD (a .slots .now) 0 []) (d .distance-between .result) (radiusAsked (a .asked .now)) n (s .pre .1 .0) (s .pre .1 .1 .0) (s .pre .1 .1 .1) in
+      let size : length (take (n - 1) (drop 1 (a .slots .now))) ≡ n - 1 = simp (length-take, length-drop) (omega arith) in (
+        omega (arith, s .pre .0, size, s .pre .1 .0),
+        (omega (arith, size, few .0, ap (λ (g : Found). g .hits) (met .meet .ensures .0)), omega (arith, size, few .1, ap (λ (g : Found). g .count) (met .meet .ensures .0))),
+      )
+
+  range-slots-same-length : range-slots-lts.Need-same-length (range-slots-callees t) (range-slots-at t) range-slots.Post
+  range-slots-same-length c = let met : SlotsMet = search in c .before .range-halves .kept .1 .1 .1 .1 .0 ∙ met .meet .kept .1 .1 .1 .1 .0
+
+  range-slots-returns : range-slots-lts.Need-returns (range-slots-callees t) (range-slots-at t) range-slots.Post
+  unfolding toQuery
+  range-slots-returns c =
+      let s : SlotsStart = search in
+      let d : SlotsMeasured = search in
+      let met : SlotsMet = search in
+      let m : SlotsThreshold = search in
+      let a = s .args in
+      let halves = c .before .range-halves in
+      tree-visit (distanceAsked (a .asked .now)) (queryAsked (a .asked .now)) (reportsAsked (a .asked .now)) (radiusAsked (a .asked .now)) (a .slots .now) (a .found) (a .area .now) (s .pre .1 .0)
+      (d .distance-between .result) (m .threshold-of .result) (d .distance-between .ensures) (m .threshold-of .ensures)
+      (met .meet .result) (met .meet .last .1 .1 .1 .1 .0) (met .meet .ensures .0) (met .meet .ensures .1)
+      (halves .result) (halves .last .1 .1 .1 .1 .0) (halves .ensures .0) (halves .ensures .1)
+
+  range-tree-returns : range-tree-lts.Need-returns (range-tree-callees t) (range-tree-at t) range-tree.Post
+  range-tree-returns c =
+      let s : TreeStart = search in
+      let a = s .args in
+      leaves-as (a .found) (a .area .now) (sym (tree-empty (distanceAsked (a .asked .now)) (queryAsked (a .asked .now)) (reportsAsked (a .asked .now)) (radiusAsked (a .asked .now)) (a .slots .now) (c .if1 .taken))) (leaves-nothing (a .found) (a .area .now) refl refl)
+
+  range-tree-range-leaf-requires : range-tree-lts.Need-range-leaf-requires (range-tree-callees t) (range-tree-at t) range-tree.Post
+  range-tree-range-leaf-requires c κs =
+      let s : TreeStart = search in
+      let some : TreeSome = search in
+      let few : range-tree-lts.Then2 (range-tree-callees t) (range-tree-at t) range-tree.Post = search in
+      (omega (arith, some .if1 .left), few .if2 .taken, s .pre .1)
+
+  range-tree-range-slots-requires : range-tree-lts.Need-range-slots-requires (range-tree-callees t) (range-tree-at t) range-tree.Post
+  range-tree-range-slots-requires c κs =
+      let s : TreeStart = search in
+      let some : TreeSome = search in
+      (omega (arith, s .pre .0), (omega (arith, some .if1 .left), s .pre .1))
 
 pub +range-halves+range-slots+range-tree-spec : {M : Type 1} → statement M
 +range-halves+range-slots+range-tree-spec = close μ-range-halves μ-range-slots μ-range-tree (λ t. range-halves-lts.spec (range-halves-callees t) (range-halves-at t)
     range-halves.Post
     (λ c. search needs) (λ c. search needs) (λ c κs. search needs) (λ c. search needs) (λ c. search needs)
-    (range-halves-slice-aggregate-range-tree t)
+    (λ c. simp length-take (omega arith))
     (range-halves-range-tree-requires t)
     (λ c. search needs) (λ c. search needs) (λ c. search needs) (λ c. search needs) (λ c. search needs) (λ c. search needs)
     (range-halves-range-tree-requires-2 t)
@@ -288,18 +273,20 @@ pub +range-halves+range-slots+range-tree-spec : {M : Type 1} → statement M
     (range-halves-returns-2 t))
     (λ t. range-slots-lts.spec (range-slots-callees t) (range-slots-at t)
     range-slots.Post
-    (range-slots-returns t)
-    (λ c. search needs) (λ c. search needs) (λ c. search needs) (λ c κs. search needs) (λ c. search needs)
-    (λ c κs. search needs) (λ c. search needs) (λ c. search needs) (λ c. search needs)
+    (λ c. let s : SlotsStart t = search in s .pre .1 .0)
+    (λ c. search needs) (λ c. search needs) (λ c κs. search needs) (λ c. search needs) (λ c. search needs)
+    (range-slots-meet-requires t)
+    (λ c. search needs) (λ c. search needs) (λ c. search needs)
     (λ c κs. search needs)
     (range-slots-range-halves-requires t)
     (range-slots-same-length t)
-    (range-slots-returns-2 t))
+    (range-slots-returns t))
     λ t. range-tree-lts.spec (range-tree-callees t) (range-tree-at t)
     range-tree.Post
-    (range-tree-no-hit-among-requires t)
-    (range-tree-add-t9 t)
     (range-tree-returns t)
+    (range-tree-range-leaf-requires t)
+    (λ c. c .before .range-leaf .kept .1 .1 .0)
+    (λ c. c .before .range-leaf .ensures)
     (range-tree-range-slots-requires t)
-    (range-tree-same-length t)
-    (range-tree-returns-2 t)
+    (λ c. c .before .range-slots .kept .1 .1 .0)
+    (λ c. c .before .range-slots .ensures)

@@ -16,7 +16,9 @@ use Rattle.lists.proofs.Tests.{and-first, and-second}
 use Rattle.tree_rules.specs.Layout.{leftSize}
 use Rattle.tree_rules.proofs.Parts.{left-size, part-rest}
 use Rattle.tree_range_batch.specs.Together.{isOn, Parts}
-use Rattle.tree_range_batch.proofs.Steps.{Turn, turn-skipped, fewer-less, alone-fewer, turn-fewer, turn-few, both-halves, tree-visit, tree-none}
+use Rattle.tree_range_batch.proofs.Sets.{single-alone}
+use Rattle.tree_range_batch.proofs.Steps.{Turn, turn-skipped, fewer-less, alone-fewer, turn-fewer, turn-few, both-halves, tree-visit, tree-alone}
+use Rattle.tree_range_batch.proofs.Steps.{tree-none}
 use Rattle.tree_range_batch.proofs.halves_together.Reads as halves-together
 use Rattle.tree_range_batch.proofs.halves_together.Kinds as halves-together-kinds
 use Rattle.tree_range_batch.proofs.+halves_together+range_together.Lts-halves_together as halves-together-lts
@@ -24,6 +26,9 @@ use Rattle.tree_range_batch.proofs.range_together.Reads as range-togeth
 use Rattle.tree_range_batch.proofs.range_together.Kinds as range-together-kinds
 use Rattle.tree_range_batch.proofs.+halves_together+range_together.Lts-range_together as range-together-lts
 use Rattle.tree_range_batch.proofs.compare_each.Reads as compare-each-reads
+use Rattle.tree_range_batch.proofs.lowest_of.Reads as lowest-of-reads
+use Rattle.tree_range_batch.proofs.behind.Reads as behind-reads
+use Rattle.tree_range_batch.proofs.range_alone.Reads as range-alone-reads
 use Rattle.tree_range_batch.proofs.+halves_together+range_together.{statement}
 use Rattle.tree_range_batch.proofs.+halves_together+range_together.Tie.{close}
 
@@ -61,7 +66,7 @@ abbrev halves-callees : ℕ → halves-together-lts.Claims
 halves-callees t = (range-together-below t, range-together.Post)
 
 abbrev tree-callees : ℕ → range-together-lts.Claims
-tree-callees t = (compare-each-reads.Asked, compare-each-reads.Learnt, halves-together-below t, halves-together.Post)
+tree-callees t = (lowest-of-reads.Asked, lowest-of-reads.Learnt, behind-reads.Asked, behind-reads.Learnt, range-alone-reads.Asked, range-alone-reads.Learnt, compare-each-reads.Asked, compare-each-reads.Learnt, halves-together-below t, halves-together.Post)
 
 -- a half is skipped if it has no slots or no query enters it
 skips : (some : Bool) (set : ℕ) → some && not (eqb set 0) ≡ false → (some ≡ false) ⊎ (set ≡ 0)
@@ -158,16 +163,33 @@ tree-returns t c =
     let a = c .before .args in
     tree-none (a .batch .now) (a .part) (a .on) (a .slots .now) (c .if1 .taken) (a .count) (a .found .now) (a .area .now)
 
+-- one query is left, the lowest
+tree-range-alone-requires : (t : ℕ) → range-together-lts.Need-range-alone-requires (tree-callees t) (range-together-at t) range-together.Post
+tree-range-alone-requires t c κs =
+    let s : range-together-lts.Start (tree-callees t) (range-together-at t) range-together.Post = search in
+    let low : range-together-lts.After-lowest-of (tree-callees t) (range-together-at t) range-together.Post = search in
+    (low .lowest-of .ensures .few, s .pre .1 .2 (low .lowest-of .result) (low .lowest-of .ensures .present), s .pre .1 .3, s .pre .1 .4)
+
+tree-returns-2 : (t : ℕ) → range-together-lts.Need-returns-2 (tree-callees t) (range-together-at t) range-together.Post
+tree-returns-2 t c =
+    let s : range-together-lts.Start (tree-callees t) (range-together-at t) range-together.Post = search in
+    let low : range-together-lts.After-lowest-of (tree-callees t) (range-together-at t) range-together.Post = search in
+    let rest : range-together-lts.After-behind (tree-callees t) (range-together-at t) range-together.Post = search in
+    let none : range-together-lts.Then2 (tree-callees t) (range-together-at t) range-together.Post = search in
+    let a = s .args in
+    tree-alone (a .batch .now) (a .part) (a .on) (low .lowest-of .result) (a .slots .now) (s .pre .1 .5) (single-alone (a .on) (low .lowest-of .result) (rest .behind .result) (s .pre .1 .0) (low .lowest-of .ensures) (rest .behind .ensures) (none .if2 .taken)) (low .lowest-of .ensures .few)
+    (a .count) (c .before .range-alone .ensures .0) (c .before .range-alone .ensures .1)
+
 tree-compare-each-requires : (t : ℕ) → range-together-lts.Need-compare-each-requires (tree-callees t) (range-together-at t) range-together.Post
 tree-compare-each-requires t c κs =
-    let else' = c .before .before .before in
+    let else' : range-together-lts.Else1 (tree-callees t) (range-together-at t) range-together.Post = search in
     let s = else' .before in
     (s .pre .1 .0, s .pre .1 .2, fewer-less (s .pre .1 .3) (omega (arith, else' .if1 .left)))
 
 tree-halves-requires : (t : ℕ) → range-together-lts.Need-halves-together-requires (tree-callees t) (range-together-at t) range-together.Post
 tree-halves-requires t c κs =
-    let call = c .before .before .before .before in
-    let else' = call .before .before .before .before in
+    let call : range-together-lts.After-compare-each (tree-callees t) (range-together-at t) range-together.Post = search in
+    let else' : range-together-lts.Else1 (tree-callees t) (range-together-at t) range-together.Post = search in
     let s = else' .before in
     let a = s .args in
     let n = length (a .slots .now) in
@@ -187,11 +209,11 @@ tree-halves-requires t c κs =
       ),
     )
 
-tree-returns-2 : (t : ℕ) → range-together-lts.Need-returns-2 (tree-callees t) (range-together-at t) range-together.Post
-tree-returns-2 t c =
+tree-returns-3 : (t : ℕ) → range-together-lts.Need-returns-3 (tree-callees t) (range-together-at t) range-together.Post
+tree-returns-3 t c =
     let halves = c .before .halves-together in
-    let call = c .before .before .before .before .before .before in
-    let else' = call .before .before .before .before in
+    let call : range-together-lts.After-compare-each (tree-callees t) (range-together-at t) range-together.Post = search in
+    let else' : range-together-lts.Else1 (tree-callees t) (range-together-at t) range-together.Post = search in
     let s = else' .before in
     let a = s .args in
     tree-visit (a .batch .now) (a .part) (a .on) (call .compare-each .result .left) (call .compare-each .result .right) (a .slots .now) (omega (arith, else' .if1 .left)) (s .pre .1 .5) (s .pre .1 .0) (s .pre .1 .1)
@@ -213,10 +235,16 @@ pub +halves-together+range-together-spec : {M : Type 1} → statement M
     λ t. range-together-lts.spec (tree-callees t) (range-together-at t)
     range-together.Post
     (tree-returns t)
+    (λ c κs. let s : range-together-lts.Start (tree-callees t) (range-together-at t) range-together.Post = search in (s .pre .1 .0, s .pre .1 .1))
+    (λ c κs. c .lowest-of .ensures .few)
+    (λ c. search needs)
+    (tree-range-alone-requires t)
+    (λ c. c .before .range-alone .kept .1 .1 .1 .1 .0)
+    (tree-returns-2 t)
     (λ c. search needs)
     (tree-compare-each-requires t)
-    (λ c. omega (arith, c .before .before .before .before .before .before .pre .1 .4))
+    (λ c. let s : range-together-lts.Start (tree-callees t) (range-together-at t) range-together.Post = search in omega (arith, s .pre .1 .4))
     (λ c. search needs) (λ c. search needs) (λ c. search needs)
     (tree-halves-requires t)
-    (λ c. c .before .halves-together .kept .1 .1 .1 .1 .0 ∙ c .before .before .before .before .before .before .compare-each .kept .1 .1 .1 .0)
-    (tree-returns-2 t)
+    (λ c. let call : range-together-lts.After-compare-each (tree-callees t) (range-together-at t) range-together.Post = search in c .before .halves-together .kept .1 .1 .1 .1 .0 ∙ call .compare-each .kept .1 .1 .1 .0)
+    (tree-returns-3 t)

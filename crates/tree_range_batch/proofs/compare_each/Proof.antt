@@ -8,7 +8,8 @@ use native.Mathlib.Decide.{decLe}
 use lib.Pow.{pow-mono, shr-le}
 use mathlib.Core.Path.{_≡_, sym, subst}
 use Rattle.tree_range_batch.specs.Together.{goesLeftAt, goesRightAt}
-use Rattle.tree_range_batch.proofs.Sets.{put-fits, Remaining, remaining-all, remaining-below, remaining-none, next-few, next-on, next-off, remaining-next}
+use Rattle.tree_range_batch.proofs.Sets.{put-fits, Remaining, remaining-all, remaining-below, remaining-none, next-few, next-on, next-off}
+use Rattle.tree_range_batch.proofs.Sets.{remaining-next}
 use Rattle.tree_range_batch.proofs.Comparing.{Compared, compared-none, compared-skips, compared-next, compared-fewer, compared-all}
 use Rattle.tree_range_batch.proofs.compare_each.Statement.{statement}
 use Rattle.tree_range_batch.proofs.compare_each.Tie as tie

@@ -1,4 +1,5 @@
--- `yard_step::accept_header` meets its contract: the refusal of `set_up` is the header's, so 0 serves and anything else is printed and ends (`header-outcome-served`, `header-outcome-ended`).
+-- `yard_step::accept_header` meets its contract: the refusal of `set_up` is the header's, so 0 serves and anything else
+-- is printed and ends (`header-outcome-served`, `header-outcome-ended`).
 use Rattle.yard_step.proofs.Opening.{header-outcome-served, header-outcome-ended}
 use borrow.Author.Needs.{needs}
 use Rattle.yard_step.proofs.accept_header.Statement.{statement}

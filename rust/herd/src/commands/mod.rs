@@ -254,7 +254,7 @@ const COMMANDS: [Command; 18] = [
                   it opens or starts a herd itself. A page that this command wrote is replaced; another file\n\
                   that is there is left as it is.",
         example: "herd page yard.img -o yard.html",
-        options: &[value("-o")],
+        options: &[value("-o"), DAY_ONE],
         words: (0, 1),
         run: page::run,
     },

@@ -6,7 +6,10 @@ use std::fs::{self, File};
 use std::io::Read;
 use std::path::Path;
 
+use vpindex::Day;
+
 use crate::args::{Args, misuse};
+use crate::calendar::Calendar;
 use crate::file::{self, Image};
 use crate::report::{Failure, Outcome};
 
@@ -29,18 +32,20 @@ pub fn run(args: &Args) -> Outcome {
     let Some(path) = args.typed("-o") else { return misuse("-o FILE has to be there") };
     let image = args.plain.first().map(|path| Image::open(path)).transpose()?;
     let name = args.plain.first().and_then(|path| Path::new(path).file_name()).unwrap_or_default();
-    let page = with_herd(&name.display().to_string(), image.as_ref().map_or(&[], |image| &image.bytes));
+    let day_one = Calendar::of(args)?.date(Day::MIN).unwrap_or_default();
+    let page = with_herd(&name.display().to_string(), image.as_ref().map_or(&[], |image| &image.bytes), &day_one);
     if finds_page(path)? { file::put(path, page.as_bytes()) } else { file::write_new(path, page.as_bytes()) }?;
     let (bytes, head) = (page.len(), image.map(|image| format!(", {} head", image.table.len())));
     Ok(format!("{} is written: {bytes} bytes{}\n", file::shown(path), head.unwrap_or_default()).into())
 }
 
 // What is not from here, which is the herd's name, goes in last: whatever it says stays as it is.
-fn with_herd(name: &str, image: &[u8]) -> String {
+fn with_herd(name: &str, image: &[u8], day_one: &str) -> String {
     let put = |page: String, (place, text): (&str, &str)| page.replacen(&format!("{{{{{place}}}}}"), text, 1);
     let with_sources = SOURCES.into_iter().fold(PAGE.to_string(), put);
     let calls = as_script(CALLS);
-    let given = [("vpindex.js", calls.as_str()), ("module", &base64(MODULE)), ("image", &base64(image))];
+    let (module, image) = (base64(MODULE), base64(image));
+    let given = [("vpindex.js", calls.as_str()), ("module", &module), ("image", &image), ("day-one", day_one)];
     put(given.into_iter().fold(with_sources, put), ("name", &escaped(name)))
 }
 
@@ -101,8 +106,9 @@ mod tests {
 
     #[test]
     fn put_together() {
-        let page = with_herd("a\"<b>&{{module}}.img", &[1, 2, 3]);
-        assert!(page.contains("data-name=\"a&quot;&lt;b>&amp;{{module}}.img\">AQID</script>"));
+        let page = with_herd("a\"<b>&{{module}}.img", &[1, 2, 3], "2026-01-01");
+        let given = "data-name=\"a&quot;&lt;b>&amp;{{module}}.img\" data-day-one=\"2026-01-01\">AQID</script>";
+        assert!(page.contains(given));
         let places = PAGE.split("{{").skip(1).map(|rest| rest.split("}}").next().unwrap_or_default());
         let unfilled: Vec<&str> = places.filter(|place| page.contains(&format!("{{{{{place}}}}}"))).collect();
         assert_eq!(unfilled, ["module"], "but for the one in the name");

@@ -1,0 +1,5 @@
+-- What a few slots' distances say of a visit.
+pub mod Known
+pub mod Halves
+mod Working
+pub mod Passing
