@@ -16,7 +16,7 @@
  *   - areas lent to the same call do not overlap;
  *   - no other thread uses an area while a call has it, except that several may read the same table;
  *   - the stack has room: on x86-64 at most 73 KB for vpindex_load and vpindex_restore, whatever the order, 17 KB for
- *     vpindex_dues, 9 KB for vpindex_range_batch and 5 KB for the others, as worked out from the compiled code;
+ *     vpindex_dues, 10 KB for vpindex_range_batch and 5 KB for the others, as worked out from the compiled code;
  *     docs/TESTING.md has the table by processor.
  */
 #ifndef VPINDEX_H

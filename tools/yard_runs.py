@@ -2,7 +2,7 @@
 """Conversations with the program yard, worked out apart from the code by docs/RULES.md (18).
 
 Writes tests/yard/NAME.in and NAME.out: what the program is given, and what it must print.
-With --check it writes nothing and fails where a file differs from what it would write, or where README.md shows another exchange.
+With --check it writes nothing and fails where a file differs from what it would write, or where examples/README.md shows another exchange.
 With --run PROGRAM it runs the program on every stored input and fails where it prints anything else. Where an input is short and ends in a line feed it
 runs it once more, each line byte by byte and the next one when the reply is there, as at a terminal; after a reply that ends the program it has to end
 though more could come.
@@ -631,9 +631,9 @@ def files():
     yield EXAMPLE / "stdout", b"".join(replies((EXAMPLE / "stdin").read_bytes()))
 
 
-def readme_exchange():
-    """The lines that README.md marks as typed, and the whole exchange as it shows it."""
-    shown = re.search(rb"```text\n(> .*?)```", (ROOT / "README.md").read_bytes(), re.S)[1]
+def shown_exchange():
+    """The lines that examples/README.md marks as typed, and the whole exchange as it shows it."""
+    shown = re.search(rb"```text\n(> .*?)```", (ROOT / "examples/README.md").read_bytes(), re.S)[1]
     return re.findall(rb"^> (.*)$", shown, re.M), shown
 
 
@@ -646,9 +646,9 @@ def main():
             path.parent.mkdir(parents=True, exist_ok=True)
             path.write_bytes(data)
         return
-    typed, shown = readme_exchange()
+    typed, shown = shown_exchange()
     if shown != b"".join(b"> " + line + b"\n" + reply for line, reply in zip(typed, replies(b"\n".join(typed)))):
-        sys.exit("README.md shows another exchange than the script works out")
+        sys.exit("examples/README.md shows another exchange than the script works out")
     if set(STORED.iterdir()) != {p for p in expected if p.parent == STORED}:
         sys.exit(f"{STORED.name} has other files than the script writes")
     for path, data in expected.items():

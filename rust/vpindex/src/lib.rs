@@ -29,6 +29,14 @@
 //! assert_eq!((hits[0].tag(), hits[0].distance()), (Tag::new(36, 2)?, 1_705));
 //! # Ok::<(), vpindex::Error>(())
 //! ```
+//!
+//! - Searches take `&self`, so threads can search one table together. Calls whose names end in `into` put what they find
+//!   into a `Hits`, a `Batch` or `Lots` that the caller lends, and allocate nothing.
+//! - `table.iter()` gives the items, `table.get(tag)` one of them, and `table.replace` weighs one again.
+//! - Tags, profiles, items, metrics, orders and weights are read from text and written as the same text.
+//! - `Table::save` keeps a table under one of eight names, `Table::restore` brings it back.
+//! - `Table::load` says of a damaged image which field is wrong, at which bytes, and why. [`Error`] holds whatever is
+//!   refused.
 
 #![no_std]
 #![warn(clippy::missing_errors_doc, clippy::undocumented_unsafe_blocks)]
