@@ -112,7 +112,7 @@ returns-3 : tie.Need-returns-3
 unfolding placed sizesBy
 returns-3 c =
     let l = c .before in
-    placed-by (begun l .args .rows) (image l) _ _ _ _ (pairs-pass (paired l)) (sizes-known (sized l)) (ne-eqb _ _ (λ e. c .if3 .taken (e ∙ sym (length-known l)))) refl
+    placed-by (begun l .args .rows) (image l) _ _ _ _ (pairs-pass (paired l)) (sizes-known (sized l)) (ne-eqb (length (image l)) (imageLength (formIn (image l)) (orderIn (image l)) (slotsIn (image l))) (λ e. omega (arith, e, length-known l, c .if3 .taken))) refl
 
 table-rows-requires : tie.Need-table-rows-requires
 table-rows-requires c κs = let s = begun (c .before) in omega (arith, most s, headed s .order)
@@ -123,7 +123,7 @@ returns-4 c =
     let e = c .before .before in
     let l = e .before in
     let rows = rows-known l (c .before .table-rows .result) (c .before .table-rows .ensures) in
-    placed-by (begun l .args .rows) (image l) _ _ _ _ (pairs-pass (paired l)) (sizes-known (sized l)) (whole-pass l (e .if3 .left)) (lt-leb (tableRows (orderIn (image l))) (begun l .args .rows) (omega (arith, rows, c .if4 .taken)))
+    placed-by (begun l .args .rows) (image l) _ _ _ _ (pairs-pass (paired l)) (sizes-known (sized l)) (whole-pass l (omega (arith, e .if3 .left))) (lt-leb (tableRows (orderIn (image l))) (begun l .args .rows) (omega (arith, rows, c .if4 .taken)))
 
 returns-5 : tie.Need-returns-5
 unfolding placed sizesBy
@@ -133,7 +133,7 @@ returns-5 c =
     let l = e .before in
     let rows = rows-known l (f .before .table-rows .result) (f .before .table-rows .ensures) in
     ap At (c .all-slots .ensures ∙ ap₂ allSlots (begun l .pre .0) (l .before .slots-in .ensures))
-    ∙ placed-by (begun l .args .rows) (image l) _ _ _ _ (pairs-pass (paired l)) (sizes-known (sized l)) (whole-pass l (e .if3 .left)) (le-leb (tableRows (orderIn (image l))) (begun l .args .rows) (omega (arith, rows, f .if4 .left)))
+    ∙ placed-by (begun l .args .rows) (image l) _ _ _ _ (pairs-pass (paired l)) (sizes-known (sized l)) (whole-pass l (omega (arith, e .if3 .left))) (le-leb (tableRows (orderIn (image l))) (begun l .args .rows) (omega (arith, rows, f .if4 .left)))
 
 pub slots-check-spec : {M : Type 1} → statement M
 slots-check-spec =
