@@ -29,9 +29,10 @@ use metric_rules::Row;
 use rows::is_live;
 use rows::tag_of;
 use search_rules::Entry;
+use table_order::Order;
 
 // As many entries as a bucket has slots, and as there are live slots in all.
-const ENTRIES: usize = 4096;
+const ENTRIES: usize = 1 << Order::MOST;
 
 // The entries of the live ones of some slots, from the first place on. The reply is their number. What `entries` holds
 // behind them is left free; it keeps its length.
@@ -71,8 +72,13 @@ fn each_tree_fault(
     row: &Row,
     entries: &mut [Entry],
 ) -> Loaded
-    requires { ⌜ Whole (now image) header × InImage (now image) all × (length (now entries) ≡ mostEntries) × ((i : ℕ) → i < slotsIn (now image) → tagOf (rowIn (now image) i) < 2 ^ 50) ⌝ }
-    ensures { λ r. ⌜ r ≡ firstOf (map (bucketFault (spaceOf (now (row .entry))) (now (image .entry))) (bucketsOf (orderIn (now (image .entry))))) ⌝ }
+    requires { ⌜ Whole (now image) header
+        × InImage (now image) all
+        × (length (now entries) ≡ mostEntries)
+        × ((i : ℕ) → i < slotsIn (now image) → tagOf (rowIn (now image) i) < 2 ^ 50) ⌝ }
+    ensures { λ r.
+        let read = now (image .entry) in
+        ⌜ r ≡ firstOf (map (bucketFault (spaceOf (now (row .entry))) read) (bucketsOf (orderIn read))) ⌝ }
 {
     let form = header.form;
     let buckets = header.order.t + 1;

@@ -7,6 +7,7 @@ ghost use lib.ListN.{length, replicate};
 ghost use Rattle.lists.specs.Lists.{All, select};
 ghost use Rattle.metric_rules.specs.Distance.{spaceOf};
 ghost use Rattle.search_rules.specs.Range.{ordered};
+ghost use Rattle.table_rules.specs.Geometry.{mostOrder, room};
 ghost use Rattle.table_rules.specs.Search.{zeroEntry};
 ghost use Rattle.lots_rules.specs.Lots.{summaryOf, numbered};
 ghost use Rattle.lots_draft.specs.Leading.{placeOf, Placed, joins, followed, withoutLot, placeLots, entriesLed};
@@ -47,8 +48,13 @@ fn follow(
     lot: u64,
 ) -> usize
     requires { ⌜ All (Placed (now table)) (now entries) ⌝ }
-    ensures size { λ r. ⌜ r ≡ length (select (joins (now (table .entry)) (spaceOf (now (header .entry))) radius leader) (now (entries .entry))) ⌝ }
-    ensures entries { λ _. ⌜ now (entries .exit) ≡ map (followed (now (table .entry)) (spaceOf (now (header .entry))) radius leader lot) (now (entries .entry)) ⌝ }
+    ensures { λ size.
+        let t = now (table .entry) in
+        let space = spaceOf (now (header .entry)) in
+        let before = now (entries .entry) in
+        let after = now (entries .exit) in
+        ⌜ (size ≡ length (select (joins t space radius leader) before))
+        × (after ≡ map (followed t space radius leader lot) before) ⌝ }
 {
     let mut size = 0;
     let mut i = 0;
@@ -77,9 +83,16 @@ fn lead_next(
     radius: u32,
     drafted: Draft,
 ) -> Draft
-    requires { ⌜ (0 < length (now entries)) × All (Placed (now table)) (now entries) × (drafted .lots + length (now entries) ≤ 4096) ⌝ }
-    ensures draft { λ r. ⌜ r ≡ draftLed (now (table .entry)) (spaceOf (now (header .entry))) radius drafted (now (entries .entry)) ⌝ }
-    ensures entries { λ _. ⌜ now (entries .exit) ≡ entriesLed (now (table .entry)) (spaceOf (now (header .entry))) radius drafted (now (entries .entry)) ⌝ }
+    requires { ⌜ (0 < length (now entries))
+        × All (Placed (now table)) (now entries)
+        × (drafted .lots + length (now entries) ≤ room mostOrder) ⌝ }
+    ensures { λ draft.
+        let t = now (table .entry) in
+        let space = spaceOf (now (header .entry)) in
+        let before = now (entries .entry) in
+        let after = now (entries .exit) in
+        ⌜ (draft ≡ draftLed t space radius drafted before)
+        × (after ≡ entriesLed t space radius drafted before) ⌝ }
 {
     let first = entries[0];
     if first[1] != 0 {
@@ -117,10 +130,14 @@ fn clear_lots(entries: &mut [Entry])
 // The entries drafted by a radius: each gets its lot's number, and the places stay. The reply is the number of lots and
 // the size of the largest.
 pub fn draft_by(table: &[Row], header: &Row, entries: &mut [Entry], radius: u32) -> Summary
-    requires { ⌜ All (Placed (now table)) (now entries) × (length (now entries) ≤ 4096) ⌝ }
-    ensures summary { λ r. ⌜ r ≡ summaryOf (placeLots (now (table .entry)) (spaceOf (now (header .entry))) radius (map placeOf (now (entries .entry)))) ⌝ }
-    ensures lots { λ _. ⌜ List·Permᴰ (now (entries .exit)) (numbered (λ q. q) 1 (placeLots (now (table .entry)) (spaceOf (now (header .entry))) radius (map placeOf (now (entries .entry))))) ⌝ }
-    ensures places { λ _. ⌜ map placeOf (now (entries .exit)) ≡ map placeOf (now (entries .entry)) ⌝ }
+    requires { ⌜ All (Placed (now table)) (now entries) × (length (now entries) ≤ room mostOrder) ⌝ }
+    ensures { λ summary.
+        let places = map placeOf (now (entries .entry)) in
+        let after = now (entries .exit) in
+        let lots = placeLots (now (table .entry)) (spaceOf (now (header .entry))) radius places in
+        ⌜ (summary ≡ summaryOf lots)
+        × (List·Permᴰ after (numbered (λ q. q) 1 lots)
+        × (map placeOf after ≡ places)) ⌝ }
 {
     clear_lots(entries);
     let mut drafted = Draft {
@@ -161,7 +178,10 @@ fn sort_lots(table: &[Row], entries: &[Entry], listing: &mut [Entry])
 // The same at the front of the listing, and zeros to its end.
 pub fn list_lots(table: &[Row], entries: &[Entry], listing: &mut [Entry])
     requires { ⌜ All (Placed (now table)) (now entries) × (length (now entries) ≤ length (now listing)) ⌝ }
-    ensures { λ _. ⌜ now (listing .exit) ≡ ordered (map (tagLot (now (table .entry))) (now (entries .entry))) ++ replicate (length (now (listing .entry)) - length (now (entries .entry))) zeroEntry ⌝ }
+    ensures { λ _.
+        let es = now (entries .entry) in
+        let told = ordered (map (tagLot (now (table .entry))) es) in
+        ⌜ now (listing .exit) ≡ told ++ replicate (length (now (listing .entry)) - length es) zeroEntry ⌝ }
 {
     let n = entries.len();
     sort_lots(table, entries, &mut listing[..n]);

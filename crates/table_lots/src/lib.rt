@@ -7,7 +7,7 @@ ghost use lib.ListN.{length, getD, replicate};
 ghost use Rattle.lists.specs.Lists.{All};
 ghost use Rattle.metric_rules.specs.Row.{tagOf};
 ghost use Rattle.metric_rules.specs.Distance.{spaceOf};
-ghost use Rattle.table_rules.specs.Geometry.{workRows};
+ghost use Rattle.table_rules.specs.Geometry.{mostOrder, room, workRows};
 ghost use Rattle.table_rules.specs.Table.{orderOf, cleared};
 ghost use Rattle.table_rules.specs.Passed.{Passed};
 ghost use Rattle.table_rules.specs.Search.{zeroEntry};
@@ -62,7 +62,11 @@ fn lots_check(
     listing: &[Entry],
     chosen: u32,
 ) -> Checked
-    ensures { λ r. ⌜ r ≡ checked (lotsRefusal (now (table .entry)) (now (work .entry)) (now (summary .entry)) (now (listing .entry)) (now (radii .entry)) chosen) (now (table .entry)) ⌝ }
+    ensures { λ r.
+        let t = now (table .entry) in
+        let by = now (radii .entry) in
+        let refusal = lotsRefusal t (now (work .entry)) (now (summary .entry)) (now (listing .entry)) by chosen in
+        ⌜ r ≡ checked refusal t ⌝ }
 {
     let first = change_check(table, work.len());
     let Checked::Passes(order) = first else {
@@ -89,9 +93,20 @@ fn draft_each(
     listing: &mut [Entry],
     at: usize,
 )
-    requires { ⌜ All (Placed (now table)) (now entries) × (length (now entries) ≤ 4096) × (length (now summary) ≡ length (now radii)) × (length (now entries) ≤ length (now listing)) × (at < length (now radii)) ⌝ }
-    ensures summary { λ _. ⌜ now (summary .exit) ≡ map (placeSummary (now (table .entry)) (spaceOf (now (header .entry))) (map placeOf (now (entries .entry)))) (now (radii .entry)) ⌝ }
-    ensures listing { λ _. ⌜ now (listing .exit) ≡ placeListing (now (table .entry)) (spaceOf (now (header .entry))) (map placeOf (now (entries .entry))) (getD (now (radii .entry)) at 0) ++ replicate (length (now (listing .entry)) - length (now (entries .entry))) zeroEntry ⌝ }
+    requires { ⌜ All (Placed (now table)) (now entries)
+        × (length (now entries) ≤ room mostOrder)
+        × (length (now summary) ≡ length (now radii))
+        × (length (now entries) ≤ length (now listing))
+        × (at < length (now radii)) ⌝ }
+    ensures { λ _.
+        let t = now (table .entry) in
+        let space = spaceOf (now (header .entry)) in
+        let es = now (entries .entry) in
+        let places = map placeOf es in
+        let by = now (radii .entry) in
+        let listed = placeListing t space places (getD by at 0) in
+        ⌜ (now (summary .exit) ≡ map (placeSummary t space places) by)
+        × (now (listing .exit) ≡ listed ++ replicate (length (now (listing .entry)) - length es) zeroEntry) ⌝ }
 {
     let mut i = 0;
     while i < radii.len() {
@@ -113,9 +128,21 @@ fn draft_radii(
     listing: &mut [Entry],
     at: usize,
 )
-    requires { ⌜ All (Placed (now table)) (now entries) × (length (now entries) ≤ 4096) × (length (now radii) ≤ length (now summary)) × (length (now entries) ≤ length (now listing)) × (at < length (now radii)) ⌝ }
-    ensures summary { λ _. ⌜ now (summary .exit) ≡ map (placeSummary (now (table .entry)) (spaceOf (now (header .entry))) (map placeOf (now (entries .entry)))) (now (radii .entry)) ++ replicate (length (now (summary .entry)) - length (now (radii .entry))) zeroSummary ⌝ }
-    ensures listing { λ _. ⌜ now (listing .exit) ≡ placeListing (now (table .entry)) (spaceOf (now (header .entry))) (map placeOf (now (entries .entry))) (getD (now (radii .entry)) at 0) ++ replicate (length (now (listing .entry)) - length (now (entries .entry))) zeroEntry ⌝ }
+    requires { ⌜ All (Placed (now table)) (now entries)
+        × (length (now entries) ≤ room mostOrder)
+        × (length (now radii) ≤ length (now summary))
+        × (length (now entries) ≤ length (now listing))
+        × (at < length (now radii)) ⌝ }
+    ensures { λ _.
+        let t = now (table .entry) in
+        let space = spaceOf (now (header .entry)) in
+        let es = now (entries .entry) in
+        let places = map placeOf es in
+        let by = now (radii .entry) in
+        let told = map (placeSummary t space places) by in
+        let listed = placeListing t space places (getD by at 0) in
+        ⌜ (now (summary .exit) ≡ told ++ replicate (length (now (summary .entry)) - length by) zeroSummary)
+        × (now (listing .exit) ≡ listed ++ replicate (length (now (listing .entry)) - length es) zeroEntry) ⌝ }
 {
     let count = radii.len();
     draft_each(
@@ -140,10 +167,23 @@ fn draft_items(
     listing: &mut [Entry],
     at: usize,
 )
-    requires { ⌜ (order .t ≡ orderOf (now table)) × Passed (now table) × (length (draftedItems (now table)) ≤ length (now work)) × (length (draftedItems (now table)) ≤ 4096) × (length (now radii) ≤ length (now summary)) × (length (draftedItems (now table)) ≤ length (now listing)) × (at < length (now radii)) ⌝ }
-    ensures work { λ _. ⌜ now (work .exit) ≡ replicate (length (now (work .entry))) zeroEntry ⌝ }
-    ensures summary { λ _. ⌜ now (summary .exit) ≡ tableSummaries (now (table .entry)) (now (radii .entry)) ++ replicate (length (now (summary .entry)) - length (now (radii .entry))) zeroSummary ⌝ }
-    ensures listing { λ _. ⌜ now (listing .exit) ≡ listingOf tagOf (tableLots (now (table .entry)) (getD (now (radii .entry)) at 0)) ++ replicate (length (now (listing .entry)) - length (draftedItems (now (table .entry)))) zeroEntry ⌝ }
+    requires { let items = length (draftedItems (now table)) in
+        ⌜ (order .t ≡ orderOf (now table))
+        × Passed (now table)
+        × (items ≤ length (now work))
+        × (items ≤ room mostOrder)
+        × (length (now radii) ≤ length (now summary))
+        × (items ≤ length (now listing))
+        × (at < length (now radii)) ⌝ }
+    ensures { λ _.
+        let t = now (table .entry) in
+        let by = now (radii .entry) in
+        let items = length (draftedItems t) in
+        let told = tableSummaries t by in
+        let listed = listingOf tagOf (tableLots t (getD by at 0)) in
+        ⌜ (now (work .exit) ≡ replicate (length (now (work .entry))) zeroEntry)
+        × ((now (summary .exit) ≡ told ++ replicate (length (now (summary .entry)) - length by) zeroSummary)
+        × (now (listing .exit) ≡ listed ++ replicate (length (now (listing .entry)) - items) zeroEntry)) ⌝ }
 {
     let header = table[HEADER_ROW];
     let n = enter_by_tag(table, order, work);
@@ -161,10 +201,17 @@ fn draft_table(
     listing: &mut [Entry],
     chosen: u32,
 )
-    requires { ⌜ (order .t ≡ orderOf (now table)) × (lotsRefusal (now table) (now work) (now summary) (now listing) (now radii) chosen ≡ 0) ⌝ }
-    ensures work { λ _. ⌜ now (work .exit) ≡ cleared zeroEntry (workRows (orderOf (now (table .entry)))) (now (work .entry)) ⌝ }
-    ensures summary { λ _. ⌜ now (summary .exit) ≡ tableSummaries (now (table .entry)) (now (radii .entry)) ++ replicate (length (now (summary .entry)) - length (now (radii .entry))) zeroSummary ⌝ }
-    ensures listing { λ _. ⌜ now (listing .exit) ≡ tableListing (now (table .entry)) (now (radii .entry)) chosen ++ replicate (length (now (listing .entry)) - length (draftedItems (now (table .entry)))) zeroEntry ⌝ }
+    requires { ⌜ (order .t ≡ orderOf (now table))
+        × (lotsRefusal (now table) (now work) (now summary) (now listing) (now radii) chosen ≡ 0) ⌝ }
+    ensures { λ _.
+        let t = now (table .entry) in
+        let by = now (radii .entry) in
+        let items = length (draftedItems t) in
+        let told = tableSummaries t by in
+        let listed = tableListing t by chosen in
+        ⌜ (now (work .exit) ≡ cleared zeroEntry (workRows (orderOf t)) (now (work .entry)))
+        × ((now (summary .exit) ≡ told ++ replicate (length (now (summary .entry)) - length by) zeroSummary)
+        × (now (listing .exit) ≡ listed ++ replicate (length (now (listing .entry)) - items) zeroEntry)) ⌝ }
 {
     let rows = order.work_rows();
     draft_items(
@@ -187,10 +234,16 @@ pub fn lots(
     listing: &mut [Entry],
     chosen: u32,
 ) -> u32
-    ensures reply { λ r. ⌜ r ≡ lotsRefusal (now (table .entry)) (now (work .entry)) (now (summary .entry)) (now (listing .entry)) (now (radii .entry)) chosen ⌝ }
-    ensures work { λ _. ⌜ now (work .exit) ≡ workAfterLots (now (table .entry)) (now (work .entry)) (now (summary .entry)) (now (listing .entry)) (now (radii .entry)) chosen ⌝ }
-    ensures summary { λ _. ⌜ now (summary .exit) ≡ summaryAfterLots (now (table .entry)) (now (work .entry)) (now (summary .entry)) (now (listing .entry)) (now (radii .entry)) chosen ⌝ }
-    ensures listing { λ _. ⌜ now (listing .exit) ≡ listingAfterLots (now (table .entry)) (now (work .entry)) (now (summary .entry)) (now (listing .entry)) (now (radii .entry)) chosen ⌝ }
+    ensures { λ refusal.
+        let t = now (table .entry) in
+        let work₀ = now (work .entry) in
+        let summary₀ = now (summary .entry) in
+        let listing₀ = now (listing .entry) in
+        let by = now (radii .entry) in
+        ⌜ (refusal ≡ lotsRefusal t work₀ summary₀ listing₀ by chosen)
+        × ((now (work .exit) ≡ workAfterLots t work₀ summary₀ listing₀ by chosen)
+        × ((now (summary .exit) ≡ summaryAfterLots t work₀ summary₀ listing₀ by chosen)
+        × (now (listing .exit) ≡ listingAfterLots t work₀ summary₀ listing₀ by chosen))) ⌝ }
 {
     match lots_check(table, work, radii, summary, listing, chosen) {
         Checked::Passes(order) => {

@@ -13,6 +13,7 @@ use Rattle.tree_range.specs.Collected.{rangeAsked}
 use Rattle.tree_range_batch.specs.Together.{isOn, askedAt, hitsOn, countOn, Fewer, Collects}
 use Rattle.tree_range_batch.proofs.Parts.{collects-none, collects-both}
 use Rattle.tree_range_batch.proofs.Steps.{Turn, turn-fewer, fewer-less, turn-most}
+use Rattle.table_rules.specs.Geometry.{mostOrder, room}
 use Rattle.table_rules.specs.Table.{Table, slotsOf}
 use Rattle.table_rules.proofs.Down.{below, below-next, below-none}
 use Rattle.table_range.specs.Below.{metBelow}
@@ -59,12 +60,13 @@ module _ (batch : List Row) (on : ℕ) (t : Table) where
     pub record Adds (k count : ℕ) (found : List ℕ) (area : List Entry) : Type 0 where
       pub counts : count + countBelow batch on t k ≡ countBelow batch on t top
       pub hits : (f : List ℕ) (a : List Entry) → Collects part (hitsBelow batch on t k) found area f a → Collects part (hitsBelow batch on t top) found₀ area₀ f a
-      pub fewer : Fewer (4096 * k) found
-      pub few : count + 4096 * k ≤ 4096 * 13
+      pub fewer : Fewer (room mostOrder * k) found
+      pub few : count + room mostOrder * k ≤ room mostOrder * suc mostOrder
       pub same : length area ≡ length area₀
 
     -- at first nothing is found
-    pub adds-all : Fewer (4096 * 13) found₀ → top ≤ 13 → (k : ℕ) → k ≡ top → Adds k 0 found₀ area₀
+    pub adds-all : Fewer (room mostOrder * suc mostOrder) found₀ → top ≤ suc mostOrder → (k : ℕ) → k ≡ top → Adds k 0 found₀ area₀
+    unfolding room
     adds-all f most k e =
         record {
           counts = omega (arith, ap (countBelow batch on t) e);
@@ -75,13 +77,14 @@ module _ (batch : List Row) (on : ℕ) (t : Table) where
         }
 
     -- bucket n is visited
-    pub adds-next : {n count : ℕ} {found : List ℕ} {area : List Entry} (k : ℕ) → k ≡ suc n → Adds k count found area → length (slotsOf t n) ≤ 4096
+    pub adds-next : {n count : ℕ} {found : List ℕ} {area : List Entry} (k : ℕ) → k ≡ suc n → Adds k count found area → length (slotsOf t n) ≤ room mostOrder
         → {count₁ : ℕ} {found₁ : List ℕ} {area₁ : List Entry} → Turn batch part on (slotsOf t n) count found area count₁ found₁ area₁ → Adds n count₁ found₁ area₁
+    unfolding room
     adds-next {n} {count} {found} {area} k e a few turn =
         record {
           counts = omega (arith, turn .counts, count-next n, ap (countBelow batch on t) e, a .counts);
           hits = λ f x c. a .hits f x (collects-both (hitsBelow batch on t k) (λ j. ap (λ (m : ℕ). hitsBelow batch on t m j) e ∙ hits-next n j) (turn .hits) c);
-          fewer = fewer-less (turn-fewer batch turn (4096 * k) (4096 * k - length (slotsOf t n)) (omega (arith, e, few)) (a .fewer)) (omega (arith, e, few));
+          fewer = fewer-less (turn-fewer batch turn (room mostOrder * k) (room mostOrder * k - length (slotsOf t n)) (omega (arith, e, few)) (a .fewer)) (omega (arith, e, few));
           few = omega (arith, turn .counts, turn-most batch turn, a .few, e, few);
           same = turn .same ∙ a .same;
         }

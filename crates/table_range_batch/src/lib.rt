@@ -10,6 +10,7 @@ ghost use Rattle.metric_rules.specs.Row.{profileOf, IsProfile};
 ghost use Rattle.metric_rules.specs.Validity.{validMeasures};
 ghost use Rattle.search_rules.specs.Range.{Pair};
 ghost use Rattle.tree_range_batch.specs.Together.{Parts, Fewer, Collects};
+ghost use Rattle.table_rules.specs.Geometry.{mostOrder, room};
 ghost use Rattle.table_rules.specs.Refusals.{noRoom};
 ghost use Rattle.table_rules.specs.Table.{orderOf};
 ghost use Rattle.table_rules.specs.Passed.{Passed};
@@ -114,10 +115,21 @@ fn buckets_together(
     found: &mut Numbers,
     batch: &Batch,
 ) -> usize
-    requires { ⌜ (order .t ≡ orderOf (now table)) × Passed (now table) × (on < 2 ^ 16) × (on ≡ 0 → ⊥) × Parts part on (now area) × Fewer (4096 * 13) (now found) × (length (now batch) ≡ 17) ⌝ }
-    ensures reply { λ r. ⌜ (r ≡ countBelow (now (batch .entry)) on (now (table .entry)) (suc (order .t))) × (r < 2 ^ 32) ⌝ }
-    ensures hits { λ _. ⌜ Collects part (hitsBelow (now (batch .entry)) on (now (table .entry)) (suc (order .t))) (now (found .entry)) (now (area .entry)) (now (found .exit)) (now (area .exit)) ⌝ }
-    ensures fewer { λ _. ⌜ Fewer 0 (now (found .exit)) ⌝ }
+    requires { ⌜ (order .t ≡ orderOf (now table))
+        × Passed (now table)
+        × (on < 2 ^ 16)
+        × (on ≡ 0 → ⊥)
+        × Parts part on (now area)
+        × Fewer (room mostOrder * suc mostOrder) (now found)
+        × (length (now batch) ≡ 17) ⌝ }
+    ensures { λ count.
+        let t = now (table .entry) in
+        let asked = now (batch .entry) in
+        let hits = hitsBelow asked on t (suc (order .t)) in
+        let after = now (found .exit) in
+        ⌜ ((count ≡ countBelow asked on t (suc (order .t))) × (count < 2 ^ 32))
+        × (Collects part hits (now (found .entry)) (now (area .entry)) after (now (area .exit))
+        × Fewer 0 after) ⌝ }
 {
     let mut count = 0;
     let mut k = order.t + 1;

@@ -2,20 +2,21 @@
 use borrow.Author.Needs.{needs}
 use mathlib.Core.Path.{refl, _∙_}
 use Rattle.metric_rules.specs.Distance.{spaceOf}
+use Rattle.table_rules.specs.Geometry.{room}
 use Rattle.image_test.specs.Trees.{mostEntries}
 use Rattle.image_test.proofs.Checked.{tags-fit, all-asks, trees-found}
 use Rattle.image_test.proofs.trees_fault.Statement.{statement}
 use Rattle.image_test.proofs.trees_fault.Tie as tie
 
 each-tree-fault-requires : tie.Need-each-tree-fault-requires
-unfolding mostEntries
+unfolding mostEntries room
 each-tree-fault-requires c κs =
     let s = c .before .before in
     let w = s .pre .0 in
     (w, s .pre .1, refl, tags-fit (s .args .image .now) (w .order) (w .sizes) (s .pre .4))
 
 live-fault-requires : tie.Need-live-fault-requires
-unfolding mostEntries
+unfolding mostEntries room
 live-fault-requires c κs =
     let s = c .before .before .before .before .before in
     let w = s .pre .0 in

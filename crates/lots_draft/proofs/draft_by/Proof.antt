@@ -9,6 +9,8 @@ use Rattle.lists.specs.Lists.{All}
 use Rattle.lists.proofs.Lists.{all-drop}
 use Rattle.metric_rules.specs.Distance.{spaceOf}
 use Rattle.search_rules.specs.Range.{Entry}
+use Rattle.table_rules.specs.Geometry.{mostOrder, room}
+use Rattle.table_rules.proofs.Fill.{room-most}
 use Rattle.tree_rules.proofs.Parts.{part-rest, put-rest}
 use Rattle.lots_rules.specs.Lots.{summaryOf, numbered}
 use Rattle.lots_draft.specs.Leading.{placeOf, Placed, placeLots, entriesLed, draftLed}
@@ -81,7 +83,7 @@ loop-again c =
           (call .ensures .1 ∙ ap (entriesLed t space (s .args .radius) (l .drafted)) part)),
     )
 
-few : (c : tie.At-loop Inv-loop μ-loop) → (c .loop .drafted .lots ≤ 4096) × (c .loop .drafted .largest ≤ 4096)
+few : (c : tie.At-loop Inv-loop μ-loop) → (c .loop .drafted .lots ≤ room mostOrder) × (c .loop .drafted .largest ≤ room mostOrder)
 few c =
     let most = awaits-few _ _ _ _ (c .loop .entries) (c .loop .i) (c .loop .drafted) (c .loop .inv .2) in
     let n = length-map (cleared c) placeOf in
@@ -116,7 +118,7 @@ draft-by-spec =
     (λ c. omega arith)
     (λ c. omega (arith, c .before .before .before .before .loop .inv .1))
     loop-again
-    (λ c. omega (arith, few (c .before .before) .0))
-    (λ c. omega (arith, few (c .before .before .before) .1))
+    (λ c. omega (arith, few (c .before .before) .0, room-most mostOrder (omega arith)))
+    (λ c. omega (arith, few (c .before .before .before) .1, room-most mostOrder (omega arith)))
     (λ c. c .before .before .before .loop .inv .1 ∙ size (c .before .before .before))
     returns)

@@ -16,7 +16,9 @@ use Rattle.metric_rules.specs.declared.Space.{Space}
 use Rattle.metric_rules.specs.Distance.{spaceOf}
 use Rattle.search_rules.specs.Range.{Entry, entry}
 use Rattle.search_rules.proofs.Selecting.{select-few}
+use Rattle.table_rules.specs.Geometry.{mostOrder}
 use Rattle.table_rules.specs.Table.{Table, rowAt}
+use Rattle.table_rules.proofs.Fill.{room-most}
 use Rattle.tree_rules.proofs.Parts.{part-rest, put-rest}
 use Rattle.lots_draft.specs.declared.Draft.{Draft}
 use Rattle.lots_draft.specs.Leading.{placeOf, lotOf, Placed, undrafted, joins, followed, entriesLed, draftLed}
@@ -120,7 +122,7 @@ lead-next-spec =
     (λ c. search needs)
     mul-leader
     shared-slice-copy-out-leader
-    (λ c. search needs)
+    (λ c. search (needs, room-most mostOrder (omega arith)))
     (λ c. search needs)
     (λ c. search needs)
     (λ c. search needs)

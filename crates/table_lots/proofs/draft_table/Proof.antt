@@ -10,7 +10,7 @@ use Rattle.search_rules.specs.Range.{Entry}
 use Rattle.table_rules.specs.Geometry.{workRows}
 use Rattle.table_rules.specs.Table.{orderOf, cleared}
 use Rattle.table_rules.specs.Search.{zeroEntry}
-use Rattle.table_rules.proofs.Fill.{room-most}
+use Rattle.table_rules.proofs.Fill.{rooms-grow}
 use Rattle.lots_rules.specs.Drafting.{chosenRadius, tableListing}
 use Rattle.table_lots.proofs.Refusing.{Accepted, accepted}
 use Rattle.table_lots.proofs.draft_table.Statement.{statement}
@@ -49,7 +49,7 @@ unfolding workRows
 draft-items-requires c κs =
     let d = c .before .before .before in
     let g = goes-on (start d) in
-    let most = room-most (orderOf (start d .args .table .now)) (g .items .passed .framed .order) in (
+    let most = rooms-grow (g .items .passed .framed .order) in (
       start d .pre .0,
       g .items .passed,
       omega (arith, front d, rows d, g .items .few),

@@ -6,7 +6,7 @@ use mathlib.Core.Path.{sym, ap, subst}
 use borrow.Author.Needs.{needs}
 use lib.ListN.{length}
 use Rattle.tree_range_batch.proofs.Steps.{Turn, fewer-less}
-use Rattle.table_rules.specs.Geometry.{firstSlot}
+use Rattle.table_rules.specs.Geometry.{room, firstSlot}
 use Rattle.table_rules.specs.Table.{builtOf, slotsOf}
 use Rattle.table_rules.proofs.Passing.{built-inside}
 use Rattle.table_rules.proofs.Down.{few-slots}
@@ -45,6 +45,7 @@ slots-of-requires c κs =
     )
 
 range-together-requires : tie.Need-range-together-requires Inv-loop μ-loop
+unfolding room
 range-together-requires c κs =
     let slots = c .before .before in
     let l = slots .before .before .loop in
@@ -61,6 +62,7 @@ range-together-requires c κs =
     )
 
 loop-again : tie.Need-loop-again Inv-loop μ-loop
+unfolding room
 loop-again c =
     let call = c .before .range-together in
     let slots = c .before .before .before .before in
@@ -73,6 +75,7 @@ loop-again c =
     (omega (arith, l .inv .0), adds-next _ _ _ _ _ _ _ (l .k) (omega arith) (l .inv .1) (few-slots (s .pre .1) (l .k - 1) (omega (arith, s .pre .0, l .inv .0))) turn)
 
 returns : tie.Need-returns Inv-loop μ-loop
+unfolding room
 returns c =
     let l = c .before .loop in
     let end = adds-end _ _ _ _ _ _ _ (omega arith) (l .inv .1) in

@@ -12,7 +12,7 @@ use lib.Seq.{length-sets}
 use Rattle.metric_rules.specs.Row.{Row}
 use Rattle.tree_range_batch.specs.Together.{Collects}
 use Rattle.tree_range_batch.proofs.Sets.{on-all}
-use Rattle.table_rules.specs.Geometry.{headerRow, firstSlot, tableRows}
+use Rattle.table_rules.specs.Geometry.{room, headerRow, firstSlot, tableRows}
 use Rattle.table_rules.specs.Table.{rowAt, orderOf}
 use Rattle.table_rules.specs.Checks.{readRefusal}
 use Rattle.table_rules.specs.Passed.{Passed}
@@ -88,7 +88,7 @@ module _ (c : tie.After-all-of) where
   batch-long = ap length batch-is ∙ length-sets (replicate 17 (rowAt (start past .args .table .now) headerRow)) 1 (map askedRow (start past .args .queries .now))
 
 buckets-together-requires : tie.Need-buckets-together-requires
-unfolding partSize
+unfolding partSize room
 buckets-together-requires c κs =
     let all = c .before .before .before in
     let p = past all in
