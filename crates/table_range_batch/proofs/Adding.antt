@@ -77,14 +77,16 @@ module _ (batch : List Row) (on : ℕ) (t : Table) where
         }
 
     -- bucket n is visited
-    pub adds-next : {n count : ℕ} {found : List ℕ} {area : List Entry} (k : ℕ) → k ≡ suc n → Adds k count found area → length (slotsOf t n) ≤ room mostOrder
+    pub adds-next : {n count : ℕ} {found : List ℕ} {area : List Entry} (k : ℕ) → k ≡ suc n → Adds k count found area
+        → length (slotsOf t n) ≤ room mostOrder
         → {count₁ : ℕ} {found₁ : List ℕ} {area₁ : List Entry} → Turn batch part on (slotsOf t n) count found area count₁ found₁ area₁ → Adds n count₁ found₁ area₁
     unfolding room
     adds-next {n} {count} {found} {area} k e a few turn =
+        let behind = room mostOrder * k - length (slotsOf t n) in
         record {
           counts = omega (arith, turn .counts, count-next n, ap (countBelow batch on t) e, a .counts);
           hits = λ f x c. a .hits f x (collects-both (hitsBelow batch on t k) (λ j. ap (λ (m : ℕ). hitsBelow batch on t m j) e ∙ hits-next n j) (turn .hits) c);
-          fewer = fewer-less (turn-fewer batch turn (room mostOrder * k) (room mostOrder * k - length (slotsOf t n)) (omega (arith, e, few)) (a .fewer)) (omega (arith, e, few));
+          fewer = fewer-less (turn-fewer batch turn (room mostOrder * k) behind (omega (arith, e, few)) (a .fewer)) (omega (arith, e, few));
           few = omega (arith, turn .counts, turn-most batch turn, a .few, e, few);
           same = turn .same ∙ a .same;
         }
