@@ -229,8 +229,8 @@ def constants(form):
 
 def source():
     lines = [
-        "// A sound image of each form, all of the same slots, and behind it one byte that is no part of it, as tools/image_runs.py writes them: its length, the",
-        "// lengths from 0 to one more than that, and the bytes.",
+        "// A sound image of each form, all of the same slots, and behind it one byte that is no part of it, as",
+        "// tools/image_runs.py writes them: its length, the lengths from 0 to one more than that, and the bytes.",
     ]
     return "\n".join(lines + [line for form in reversed(range(len(FORMS))) for line in constants(form)]) + "\n"
 
