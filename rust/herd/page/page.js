@@ -1,6 +1,6 @@
 // What is shown. `herd` is what the index holds; each change makes a new one, and one can go back to the images before.
 
-const DRAFT_STEPS = 400, UNDONE = 20, MATCHES = 6, TOLD_LINES = 3;
+const DRAFT_STEPS = 400, UNDONE = 20, MATCHES = 6;
 
 let index, module, herd = null, saved = null, radius = 0, lots = [], lotOf = new Map(), chosenLot = null;
 const past = [];
@@ -321,9 +321,8 @@ function begin(head) {
 
 async function openFile(file) {
   const bytes = new Uint8Array(await file.arrayBuffer());
-  const isText = startsWith(bytes, ...new TextEncoder().encode("tag")) || bytes[0] >= 0xef;
-  if (isText) change(herd ? herd.name : file.name.replace(/(\.\w+)?$/, ".img"), () => addList(bytes));
-  else openImage(file.name, bytes, `${file.name} was opened`);
+  if (!isText(bytes)) openImage(file.name, bytes, `${file.name} was opened`);
+  else change(herd?.name ?? file.name.replace(/(\.\w+)?$/, ".img"), () => addList(bytes), { [BAD_DAY]: at("list-day") });
 }
 
 function openImage(name, bytes, words) {
@@ -347,16 +346,9 @@ function imageFault(refusal) {
 }
 
 function addList(bytes) {
-  const day = typed(at("list-day"), readDay), list = tidied(bytes);
-  if (startsWith(list, ...new TextEncoder().encode("tag,"))) {
-    throw new Mistyped("it is a list as `herd list --csv` writes it, which `herd read` takes; this is for a scale head's");
-  }
+  const day = typed(at("list-day"), readDay), { list, putRight } = tidied(bytes);
   if (!herd) index.fresh(...typedStart());
-  const { added, replaced, refused } = readList(index, list, day, at("list-again").checked);
-  const more = refused.length - TOLD_LINES;
-  const lines = [...refused.slice(0, TOLD_LINES), ...(more > 0 ? [`${counted(more, "line", "lines")} more`] : [])];
-  const counts = `${grouped(added)} added, ${grouped(replaced)} replaced, ${grouped(refused.length)} refused`;
-  return lines.length ? `${counts}. ${lines.join("; ")}` : counts;
+  return listWords(readList(index, list, day, at("list-again").checked), putRight);
 }
 
 function save() {

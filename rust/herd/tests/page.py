@@ -304,7 +304,8 @@ def hold_day(browser, folder):
     page.type("#list-day", "413")
     page.click("#list-again")
     hold("a spreadsheet's list is weighed again", told_after(page, lambda: give(page, sheet)),
-         "0 added, 8 replaced, 0 refused")
+         "0 added, 8 replaced, 0 refused\nput right before it was read: a byte order mark, "
+         "a last line without its line feed, carriage returns")
     herd("read", image, sheet, "--day", 413, "--replace")
     page.click("#list-again")
 
@@ -359,7 +360,8 @@ def hold_documented(browser, folder):
     page.type("#list-day", "321")
     page.click("#list-again")
     told = told_after(page, lambda: give(page, EXAMPLES / "fault.list"))
-    hold("documented: the second list", told, "0 added, 7 replaced, 1 refused. line 5: a line of the list is not of the form")
+    hold("documented: the second list", told, "0 added, 7 replaced, 1 refused\n"
+         "line 5, field 2: `409.00` has a point where a comma belongs")
     told = told_after(page, lambda: give(page, right))
     hold("documented: the second list, put right", told, "0 added, 8 replaced, 0 refused")
     hold("documented: a head is added", weigh(page, "036000000000120", ["455", "131", "190", "1.1"], 321, code),
@@ -415,21 +417,65 @@ def hold_refused(page, image, folder):
              f"Refused: {what} is no herd image that can be opened. {words}")
         hold(f"and the herd is as it was: {what}", page.see("[...index.write()]"), list(bytes_of))
     hold_refused_trees(page, bytes_of, folder)
-    header = "the list does not begin with its header line"
+    hold_lists(page, image, folder)
+
+
+def read_told(image, listed, *words):
+    """What the program says of a list, on a copy of the image: the counts, and the lines on standard error."""
+    copy = listed.with_suffix(".copy")
+    copy.write_bytes(image.read_bytes())
+    done = subprocess.run([PROGRAM, "read", copy, listed, *words], capture_output=True, text=True)
+    told = [line.removeprefix(f"herd: {listed}")[2:] for line in done.stderr.splitlines()]
+    counts = done.stdout.removeprefix(f"{copy}: ").rsplit(",", 1)[0]
+    return [counts, *(line for line in told if not line.startswith("with --replace"))]
+
+
+FAULTY = [
+    # the form, field by field
+    [b"", b"1", b"036000000000501;1,00;1,00;1,00", b"03600000000050;1,00;1,00;1,00;1,00", b"x;1,00;1,00;1,00;1,00",
+     b"036000000000501;409.00;1,00;1,00;1,00", b"036000000000501;1,00;;1,00;1,00", b"036000000000501;1,00;1,00;1;1,00",
+     b"036000000000501;1,00;1,00;1,00;1,0", b"036000000000501;1,00;1,00;1,00;-"],
+    # more of it, the range, a tag that is none, and one more than are told
+    [b"036000000000501;000001,00;1,00;1,00;1,00", b"036000000000501;,50;1,00;1,00;1,00",
+     b"036000000000501;1,00;1,00;209,00\xa0;1,00", b"036000000000501;1,00;1 0,00;1,00;1,00", "\u00a0;1,00;1,00;1,00;1,00".encode(),
+     b"000000000000001;1,00;1,00;1,00;1,00", b"036999999999999;1,00;1,00;1,00;1,00",
+     b"036000000000501;10000,01;1,00;1,00;1,00", b"036000000000501;1,00;1,00;1,00;-10000,01",
+     b"036000000000501;1,00;\t;1,00;1,00", b"036000000000501;1,00;1,x0;1,00;1,00", b"036000000000501;1,00\r\r",
+     b"036000000000501;" + b"9" * 60 + b";1,00;1,00;1,00"],
+    # more head than there is room for, behind some that are there
+    [b"036000000000101;1,00;1,00;1,00;1,00", *(b"0360000000005%02d;1,00;1,00;1,00;1,00" % at for at in range(12))],
+]
+
+
+def hold_lists(page, image, folder):
+    """Lists that are refused in part or as a whole, in the words of the program."""
+    page.see("at('files').open = true")
+    page.type("#list-day", "5")
+    for at, lines in enumerate(FAULTY):
+        listed = folder / f"faulty{at}.list"
+        for end in (b"\n", b"\r\n"):
+            begin = b"" if end == b"\n" else b"\xef\xbb\xbf"
+            listed.write_bytes(begin + end.join([b"tag;kg;hip;girth;gain", *lines]) + end)
+            told = told_after(page, lambda: give(page, listed))
+            hold(f"a list with faults is told by its lines: {at}", told.splitlines(), read_told(image, listed, "--day", "5"))
+            page.click("#undo")
+    for what, header in [("cut", "tag;kg"), ("commas", "tag,kg,hip,girth,gain"), ("large", "Tag;Kg;Hip;Girth;Gain"),
+                         ("html", "<!doctype html>"), ("blank", "")]:
+        listed = folder / f"{what}.list"
+        listed.write_text(f"{header}\n036000000000501;1,00;1,00;1,00;1,00\n")
+        hold(f"another header: {what}", told_after(page, lambda: give(page, listed)),
+             f"Refused: {read_told(image, listed)[1]}")
+    page.type("#list-day", "0")
+    hold("a list on day 0", (told_after(page, lambda: give(page, EXAMPLES / "sound.list")), blamed(page)),
+         ("Refused: the day is 0", [["list-day", "the day is 0"]]))
+    page.type("#list-day", "5")
     for what, bad, words in [
-            ("header.list", b"tag;kg\n", f"Refused: {header}"),
             ("wide.list", "\ufefftag;kg;hip;girth;gain\n".encode("utf-16-le"),
              "Refused: it is saved as UTF-16; save it as UTF-8, in a spreadsheet as CSV UTF-8"),
             ("yard.csv", b"tag,day,kg,hip,girth,gain,code\n", "Refused: it is a list as `herd list --csv` writes it, "
-             "which `herd read` takes; this is for a scale head's"),
-            ("fault.list", (EXAMPLES / "fault.list").read_bytes(), None)]:
+             "which `herd read` takes; this is for a scale head's")]:
         (folder / what).write_bytes(bad)
-        told = told_after(page, lambda: give(page, folder / what))
-        if words:
-            hold(f"a list is refused: {what}", told, words)
-        else:
-            hold("a list with faults is told by its lines", told.count("; line") + told.count(". line"), 3)
-            page.click("#undo")
+        hold(f"a list is refused: {what}", told_after(page, lambda: give(page, folder / what)), words)
 
 
 def hold_refused_trees(page, image, folder):

@@ -14,11 +14,12 @@ use crate::file::{self, Image};
 use crate::report::{Failure, Outcome};
 
 const PAGE: &str = include_str!("../../page/page.html");
-const SOURCES: [(&str, &str); 8] = [
+const SOURCES: [(&str, &str); 9] = [
     ("style.css", include_str!("../../page/style.css")),
     ("index.js", include_str!("../../page/index.js")),
     ("drafter.js", include_str!("../../page/drafter.js")),
     ("herd.js", include_str!("../../page/herd.js")),
+    ("list.js", include_str!("../../page/list.js")),
     ("table.js", include_str!("../../page/table.js")),
     ("plot.js", include_str!("../../page/plot.js")),
     ("trees.js", include_str!("../../page/trees.js")),
