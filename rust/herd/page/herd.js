@@ -28,7 +28,15 @@ const codeText = ([first, second]) =>
 // A day is a date too where that of day 1 is known.
 const MILLISECONDS = 24 * 60 * 60 * 1000, DAY_ONE = Date.parse(document.getElementById("image").dataset.dayOne);
 const hasDates = !Number.isNaN(DAY_ONE);
+const isDay = day => day >= 1 && day <= MAX_DAY;
 const dayText = day => hasDates ? new Date(DAY_ONE + (day - 1) * MILLISECONDS).toISOString().slice(0, 10) : String(day);
+
+// By the clock on the wall; none where dates are not known, or it is no day of a herd.
+function today() {
+  const now = new Date(), date = Date.UTC(now.getFullYear(), now.getMonth(), now.getDate());
+  const day = (date - DAY_ONE) / MILLISECONDS + 1;
+  return isDay(day) ? day : null;
+}
 
 // What a call says, in a yard's words: what the header calls a table is a herd, and its items are head.
 const ofHerd = words => words.replaceAll("table", "herd").replace(/items?/g, "head");
@@ -58,24 +66,28 @@ function readCode(typed) {
   return [digits.slice(0, 16), digits.slice(16)].map(half => BigInt(`0x${half}`));
 }
 
-function readWhole(typed, most) {
+function readWhole(typed, most, other = "") {
   const digits = typed.trim(), isWhole = /^\d+$/.test(digits) && Number(digits) <= most;
-  if (!isWhole) throw new Mistyped(`a whole number up to ${grouped(most)} belongs here`);
+  if (!isWhole) throw new Mistyped(`a whole number up to ${grouped(most)}${other} belongs here`);
   return Number(digits);
 }
 
+// As its number, and where dates are known as its date or the word `today`.
 function readDay(typed) {
   const text = typed.trim(), day = (Date.parse(text) - DAY_ONE) / MILLISECONDS + 1;
-  if (!hasDates || !/^\d+-\d\d-\d\d$/.test(text)) return readWhole(text, MAX_DAY);
-  if (day >= 1 && day <= MAX_DAY && dayText(day) === text) return day;
-  throw new Mistyped(`a date from ${dayText(1)} to ${dayText(MAX_DAY)} belongs here`);
+  const isNumber = /^\d+$/.test(text) && Number(text) <= MAX_DAY;
+  if (isNumber || !hasDates) return readWhole(text, MAX_DAY);
+  if (text === "today" && today()) return today();
+  if (isDay(day) && dayText(day) === text) return day;
+  throw new Mistyped(`a date from ${dayText(1)} to ${dayText(MAX_DAY)}, today or the number of a day belongs here`);
 }
 
 // Hundredths or bits; with a point a radius is in units of measures.
 function readRadius(typed, { name }) {
   const units = /^(\d+)[.,](\d\d)$/.exec(typed.trim());
+  const other = name === "bits" ? "" : ", or one with a point such as 20.00,";
   if (units && name === "bits") throw new Mistyped("a radius by bits is a whole number");
-  return readWhole(units ? units[1] + units[2] : typed, ANY_DISTANCE);
+  return readWhole(units ? units[1] + units[2] : typed, ANY_DISTANCE, other);
 }
 
 // The herd

@@ -56,9 +56,8 @@ function readHeader(index, header, day) {
   } catch (refusal) {
     if (refusal.number !== BAD_LIST_HEADER) throw refusal;
     const text = charactersOf(header.subarray(0, -1));
-    if (text === CSV_HEADER) {
-      throw new Mistyped("it is a list as `herd list --csv` writes it, which `herd read` takes; this is for a scale head's");
-    }
+    const csvWords = "it is a list as `herd list --csv` writes it, which `herd read` takes; this is for a scale head's";
+    if (text === CSV_HEADER) throw new Mistyped(csvWords);
     const stands = text ? `\`${shownText(text)}\`` : "nothing";
     throw new Mistyped(`line 1: ${stands} stands where \`${LIST_HEADER.trimEnd()}\` belongs`);
   }
@@ -92,7 +91,8 @@ function lineFault(text, { number, message }) {
 // By the number of a refusal: what is wrong with a field and its place, if anything is.
 const FAULTS = {
   [BAD_LIST_LINE]: (field, i) => i === 0 ? tagFault(field) : valueFault(field),
-  [BAD_TAG]: (field, i) => i > 0 ? null : /^000/.test(field) ? "has country 000" : "has a national number above 274877906943",
+  [BAD_TAG]: (field, i) => i > 0 ? null
+    : field.startsWith("000") ? "has country 000" : "has a national number above 274877906943",
   [BAD_MEASURE]: (field, i) => i === 0 || Number(field.replace(/\D/g, "")) <= MAX_MEASURE ? null
     : field.startsWith("-") ? "is below -10000,00" : "is above 10000,00",
 };

@@ -2,7 +2,8 @@
 
 const DRAFT_STEPS = 400, UNDONE = 20, MATCHES = 6;
 
-let index, module, herd = null, saved = null, radius = 0, lots = [], lotOf = new Map(), chosenLot = null;
+let index, module, isDayTyped = false, listDay = null;
+let herd = null, saved = null, radius = 0, lots = [], lotOf = new Map(), chosenLot = null;
 const past = [];
 
 // Elements
@@ -332,6 +333,7 @@ function openImage(name, bytes, words) {
     } catch (refusal) {
       throw new Mistyped(`${name} is no herd image that can be opened. ${imageFault(refusal)}`);
     }
+    listDay = null;
     return words;
   };
   if (change(name, load)) saved = herd;
@@ -348,7 +350,9 @@ function imageFault(refusal) {
 function addList(bytes) {
   const day = typed(at("list-day"), readDay), { list, putRight } = tidied(bytes);
   if (!herd) index.fresh(...typedStart());
-  return listWords(readList(index, list, day, at("list-again").checked), putRight);
+  const words = listWords(readList(index, list, day, at("list-again").checked), putRight);
+  listDay = day;
+  return words;
 }
 
 function save() {
@@ -356,6 +360,7 @@ function save() {
   link.click();
   setTimeout(() => URL.revokeObjectURL(link.href), 1000);
   saved = herd;
+  tell(`${herd.name} was saved, where the browser puts what it downloads`);
 }
 
 // The crate: of a head that is there, blank fields stay as they were.
@@ -373,6 +378,11 @@ function showCrate() {
   at("remove").disabled = !head;
   at("in-crate").textContent = head ? `In the herd, weighed on ${hasDates ? "" : "day "}${dayText(head.day)}. Blank fields stay as they were.`
     : isTyped ? "Not in the herd." : "";
+}
+
+// Unless one was typed: the day of the last list, or today where dates are known, or the herd's last.
+function showDay() {
+  if (!isDayTyped) at("day").value = dayText(listDay ?? today() ?? herd.lastDay);
 }
 
 function weighTyped() {
@@ -403,7 +413,7 @@ function take(next) {
   document.body.style.setProperty("--rows", Math.min(12, Math.max(5, herd.head.length)));
   if (!before) at("files").open = false;
   if (before?.hasCodes !== herd.hasCodes) layOutHead();
-  at("day").value ||= dayText(herd.lastDay);
+  showDay();
   showSummary();
   showHead();
   showCrate();
@@ -486,6 +496,7 @@ function listen() {
   on("filter", "input", showHead);
   on("every-lot", "click", () => chooseLot(null));
   on("tag", "input", showCrate);
+  on("day", "input", () => { isDayTyped = at("day").value.trim() !== ""; });
   on("remove", "click", removeTyped);
   on("save", "click", save);
   on("undo", "click", undo);
@@ -523,6 +534,10 @@ async function openPage() {
     html("option", { value: order }, `${grouped(1 << order)} head`)));
   at("order").value = MAX_ORDER;
   at("metric").append(...METRICS.map(({ name, words }, i) => html("option", { value: i }, `${name}: ${words}`)));
+  at("list-day").value = dayText(today() ?? 1);
+  document.body.classList.toggle("with-dates", hasDates);
+  // the keys of a phone for a number may be without a dash
+  if (hasDates) ["day", "list-day", "since"].forEach(id => { at(id).inputMode = "text"; });
   module = fromBase64(at("module").textContent);
   index = await Index.start(module);
   listen();

@@ -272,7 +272,8 @@ def weigh(page, tag, measures, day, code=""):
     page.type("#tag", tag)
     for field, value in zip([*(f"new-{name}" for name in MEASURES), "new-code"], [*measures, code]):
         page.type(f"#{field}", value)
-    page.type("#day", str(day))
+    if day is not None:
+        page.type("#day", str(day))
     return told_after(page, lambda: page.click("#weigh"))
 
 
@@ -325,7 +326,8 @@ def hold_day(browser, folder):
     # as the terminal's, an image that was loaded: the removed head that guide searches are in it
     hold("what is not saved is asked about", page.see("dispatchEvent(new Event('beforeunload', { cancelable: true }))"),
          False)
-    page.click("#save")
+    hold("what was saved is told", told_after(page, lambda: page.click("#save")),
+         "new.img was saved, where the browser puts what it downloads")
     end = time.monotonic() + 10
     while not (down / "new.img").exists() and time.monotonic() < end:
         time.sleep(.05)
@@ -357,6 +359,7 @@ def hold_documented(browser, folder):
     page.type("#list-day", "320")
     told = told_after(page, lambda: give(page, EXAMPLES / "sound.list"))
     hold("documented: the first list", told, "8 added, 0 replaced, 0 refused")
+    hold("the crate's day is the list's", page.see("at('day').value"), "320")
     page.type("#list-day", "321")
     page.click("#list-again")
     told = told_after(page, lambda: give(page, EXAMPLES / "fault.list"))
@@ -364,8 +367,9 @@ def hold_documented(browser, folder):
          "line 5, field 2: `409.00` has a point where a comma belongs")
     told = told_after(page, lambda: give(page, right))
     hold("documented: the second list, put right", told, "0 added, 8 replaced, 0 refused")
-    hold("documented: a head is added", weigh(page, "036000000000120", ["455", "131", "190", "1.1"], 321, code),
-         "036000000000120 was added")
+    hold("documented: a head is added, its day untouched",
+         weigh(page, "036000000000120", ["455", "131", "190", "1.1"], None, code), "036000000000120 was added")
+    hold("the crate's day is the last list's", page.see("at('day').value"), "321")
     page.type("#radius", "20.00")
     drafted(page, 2000)
     hold("documented: lots by 20.00", page.text("#drafted"), "6 lots, the largest of 3 head")
@@ -374,6 +378,15 @@ def hold_documented(browser, folder):
     hold("documented: one is removed", page.text("#size"), "8 head")
     page.click("#undo")
     hold("documented: the same image", bytes(page.see("[...herd.image]")), image.read_bytes())
+    page.type("#day", "319")
+    page.type("#list-day", "322")
+    told_after(page, lambda: give(page, right))
+    hold("a day that was typed stays", page.see("at('day').value"), "319")
+    page.type("#day", "")
+    told_after(page, lambda: give(page, right))
+    hold("and none that is blank", page.see("at('day').value"), "322")
+    told_after(page, lambda: give(page, folder / "worst.img"))
+    hold("of an image it is the last day", page.see("at('day').value"), "301")
     page.close()
 
 
@@ -400,7 +413,8 @@ def hold_refused(page, image, folder):
     hold("the nearest 0", blamed(page), [["count", "the nearest 0 head were asked for"]])
     page.type("#count", "10")
     page.type("#radius", "1e9")
-    hold("a radius that is none", [field for field, _ in blamed(page)], ["radius"])
+    hold("a radius that is none", blamed(page),
+         [["radius", "a whole number up to 4,294,967,295, or one with a point such as 20.00, belongs here"]])
     page.type("#radius", "9.00")
     drafted(page, 900)
     hold("a radius in units", blamed(page), [])
@@ -437,8 +451,8 @@ FAULTY = [
      b"036000000000501;1,00;1,00;1,00;1,0", b"036000000000501;1,00;1,00;1,00;-"],
     # more of it, the range, a tag that is none, and one more than are told
     [b"036000000000501;000001,00;1,00;1,00;1,00", b"036000000000501;,50;1,00;1,00;1,00",
-     b"036000000000501;1,00;1,00;209,00\xa0;1,00", b"036000000000501;1,00;1 0,00;1,00;1,00", "\u00a0;1,00;1,00;1,00;1,00".encode(),
-     b"000000000000001;1,00;1,00;1,00;1,00", b"036999999999999;1,00;1,00;1,00;1,00",
+     b"036000000000501;1,00;1,00;209,00\xa0;1,00", b"036000000000501;1,00;1 0,00;1,00;1,00",
+     "\u00a0;1,00;1,00;1,00;1,00".encode(), b"000000000000001;1,00;1,00;1,00;1,00", b"036999999999999;1,00;1,00;1,00;1,00",
      b"036000000000501;10000,01;1,00;1,00;1,00", b"036000000000501;1,00;1,00;1,00;-10000,01",
      b"036000000000501;1,00;\t;1,00;1,00", b"036000000000501;1,00;1,x0;1,00;1,00", b"036000000000501;1,00\r\r",
      b"036000000000501;" + b"9" * 60 + b";1,00;1,00;1,00"],
@@ -539,13 +553,47 @@ def hold_dates(browser, folder):
     found = answer("nearest", image, 10, "001000000000001", "--since", "2026-10-28", *day_one)["found"]
     hold("since a date", [row[:3] for row in rows(page, "found-rows")],
          [[hit["tag"], grouped(hit["distance"]), hit["date"]] for hit in found])
-    for typed in ("2025-12-31", "2026-02-30", "2205-06-07"):
+    words = "a date from 2026-01-01 to 2205-06-06, today or the number of a day belongs here"
+    for typed in ("2025-12-31", "2026-02-30", "2205-06-07", "17.11.2026", "yesterday", "65536"):
         page.type("#since", typed)
-        hold(f"no such day: {typed}", blamed(page), [["since", "a date from 2026-01-01 to 2205-06-06 belongs here"]])
+        hold(f"no such day: {typed}", blamed(page), [["since", words]])
     page.type("#since", "")
+    hold("no such day at the crate", (weigh(page, "001000000000001", ["1", "", "", ""], "17.11.2026"), blamed(page)),
+         (f"Refused: {words}", [["day", words]]))
+    page.see("at('files').open = true")
+    page.type("#list-day", "17.11.2026")
+    hold("no such day of a list", (told_after(page, lambda: give(page, EXAMPLES / "sound.list")), blamed(page)),
+         (f"Refused: {words}", [["list-day", words]]))
+    page.type("#list-day", "2026-11-16")
+    told_after(page, lambda: give(page, EXAMPLES / "sound.list"))
+    hold("the day of a list as a date", page.see("herd.byTag.get(36000000000101n).day"), 320)
     hold("weighed on a date", weigh(page, "001000000000001", ["1", "", "", ""], "2026-11-17"),
          "001000000000001 was weighed again")
     hold("which is its day", page.see("herd.byTag.get(1000000000001n).day"), 321)
+    page.close()
+    hold_today(browser, folder)
+
+
+def hold_today(browser, folder):
+    """Dates in an empty page whose day 1 was yesterday, by the clock of the machine."""
+    before = time.strftime("%Y-%m-%d", time.localtime(time.time() - 24 * 3600))
+    herd("page", "-o", folder / "today.html", "--day-one", before)
+    page = Page(browser, folder / "today.html", 390, 844, True)
+    wait(page, "index")
+    today = time.strftime("%Y-%m-%d")
+    hold("a list is of today", page.see("at('list-day').value"), today)
+    page.click("#start")
+    wait(page, "herd")
+    hold("and so is the crate", page.see("at('day').value"), today)
+    for tag, day, number in (("036000000000101", None, 2), ("036000000000102", "today", 2), ("036000000000103", before, 1)):
+        weigh(page, tag, ["1", "1", "1", "1"], day)
+        hold(f"weighed on {day}", page.see(f"herd.byTag.get(BigInt('{tag}')).day"), number)
+    page.type("#like-tag", "036000000000101")
+    page.type("#since", "today")
+    hold("since today", [row[0] for row in rows(page, "found-rows")], ["036000000000101", "036000000000102"])
+    page.see("at('files').open = true; ['day', 'since', 'list-day'].forEach(id => { at(id).value = '2026-12-28'; })")
+    hold("dates have room", page.see("['day', 'since', 'list-day'].filter(id => at(id).scrollWidth > at(id).clientWidth)"), [])
+    hold("a phone's width is enough for dates", page.see("document.documentElement.scrollWidth"), 390)
     page.close()
 
 
