@@ -8,7 +8,7 @@ use std::io::{self, ErrorKind, Read, Write};
 use std::os::unix::fs::{MetadataExt, chown};
 use std::path::{Path, PathBuf};
 
-use vpindex::{ImageRefusal, Table};
+use vpindex::{ImageRefusal, Order, Table};
 
 use crate::report::{Failure, refused};
 use crate::words;
@@ -64,6 +64,9 @@ impl Image {
     }
 }
 
+// Forms are 0, 1 and 2.
+const NEWEST_FORM: u16 = 2;
+
 // How files begin that are no images. An image begins with its order, which is a byte of 0 to 12.
 const OTHERS: [(&[u8], &str); 10] = [
     (b"tag;", "a herd list"),
@@ -83,8 +86,16 @@ pub fn why_no_image(bytes: &[u8], refused: &ImageRefusal) -> String {
     match OTHERS.iter().find(|(begin, _)| bytes.starts_with(begin)) {
         Some((_, what)) => format!("this is no herd image: it begins as {what}"),
         None if bytes.is_empty() => "this is no herd image: it is empty".to_string(),
+        None if !may_be_image(bytes) => {
+            "this is no herd image: it begins with neither an order nor a form of one".to_string()
+        }
         None => words::of_herd(refused),
     }
+}
+
+// Of an image in which one of them was changed the other tells that it is one.
+fn may_be_image(bytes: &[u8]) -> bool {
+    u32::from(bytes[0]) <= Order::MAX.get() || words::form(bytes) <= NEWEST_FORM
 }
 
 // The file of this name, while no other `herd` is at it: one that was waited for may have put another there.
