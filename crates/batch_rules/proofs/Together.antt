@@ -2,7 +2,7 @@
 -- A place lies in one half, so the two halves' counts follow each other, as they do for one query.
 use Prim.Native.Nat.{ℕ, zero, suc, ◌+◌, ◌-◌, ◌≤◌}
 use mathlib.Core.Path.{◌≡◌, refl, sym, ap, ap₂, ◌∙◌}
-use mathlib.Core.Bool.{Bool, true, false, ◌&&◌, ◌||◌, or_false}
+use mathlib.Core.Bool.{Bool, true, false, ◌&&◌, ◌||◌, or-false}
 use mathlib.Core.List.{List, [], ◌∷◌}
 use lib.ListN.{length, take, drop, length-take, length-drop}
 use lib.Seq.{length-take-le}
@@ -99,7 +99,7 @@ module _ (dist : Profile → Profile → ℕ) where
   together_one query slots =
       let p : ℕ → Bool = reached_within dist (profile_of query) (threshold_of query) (length slots) slots in
       counted (query ∷ []) slots
-      ∙ passing_alike (λ i. p i || false) (λ i. p (0 + i)) (length slots) (λ i h. or_false (p i) ∙ ap p (omega arith))
+      ∙ passing_alike (λ i. p i || false) (λ i. p (0 + i)) (length slots) (λ i h. or-false (p i) ∙ ap p (omega arith))
       ∙ sym (selected_passing p 0 (length slots))
 
   -- one query more adds at most what its single call visits
@@ -113,7 +113,7 @@ module _ (dist : Profile → Profile → ℕ) where
         arith,
         counted (query ∷ queries) slots,
         counted queries slots,
-        sym (together_one query slots) ∙ counted (query ∷ []) slots ∙ passing_alike (λ i. p i || false) p (length slots) (λ i h. or_false (p i)),
+        sym (together_one query slots) ∙ counted (query ∷ []) slots ∙ passing_alike (λ i. p i || false) p (length slots) (λ i h. or-false (p i)),
         passing_either p q (length slots),
       )
 

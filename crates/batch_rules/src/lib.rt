@@ -1,3 +1,5 @@
+#![tactic(auto)]
+
 // Range for several queries in one call: what it replies. No function.
 
 // RULES 11.12: at most so many queries.
@@ -7,7 +9,7 @@ pub const MOST_QUERIES: usize = 16;
 pub const BAD_BATCH: u32 = 40;
 
 #[repr(C)]
-#[derive(Drop)]
+#[derive(Clone, Copy)]
 pub struct Ranges {
     pub refusal: u32,
     pub distances: u32,

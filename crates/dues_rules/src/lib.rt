@@ -1,3 +1,5 @@
+#![tactic(auto)]
+
 // Yard dues: what a list of tags replies. No function.
 
 // RULES 14.1: the number of the dues' own refusal.
@@ -5,7 +7,7 @@ pub const NO_DUES: u32 = 39;
 
 // RULES 20.5: the sum of what the list pays, in cents.
 #[repr(C)]
-#[derive(Drop)]
+#[derive(Clone, Copy)]
 pub struct Dues {
     pub refusal: u32,
     pub total: u64,

@@ -1,1 +1,3 @@
+#![tactic(auto)]
+
 // Lists of calls on one table, and the reference model that is kept beside them.

@@ -104,7 +104,8 @@ picked front [] back a d e = refl
 picked front (x ∷ part) back a d e =
     let regroup : front ++ (x ∷ (part ++ back)) ≡ (front ++ (x ∷ [])) ++ (part ++ back) = sym (append_assoc front (x ∷ []) (part ++ back)) in
     ap₂ ◌∷◌ (get_or_at front x (part ++ back) d a e)
-    (rw regroup (picked (front ++ (x ∷ [])) part back (suc a) d (length-append front (x ∷ []) ∙ omega (arith, e))))
+    (ap (λ (xs : List _). map (λ i. get_or xs i d) (count_from (suc a) (length part))) regroup
+    ∙ picked (front ++ (x ∷ [])) part back (suc a) d (length-append front (x ∷ []) ∙ omega (arith, e)))
 
 -- n pieces of w elements from number a on, piece k standing at w · k past a place, put end to end are the elements there
 pub pieces : {A : Type 0} (xs : List A) (w at a n : ℕ)

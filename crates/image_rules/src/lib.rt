@@ -1,3 +1,5 @@
+#![tactic(auto)]
+
 // The image of a table: the bytes it is written as, and the table that they load as.
 
 // RULES 14.1: the numbers of the refusals that name a slot.
@@ -30,14 +32,14 @@ pub const RECORD_WORDS_BYTES: usize = 4 * RECORD_WORDS;
 pub const DAY_BYTES: usize = 2;
 
 #[repr(C)]
-#[derive(Drop)]
+#[derive(Clone, Copy)]
 pub struct Written {
     pub refusal: u32,
     pub length: u32,
 }
 
 #[repr(C)]
-#[derive(Drop)]
+#[derive(Clone, Copy)]
 pub struct Loaded {
     pub refusal: u32,
     pub slot: u32,

@@ -1,3 +1,5 @@
+#![tactic(auto)]
+
 // Herd lists: what the reading of one replies. No function.
 
 // RULES 14.1: the numbers of the list's own refusals.
@@ -6,7 +8,7 @@ pub const BAD_LIST_HEADER: u32 = 30;
 pub const BAD_LIST_LINE: u32 = 31;
 
 #[repr(C)]
-#[derive(Drop)]
+#[derive(Clone, Copy)]
 pub struct ListRead {
     pub refusal: u32,
     pub line: u32,

@@ -1,3 +1,5 @@
+#![tactic(auto)]
+
 // Lots: what the drafting of a table by a list of radii names. No function.
 
 // RULES 14.1: the number of the drafting's own refusal.

@@ -1,8 +1,8 @@
 -- What a function knows of its arguments by their types: an array of thirteen words is a row, a struct `Profile` has four signed measures and two
 -- words, and `Weights` four words. Each follows from the relation that `c.good` holds (and `.ok` of a call's result), element by element.
 use Prim.Native.Nat.{ℕ, zero, suc, ◌<◌, ◌^◌}
-use mathlib.Core.Path.{◌≡◌, ap, ◌∙◌, subst}
-use mathlib.Core.List.{List, [], ◌∷◌, map-id}
+use mathlib.Core.Path.{◌≡◌, ap, ◌∙◌}
+use mathlib.Core.List.{List, [], ◌∷◌}
 use lib.IntN.{ℤ, pos}
 use lib.ListN.{length, get_or}
 use mir.Syntax.{w32, w64}
@@ -45,14 +45,14 @@ four_words ns vs g = (g.1.0.1, λ i. (elem_Fits w32 w32 ns g.0 i g.1.1 tt).fits)
 pub is_profile : (p : Profile) (vs : List Val) → Is (row P.the_type) p vs → IsProfile p
 unfolding measure code_word
 is_profile p vs g =
-    let m = four_signed p.measures _ (subst (λ (zs : List ℤ). Is (Array (SInt w32) 4) zs g.0.0) (map-id p.measures) g.1.1.0) in
-    let k = two_words p.code _ (subst (λ (ns : List ℕ). Is (Array (UInt w64) 2) ns g.0.1.0) (map-id p.code) g.1.1.1.0) in
+    let m = four_signed p.measures _ g.1.1.0 in
+    let k = two_words p.code _ g.1.1.1.0 in
     record { four = m.0; two = k.0; signed = m.1; wide = k.1 }
 
 pub is_weights : (weights : Weights) (vs : List Val) → Is (row W.the_type) weights vs → IsWeights weights
 unfolding weight
 is_weights weights vs g =
-    let k = four_words weights.each _ (subst (λ (ns : List ℕ). Is (Array (UInt w32) 4) ns g.0.0) (map-id weights.each) g.1.1.0) in
+    let k = four_words weights.each _ g.1.1.0 in
     record { four = k.0; fits = k.1 }
 
 -- a measure that is copied out of the array comes as its bits read back

@@ -1,3 +1,5 @@
+#![tactic(auto)]
+
 // Profiles and rows: what the other crates' definitions and code name them by.
 
 // How many words a slot's row has (`row_width` in the definitions, VPINDEX_ROW_WORDS in C), and the place of each: the
@@ -46,7 +48,7 @@ pub type Row = [u32; ROW_WIDTH];
 
 // RULES 3.7: what the difference of each measure is multiplied by.
 #[repr(C)]
-#[derive(Drop)]
+#[derive(Clone, Copy)]
 pub struct Weights {
     pub each: [u32; 4],
 }
@@ -55,7 +57,7 @@ pub struct Weights {
 pub const WEIGHTS_ONE: Weights = Weights { each: [1, 1, 1, 1] };
 
 // What a distance depends on, in one value: a table's metric and its weights.
-#[derive(Drop)]
+#[derive(Clone, Copy)]
 pub struct Space {
     pub metric: u32,
     pub weights: Weights,
@@ -63,7 +65,7 @@ pub struct Space {
 
 // RULES 2.6: four measures in hundredths and the coat code, handed over as one value.
 #[repr(C)]
-#[derive(Drop)]
+#[derive(Clone, Copy)]
 pub struct Profile {
     pub measures: [i32; 4],
     pub code: [u64; 2],

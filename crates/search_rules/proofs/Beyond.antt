@@ -2,7 +2,7 @@
 -- and counts as many slots as range meets with that distance as its radius. By the depth: nothing is taken in, so the bound of every test is the same.
 use Prim.Native.Nat.{ℕ, zero, suc, ◌+◌, ◌≤◌, ◌<◌}
 use mathlib.Core.Path.{◌≡◌, refl, sym, ap, ap₂, ◌∙◌}
-use mathlib.Core.Bool.{Bool, true, false, ◌&&◌, ◌||◌, and_false, false≢true}
+use mathlib.Core.Bool.{Bool, true, false, ◌&&◌, ◌||◌, and-false, false≢true}
 use mathlib.Core.List.{List, [], ◌∷◌, ◌++◌}
 use lib.ListN.{length, take, drop}
 use lib.Dec.{leb, ltb}
@@ -28,7 +28,7 @@ module _ (dist : Profile → Profile → ℕ) (query : Profile) (reports : Row �
   unfolding visited isHit
   alone_no_hit s far =
       ap (λ (b : Bool). elim b as (λ _. List Entry) [ true ↦ entry_of dist query s ∷ [] | false ↦ [] ])
-      (ap (λ (b : Bool). reports s && b) (lt-leb (to_query dist query s) radius far) ∙ and_false (reports s))
+      (ap (λ (b : Bool). reports s && b) (lt-leb (to_query dist query s) radius far) ∙ and-false (reports s))
 
   within_no_hit : (depth : ℕ) (slots : List Row) → All (λ s. radius < to_query dist query s) slots → (rangeWithin dist query reports radius depth slots).hits ≡ []
   unfolding rangeWithin range_step_lem

@@ -2,7 +2,7 @@
 -- The visit meets the slots in their order; a half that is skipped holds no hit (Pruning), so nothing is missing.
 use Prim.Native.Nat.{ℕ, zero, suc, ◌≤◌, ◌<◌}
 use mathlib.Core.Path.{◌≡◌, refl, ap, ap₂, ◌∙◌}
-use mathlib.Core.Bool.{Bool, true, false, and_false}
+use mathlib.Core.Bool.{Bool, true, false, and-false}
 use mathlib.Core.List.{List, [], ◌∷◌, ◌++◌, map, map-append}
 use lib.ListN.{length, take, drop, length-take, length-drop, take-append-drop, length-append}
 use borrow.Author.Tests.{lt-leb}
@@ -161,7 +161,7 @@ module _ (dist : Profile → Profile → ℕ) (query : Profile) (reports : Row �
     -- a row farther than the radius is no hit
     far_no_hit : (x : Row) → radius < to_query dist query x → isHit dist query reports radius x ≡ false
     unfolding isHit
-    far_no_hit x h = rw (lt-leb (to_query dist query x) radius h) (and_false (reports x))
+    far_no_hit x h = rw (lt-leb (to_query dist query x) radius h) (and-false (reports x))
 
     half_hits : (b : Bool) (met : Met) (half : List Row)
         → met.hits ≡ map (entry_of dist query) (select (isHit dist query reports radius) half)

@@ -1,3 +1,5 @@
+#![tactic(auto)]
+
 // Range and nearest over one tree: what their definitions name.
 
 // An entry of a result area: a tag and its distance.

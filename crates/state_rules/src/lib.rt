@@ -1,3 +1,5 @@
+#![tactic(auto)]
+
 // Named states: a snapshot of a table under each of eight names, all in one area of bytes. No function.
 
 // RULES 14.1: the numbers of their own refusals.

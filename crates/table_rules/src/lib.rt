@@ -1,4 +1,6 @@
 // A table of buckets: its order and geometry, and what add, remove, look up, range and nearest reply.
+#![tactic(auto)]
+
 use metric_rules::Profile;
 
 // RULES 14.1: the numbers of the refusals; 0 is an accepted call.
@@ -33,7 +35,7 @@ pub const BAD_WEIGHT: u32 = 32;
 pub const BAD_DAY: u32 = 33;
 
 #[repr(C)]
-#[derive(Drop)]
+#[derive(Clone, Copy)]
 pub struct Added {
     pub refusal: u32,
     pub bucket: u32,
@@ -41,14 +43,14 @@ pub struct Added {
 }
 
 #[repr(C)]
-#[derive(Drop)]
+#[derive(Clone, Copy)]
 pub struct Removed {
     pub refusal: u32,
     pub distances: u32,
 }
 
 #[repr(C)]
-#[derive(Drop)]
+#[derive(Clone, Copy)]
 pub struct LookedUp {
     pub refusal: u32,
     pub bucket: u32,
@@ -57,7 +59,7 @@ pub struct LookedUp {
 }
 
 #[repr(C)]
-#[derive(Drop)]
+#[derive(Clone, Copy)]
 pub struct Searched {
     pub refusal: u32,
     pub found: u32,

@@ -1,1 +1,3 @@
+#![tactic(auto)]
+
 // Texts: the parts between separators, numerals, tags and measures. No function.

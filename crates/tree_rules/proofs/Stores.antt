@@ -10,7 +10,7 @@ use lib.Seq.{sets, sets-eq, set_comm, take_at}
 module _ {A : Type 0} where
   pub sets_more : (l : List A) (i j : ℕ) (a b : List A) → j ≡ i + length a → sets (sets l i a) j b ≡ sets l i (a ++ b)
   sets_more l i j [] b e = let same : j ≡ i = omega arith in ap (λ (k : ℕ). sets l k b) same
-  sets_more l i j (x ∷ a) b e = sets_more _ (suc i) j a b (omega arith)
+  sets_more l i j (x ∷ a) b e = sets_more (set l i x) (suc i) j a b (omega arith)
 
   -- a run from the start, where the list is long enough, is its front
   pub sets_front : (vs l : List A) (n : ℕ) → n ≡ length vs → n ≤ length l → take n (sets l 0 vs) ≡ vs

@@ -1,7 +1,9 @@
+#![tactic(auto)]
+
 // The program's lines: what a line says, and how far the conversation is. No function.
 
 // The first line: an order and a metric, or a line of another form.
-#[derive(Drop)]
+#[derive(Clone, Copy)]
 pub enum Header {
     Of(u32, u32),
     Other,
@@ -9,7 +11,7 @@ pub enum Header {
 
 // A later line, with its tag, radius or k, and behind it the day of an add or the first day of a search; the profile of
 // these stands beside it. A line of another form is Other.
-#[derive(Drop)]
+#[derive(Clone, Copy)]
 pub enum Command {
     Add(u64, u32),
     Remove(u64),
@@ -19,7 +21,7 @@ pub enum Command {
 }
 
 // Before the header, after an accepted one, and after a header that ends the program.
-#[derive(Drop)]
+#[derive(Clone, Copy)]
 pub enum Stage {
     Waiting,
     Serving,
