@@ -1,4 +1,6 @@
 // What a search goes by, made once and handed on by one reference: range and nearest share it.
+#![tactic(auto)]
+
 ghost use Rattle.std.specs.Prelude.{◌≡◌};
 ghost use Rattle.metric_rules.specs.Row.{query_row, may_report};
 ghost use Rattle.search_asked.specs.Asked.{asked_of};

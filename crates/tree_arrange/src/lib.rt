@@ -1,5 +1,7 @@
 // A part of a tree arranged: the row of the least tag first, and the others by their distance from it.
 // Its rows carry their rank in the mark word and, once measured, their distance from the first in the threshold word.
+#![tactic(auto)]
+
 ghost use Rattle.std.specs.Prelude.{◌≡◌, ◌-◌, ◌≤◌, ◌<◌, true, [], map, length, get_or, set};
 ghost use Rattle.lists.specs.Lists.{every};
 ghost use Rattle.metric_rules.specs.Distance.{distance, space_of};

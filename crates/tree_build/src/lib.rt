@@ -1,5 +1,7 @@
 // The build of a tree: its layout from rows as they were gathered, at c(n) distances. While a part is built, its source
 // rows carry their rank in the mark word and their distance from the part's first slot in the threshold word.
+#![tactic(auto)]
+
 ghost use Rattle.std.specs.Prelude.{◌≡◌, ◌≤◌, ◌<◌, ◌^◌, map, length, take, drop, replicate};
 ghost use Rattle.metric_rules.specs.Row.{row_width, zero_row, with_mark};
 ghost use Rattle.metric_rules.specs.Distance.{distance, space_of};

@@ -1,5 +1,7 @@
 // Up to seven slots of a tree at once. Their distances are worked out with no branch that depends on one, so that the
 // processor works on several at a time; a search then goes by them.
+#![tactic(auto)]
+
 ghost use Rattle.std.specs.Prelude.{◌≡◌, ◌+◌, ◌≤◌, ◌<◌, ◌^◌, leb, length, take};
 ghost use Rattle.lists.specs.Lists.{All};
 ghost use Rattle.tree_leaf.specs.Leaf.{distances_asked, count_if, Known, MetAt};

@@ -1,4 +1,6 @@
 // Nearest over one tree by a tally that is lent: the running count and the kept bound pass through every step.
+#![tactic(auto)]
+
 ghost use Rattle.std.specs.Prelude.{◌<◌, length};
 ghost use Rattle.search_asked.specs.Asked.{k_asked};
 ghost use Rattle.tree_nearest.specs.Nearby.{Leaves, ReadyAsked, nearest_asked};

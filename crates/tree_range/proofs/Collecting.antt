@@ -2,7 +2,7 @@
 -- A slot's visit and its halves' are two visits, and so are the two halves'.
 use Prim.Native.Nat.{ℕ, suc, ◌+◌, ◌-◌, ◌^◌, ◌<◌, ◌≤◌}
 use mathlib.Core.Path.{◌≡◌, refl, sym, ap, ap₂, ◌∙◌}
-use mathlib.Core.Bool.{Bool, true, false, ◌&&◌, and_false}
+use mathlib.Core.Bool.{Bool, true, false, ◌&&◌, and-false}
 use mathlib.Core.List.{List, [], ◌∷◌, ◌++◌}
 use lib.ListN.{length, take, drop, get_or, set, length-append}
 use lib.Seq.{sets, sets-eq, length-sets, length-take-le, take_at}
@@ -81,7 +81,7 @@ module _ (reports : Row → Bool) (row : Row) (d radius : ℕ) where
   unreported_no_hit e = ap (λ (b : Bool). b && leb d radius) e
 
   pub far_no_hit : radius < d → reports row && leb d radius ≡ false
-  far_no_hit h = ap (λ (b : Bool). reports row && b) (lt-leb d radius h) ∙ and_false (reports row)
+  far_no_hit h = ap (λ (b : Bool). reports row && b) (lt-leb d radius h) ∙ and-false (reports row)
 
   hit : reports row ≡ true → d ≤ radius → reports row && leb d radius ≡ true
   hit e h = ap₂ ◌&&◌ e (le-leb d radius h)

@@ -75,6 +75,15 @@ module _ (asked : List Row) where
       go true e f = sym (skipped b (range_asked asked half) f)
       go false e f = sym (empty_half (distance_asked asked) (query_asked asked) (reports_asked asked) (radius_asked asked) b half (none (ltb-false i n e)))
 
+  -- a half that is entered leaves what its visit does, and one that is not leaves what was there
+  pub half_taken : (b : Bool) (half : List Row) (g : Found) (next : List Entry) (r : Found) (last : List Entry) → b ≡ true
+      → Leaves g next (range_asked asked half) r last → Leaves g next (if_entered b (range_asked asked half)) r last
+  half_taken b half g next r last open' l = leaves_as g next (sym (entered b (range_asked asked half) open')) l
+
+  pub half_skipped : (b : Bool) (half : List Row) (g : Found) (next : List Entry) (r : Found) (last : List Entry) → b ≡ false
+      → r ≡ g → last ≡ next → Leaves g next (if_entered b (range_asked asked half)) r last
+  half_skipped b half g next r last closed p q = leaves_as g next (sym (skipped b (range_asked asked half) closed)) (leaves_nothing g next p q)
+
   -- slots that are passed over, where the radius r is below the least of their distances, and so many are met
   pub leaf_passed : (slots : List Row) (f : Found) (area : List Entry) (r least n : ℕ) → r ≡ radius_asked asked → r < least → All (λ d. least ≤ d) (distances_asked asked slots)
       → n ≡ (rangeTree (distance_asked asked) (query_asked asked) (reports_asked asked) r slots).count → Leaves f area (range_asked asked slots) (record { hits = f.hits; count = f.count + n }) area

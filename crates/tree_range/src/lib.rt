@@ -1,4 +1,6 @@
 // Range over one tree: the slots are visited, hits are collected in the area as far as it goes, and both are counted.
+#![tactic(auto)]
+
 ghost use Rattle.std.specs.Prelude.{◌≡◌, ◌≤◌, ◌<◌, length};
 ghost use Rattle.metric_rules.specs.Row.{threshold_of, may_report};
 ghost use Rattle.search_asked.specs.Asked.{distance_asked, query_asked, reports_asked, radius_asked};
@@ -13,7 +15,7 @@ use search_rules::Entry;
 use tree_leaf::{distances_of, passed_over};
 
 // What a range search hands on: how many hits it found, and how many slots it visited.
-#[derive(Drop)]
+#[derive(Clone, Copy)]
 pub struct Found {
     pub hits: usize,
     pub count: usize,

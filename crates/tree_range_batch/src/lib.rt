@@ -1,5 +1,7 @@
 // Range for several queries over one tree: a slot is read once and compared with each query that would visit it, and
 // each half is entered with those whose test lets them in. Each query's hits go to its own part of the area.
+#![tactic(auto)]
+
 ghost use Rattle.std.specs.Prelude.{◌≡◌, ◌&&◌, [], ◌∷◌, ℕ, ◌+◌, ◌*◌, ◌/◌, ◌<◌, ◌≤◌, ◌^◌, suc, length};
 ghost use Rattle.metric_rules.specs.Row.{may_report, threshold_of};
 ghost use Rattle.tree_range.specs.Collected.{met_alone, range_asked};
@@ -22,7 +24,7 @@ pub type Numbers = [usize; 16];
 
 // The queries that enter the left half below a slot, and those that enter the right half. A set of queries is a number,
 // whose bit j says whether query j is in it.
-#[derive(Drop)]
+#[derive(Clone, Copy)]
 struct Ways {
     left: u32,
     right: u32,

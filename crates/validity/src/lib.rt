@@ -1,4 +1,6 @@
 // Which tags, measures, days, metrics and weights are valid.
+#![tactic(auto)]
+
 ghost use Rattle.std.specs.Prelude.{◌≡◌};
 ghost use Rattle.metric_rules.specs.Distance.{valid_metric, valid_weights};
 ghost use Rattle.metric_rules.specs.Validity.{valid_tag, valid_measure, valid_measures, valid_day};
