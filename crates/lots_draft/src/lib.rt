@@ -1,5 +1,7 @@
 // The drafting of a table's live items by one radius, over entries of their places by tag. An entry's second word is
 // the number of its lot, 0 where it has none yet.
+#![tactic(auto)]
+
 ghost use Rattle.std.specs.Prelude.{◌≡◌, ◌+◌, ◌-◌, ◌≤◌, ◌<◌, max, length, replicate};
 ghost use mathlib.Core.List.{map, ◌++◌, Permᴰ};
 ghost use Rattle.lists.specs.Lists.{All, select};
@@ -20,7 +22,7 @@ use search_reply::zero_entries;
 use search_rules::Entry;
 
 // What a drafting has come to: the number of lots so far, and the size of the largest.
-#[derive(Drop)]
+#[derive(Clone, Copy)]
 pub struct Draft {
     pub lots: usize,
     pub largest: usize,

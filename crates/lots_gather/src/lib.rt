@@ -1,4 +1,6 @@
 // The live items of a table as entries in the work area, each its place in the table and its tag, by tag.
+#![tactic(auto)]
+
 ghost use Rattle.std.specs.Prelude.{◌≡◌, map, ◌+◌, ◌-◌, ◌≤◌, length, take};
 ghost use Rattle.std.proofs.lemmas.List.Edits.{sets};
 ghost use Rattle.table_rules.specs.Table.{order_of};

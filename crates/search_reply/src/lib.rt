@@ -1,4 +1,6 @@
 // The result area and the reply of a search, once its entries stand at the front of the area or are known not to fit.
+#![tactic(auto)]
+
 ghost use Rattle.std.specs.Prelude.{◌≡◌, ◌++◌, ◌-◌, ◌≤◌, ◌<◌, ◌^◌, length, take, replicate};
 ghost use Rattle.table_rules.specs.Refusals.{no_room};
 ghost use Rattle.table_rules.specs.Search.{zero_entry};

@@ -1,4 +1,6 @@
 // Add: the refusals in their order, and the accepted call.
+#![tactic(auto)]
+
 ghost use Rattle.std.specs.Prelude.{◌≡◌};
 ghost use Rattle.table_rules.specs.Add.{add_refusal, add_reply, table_after_add, work_after_add};
 ghost use Rattle.table_checks.specs.Answers.{checked};

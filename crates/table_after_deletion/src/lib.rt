@@ -1,5 +1,7 @@
 // After a deletion: Algorithm 2 (RULES 1.3), lines 8 to 26. In its words: B_k is bucket k, |B_k| its live size, null an
 // empty bucket; Unbuild is to gather a bucket's live items, Build to build a bucket of what was gathered, D.
+#![tactic(auto)]
+
 ghost use Rattle.std.specs.Prelude.{◌≡◌, [], ◌∷◌, ◌≤◌, length};
 ghost use Rattle.metric_rules.specs.Row.{zero_row};
 ghost use Rattle.table_rules.specs.Geometry.{room, work_rows};

@@ -1,4 +1,6 @@
 // RULES 14.5: what stops a call on a lent table, 23 and 24 in their order. The table's content and length are any.
+#![tactic(auto)]
+
 ghost use Rattle.std.specs.Prelude.{◌≡◌, ◌<◌, length};
 ghost use Rattle.table_rules.specs.Geometry.{sizes_row};
 ghost use Rattle.table_rules.specs.Table.{order_of, built_of, live_of};
@@ -15,7 +17,7 @@ use table_views::{HEADER_ROW, built_of, has_metric, live_of, order_of, slots_of,
 use validity::valid_weights;
 
 // What testing a lent table answers: its order, which the call goes on with, or the refusal.
-#[derive(Drop)]
+#[derive(Clone, Copy)]
 pub enum Checked {
     Passes(Order),
     Refused(u32),

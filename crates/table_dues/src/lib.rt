@@ -1,5 +1,7 @@
 // RULES 20: the dues of a list of tags. What each pays is kept apart until the whole list is known to pay, so that a
 // tag is looked up once.
+#![tactic(auto)]
+
 ghost use Rattle.std.specs.Prelude.{◌≡◌, true, ◌&&◌, ◌≤◌, leb, length, set};
 ghost use Rattle.std.proofs.Math.Option.{some};
 ghost use Rattle.std.proofs.lemmas.List.Edits.{sets};
@@ -60,7 +62,7 @@ fn paid(weight: i32) -> u32
 }
 
 // What is found of a listed tag: whether an item is live by it, whether its weight is not below 0, and what it pays.
-#[derive(Drop)]
+#[derive(Clone, Copy)]
 struct ListedTag {
     live: bool,
     weighs: bool,
@@ -100,7 +102,7 @@ fn put(area: &mut [u32], i: usize, number: u32)
 }
 
 // What the items of a list have in common: all are live, and their weights and their number are such that they pay.
-#[derive(Drop)]
+#[derive(Clone, Copy)]
 struct Tested {
     live: bool,
     pays: bool,

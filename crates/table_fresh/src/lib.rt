@@ -1,4 +1,6 @@
 // Fresh: a table's order, metric and weights are set, and every bucket is empty.
+#![tactic(auto)]
+
 ghost use Rattle.std.specs.Prelude.{◌≡◌, ◌∷◌, ◌++◌, ◌-◌, ◌≤◌, ◌<◌, length, set, drop, replicate};
 ghost use Rattle.metric_rules.specs.Row.{zero_row};
 ghost use Rattle.table_rules.specs.Geometry.{header_row};

@@ -1,5 +1,7 @@
 // An accepted add: Algorithm 1's Insert with line 2 of Algorithm 2 in place of its line 9 (RULES 1.3). B_k is bucket k,
 // null an empty one; D are the rows gathered in the work area, n their number.
+#![tactic(auto)]
+
 ghost use Rattle.std.specs.Prelude.{◌≡◌, ◌+◌, ◌≤◌, ◌<◌, length};
 ghost use Rattle.std.proofs.lemmas.List.Edits.{sets};
 ghost use Rattle.lists.specs.Lists.{count_from};

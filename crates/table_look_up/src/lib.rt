@@ -1,4 +1,6 @@
 // The finding of a live item by its tag, and look up.
+#![tactic(auto)]
+
 ghost use Rattle.std.specs.Prelude.{◌≡◌, ◌&&◌, ℕ, eqb};
 ghost use Rattle.metric_rules.specs.Row.{tag_of, is_live};
 ghost use Rattle.table_rules.specs.Refusals.{not_live, unless};
@@ -16,7 +18,7 @@ use table_views::slots_of;
 use validity::valid_tag;
 
 // Where a live item stands.
-#[derive(Drop)]
+#[derive(Clone, Copy)]
 pub enum Spot {
     At { bucket: u32, slot: usize },
     Nowhere,

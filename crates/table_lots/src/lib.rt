@@ -1,5 +1,7 @@
 // Lots over a table: the refusals in their order, and the drafting by every radius of a list, with the lots of one of
 // them listed.
+#![tactic(auto)]
+
 ghost use Rattle.std.specs.Prelude.{◌≡◌, map, ◌++◌, ◌-◌, ◌≤◌, ◌<◌, length, get_or, replicate};
 ghost use Rattle.lists.specs.Lists.{All};
 ghost use Rattle.metric_rules.specs.Row.{tag_of};

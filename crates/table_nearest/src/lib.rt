@@ -1,5 +1,7 @@
 // Nearest over a table: buckets from the top down, the count and the bound going through all of them, the entries kept
 // standing in the area.
+#![tactic(auto)]
+
 ghost use Rattle.std.specs.Prelude.{◌≡◌, ◌≤◌, ◌<◌, min, suc, leb, length};
 ghost use Rattle.metric_rules.specs.Row.{may_report};
 ghost use Rattle.search_asked.specs.Asked.{reports_asked, k_asked};

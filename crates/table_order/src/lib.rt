@@ -1,15 +1,17 @@
 // RULES 5.1, the order T of a table. Every place in a table or a work area is worked out here and nowhere else.
+#![tactic(auto)]
+
 ghost use Rattle.std.specs.Prelude.{◌≡◌, ◌<◌};
 ghost use Rattle.table_rules.specs.Geometry.{room, sizes_row, first_slot, table_rows, work_rows};
 ghost use Rattle.table_order.specs.Answers.{answer_of, order_answer};
 
-#[derive(Drop)]
+#[derive(Clone, Copy)]
 pub struct Order {
     pub t: u32,
 }
 
 // What asking for an order answers.
-#[derive(Drop)]
+#[derive(Clone, Copy)]
 pub enum Ordered {
     Is(Order),
     TooLarge,

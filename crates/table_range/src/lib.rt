@@ -1,4 +1,6 @@
 // Range over a table: buckets from the top down, hits collected over all of them, one sort at the end.
+#![tactic(auto)]
+
 ghost use Rattle.std.specs.Prelude.{◌≡◌, ◌++◌, ◌-◌, ◌≤◌, ◌<◌, ◌^◌, suc, length, take, replicate};
 ghost use Rattle.lists.specs.Lists.{All};
 ghost use Rattle.search_rules.specs.Range.{Pair, ordered};

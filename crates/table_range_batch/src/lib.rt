@@ -1,5 +1,7 @@
 // Range for several queries over a table: one visit of the buckets, from the top down, for all of them; then each part
 // of the area is put in order.
+#![tactic(auto)]
+
 ghost use Rattle.std.specs.Prelude.{◌≡◌, true, false, ℕ, ◌+◌, ◌*◌, ◌≤◌, ◌<◌, ◌^◌, suc, length, take, get_or, replicate, leb};
 ghost use Rattle.lists.specs.Lists.{All, every};
 ghost use Rattle.metric_rules.specs.Row.{profile_of, IsProfile};

@@ -1,4 +1,6 @@
 // Gathered rows built in a bucket's own slots.
+#![tactic(auto)]
+
 ghost use Rattle.std.specs.Prelude.{◌≡◌, ◌++◌, ◌-◌, ◌≤◌, length, take, drop, replicate};
 ghost use Rattle.metric_rules.specs.Row.{zero_row};
 ghost use Rattle.metric_rules.specs.Distance.{distance, space_of};

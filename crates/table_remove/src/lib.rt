@@ -1,4 +1,6 @@
 // Remove: Algorithm 2 (RULES 1.3), with the refusals before it.
+#![tactic(auto)]
+
 ghost use Rattle.std.specs.Prelude.{◌≡◌, ◌+◌, ◌≤◌, ◌<◌, length};
 ghost use Rattle.metric_rules.specs.Row.{row_width, with_mark};
 ghost use Rattle.table_rules.specs.Geometry.{room, first_slot};

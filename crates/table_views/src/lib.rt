@@ -1,5 +1,7 @@
 // What a table's header and size rows show: its order, whether its metric is one, its weights, and the sizes of its
 // buckets.
+#![tactic(auto)]
+
 ghost use Rattle.std.specs.Prelude.{◌≡◌, map, ◌+◌, ◌≤◌, ◌<◌, length};
 ghost use Rattle.lists.specs.Lists.{total};
 ghost use Rattle.metric_rules.specs.Row.{row_width, word};

@@ -1,0 +1,33 @@
+-- `lots_draft::clear_lots` meets its contract: the loop maps the entries in place.
+use native.Mathlib.Omega.{arith}
+use mathlib.Core.Path.{◌≡◌, ap}
+use mathlib.Core.List.{[], ◌∷◌}
+use Prim.Native.Nat.{◌<◌}
+use lib.ListN.{length, get_or}
+use Rattle.search_rules.specs.Range.{Entry, entry}
+use Rattle.lots_draft.specs.Leading.{place_of, without_lot}
+use Rattle.lots_draft.proofs.Writing.{mapped_none, mapped_at, mapped_next, mapped_all}
+use Rattle.lots_draft.proofs.clear_lots.Goals as goal
+
+cleared_at : (e x : Entry) → x ≡ e → get_or x 0 0 ∷ 0 ∷ [] ≡ without_lot e
+unfolding without_lot entry place_of
+cleared_at e x q = ap (λ (y : Entry). get_or y 0 0 ∷ 0 ∷ []) q
+
+pub loop-i-preserved : goal.loop-i-preserved
+loop-i-preserved c =
+    let l = c.loop-i in
+    let old = c.args.entries.now in
+    let h : l.i < length old = omega (arith, l.invariant.size) in
+    mapped_next without_lot old l.i l.entries l.invariant h _ (cleared_at (get_or old l.i []) _ (mapped_at without_lot old l.i l.entries l.invariant h))
+
+pub returns : goal.returns
+returns c = mapped_all without_lot _ _ _ (omega (arith, c.loop-i.invariant.size)) c.loop-i.invariant
+
+pub loop-i-init : goal.loop-i-init
+loop-i-init c = mapped_none without_lot c.args.entries.now
+
+pub loop-i-smaller : goal.loop-i-smaller
+loop-i-smaller c = omega (arith, c.loop-i.invariant.size)
+
+pub shape_of-entries : goal.shape_of-entries
+shape_of-entries c = c.loop-i.invariant.size

@@ -1,0 +1,17 @@
+-- `table_views::live_of` meets its contract: the live size is the second word of the bucket's size row.
+use Prim.Native.Nat.{ℕ}
+use mathlib.Core.Path.{◌∙◌, ap}
+use borrow.Author.Rules.{rules}
+use Rattle.metric_rules.specs.Row.{row_width, word}
+use Rattle.table_rules.specs.Table.{row_at, live_of}
+use Rattle.table_views.proofs.live_of.Goals as goal
+
+pub word_at-requires : goal.word_at-requires
+unfolding row_width
+word_at-requires c = search rules
+
+pub returns : goal.returns
+unfolding live_of row_at
+returns c =
+    let t = c.args.table.now in
+    c.word_at.ensures ∙ ap (λ (i : ℕ). word (row_at t i) 1) c.sizes_row-row.ensures
