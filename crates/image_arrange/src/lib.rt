@@ -1,5 +1,7 @@
 // The entries of a part of a bucket arranged as its layout wants them: the first slot's first, and the others by their
 // distance from it.
+#![tactic(auto)]
+
 ghost use Rattle.std.specs.Prelude.{◌≡◌, ◌≤◌, ◌<◌, [], map, length, get_or, set};
 ghost use Rattle.lists.specs.Lists.{All};
 ghost use Rattle.metric_rules.specs.Distance.{distance, space_of};

@@ -1,6 +1,8 @@
 // An image's slots as entries, the first slot whose tag an earlier one has, and which of two faults is earlier. An
 // entry's first word is tag · 2^13 + place, the place being the slot's number in its bucket or among all, and its
 // second a distance.
+#![tactic(auto)]
+
 ghost use Rattle.std.specs.Prelude.{◌≡◌, ◌+◌, ◌≤◌, ◌<◌, ◌^◌, map, length};
 ghost use Rattle.lists.specs.Lists.{All};
 ghost use Rattle.search_rules.specs.Range.{ordered};

@@ -1,4 +1,6 @@
 // What an image's sizes and its slots one by one must pass. Tags and layouts of whole buckets come after this.
+#![tactic(auto)]
+
 ghost use Rattle.std.specs.Prelude.{◌≡◌, ◌≤◌};
 ghost use Rattle.lists.specs.Lists.{every};
 ghost use Rattle.metric_rules.specs.Row.{day_of};

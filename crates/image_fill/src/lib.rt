@@ -1,4 +1,6 @@
 // The buckets of an image written into a table: each bucket's slots, and zeros in the rest of its room.
+#![tactic(auto)]
+
 ghost use Rattle.std.specs.Prelude.{◌≡◌, ◌-◌, ◌≤◌, length, get_or, replicate};
 ghost use mathlib.Core.List.{◌++◌, foldl};
 ghost use Rattle.metric_rules.specs.Row.{zero_row};

@@ -1,4 +1,6 @@
 // The form of an image. Every length and place that goes by the form is worked out here and nowhere else.
+#![tactic(auto)]
+
 ghost use Rattle.std.specs.Prelude.{◌≡◌, ◌+◌, ◌*◌, ◌<◌, ◌^◌};
 ghost use Rattle.image_rules.specs.Bytes.{written_form, header_bytes, tag_bytes, record_bytes, pair_bytes, sizes_end};
 ghost use Rattle.image_rules.specs.Bytes.{image_length};
@@ -8,13 +10,13 @@ use image_rules::{
     DAY_BYTES, PAIR_BYTES, RECORD_WORDS_BYTES, START_BYTES, TAG_BYTES, WEIGHT_BYTES,
 };
 
-#[derive(Drop)]
+#[derive(Clone, Copy)]
 pub struct Form {
     pub number: u32,
 }
 
 // What asking for a form answers.
-#[derive(Drop)]
+#[derive(Clone, Copy)]
 pub enum Formed {
     Is(Form),
     Unknown,

@@ -1,5 +1,7 @@
 // The test of a bucket of an image with a slice of entries: the first slot whose tag an earlier one has, or that is not
 // what the layout puts there.
+#![tactic(auto)]
+
 ghost use Rattle.std.specs.Prelude.{◌≡◌, ◌+◌, ◌≤◌, ◌<◌, [], length, take, drop, get_or};
 ghost use Rattle.lists.specs.Lists.{same_numbers, All};
 ghost use Rattle.metric_rules.specs.Distance.{distance, space_of};

@@ -1,4 +1,6 @@
 // Load: the whole image is tested before the first row of the table is written.
+#![tactic(auto)]
+
 ghost use Rattle.std.specs.Prelude.{◌≡◌, length};
 ghost use Rattle.image_rules.specs.Load.{load_reply, table_after_load};
 ghost use Rattle.image_load.specs.Steps.{header_in, start_refusal, sizes_refusal, opened, placed};
@@ -18,7 +20,7 @@ use table_rules::{
 use validity::{valid_metric, valid_weights};
 
 // What an image begins with, once its tests have passed.
-#[derive(Drop)]
+#[derive(Clone, Copy)]
 pub struct Beginning {
     pub order: Order,
     pub metric: u32,
@@ -26,14 +28,14 @@ pub struct Beginning {
 }
 
 // What testing it answers: this, which load goes on with, or the refusal.
-#[derive(Drop)]
+#[derive(Clone, Copy)]
 pub enum Opened {
     Is(Beginning),
     Refused(u32),
 }
 
 // What testing its sizes and lengths answers: where all its slots stand, or the refusal.
-#[derive(Drop)]
+#[derive(Clone, Copy)]
 pub enum Placed {
     At(Slots),
     Refused(u32),

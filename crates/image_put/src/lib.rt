@@ -1,4 +1,6 @@
 // Numbers, tags and records put into an area of bytes, each at its place. Every other byte is kept.
+#![tactic(auto)]
+
 ghost use Rattle.std.specs.Prelude.{◌≡◌, ◌+◌, ◌*◌, ◌≤◌, length, take, drop};
 ghost use mathlib.Core.List.{map, flatten};
 ghost use Rattle.std.proofs.lemmas.List.Edits.{sets};

@@ -1,5 +1,7 @@
 // The numbers of an image at their places, and its slots as rows. Two that stand together are read through a reader,
 // and one by itself at its place.
+#![tactic(auto)]
+
 ghost use Rattle.std.specs.Prelude.{◌≡◌, ◌+◌, ◌≤◌, ◌<◌, ◌^◌, [], ◌∷◌, ◌++◌, length};
 ghost use Rattle.table_rules.specs.Geometry.{most_order};
 ghost use Rattle.image_rules.specs.Bytes.{start_bytes, header_bytes, tag_fields, day_fields, record_fields, tag_bytes};
@@ -21,7 +23,7 @@ const FORM_AT: usize = 2;
 const FORM_BYTES: usize = 2;
 
 // What an image of any form begins with, its numbers as they stand there.
-#[derive(Drop)]
+#[derive(Clone, Copy)]
 pub struct Start {
     pub order: u32,
     pub metric: u32,
@@ -29,7 +31,7 @@ pub struct Start {
 }
 
 // An image's header once its tests have passed.
-#[derive(Drop)]
+#[derive(Clone, Copy)]
 pub struct Header {
     pub order: Order,
     pub space: Space,
@@ -37,7 +39,7 @@ pub struct Header {
 }
 
 // The sizes of a bucket.
-#[derive(Drop)]
+#[derive(Clone, Copy)]
 pub struct Sizes {
     pub built: u32,
     pub live: u32,
@@ -45,7 +47,7 @@ pub struct Sizes {
 
 // Slots of an image that stand one behind the other, as all slots do and those of a bucket: the image's form, the
 // places of all tags and of all records, the number of the first slot among all, and how many there are.
-#[derive(Drop)]
+#[derive(Clone, Copy)]
 pub struct Slots {
     pub form: Form,
     pub tags: usize,

@@ -1,4 +1,2 @@
--- What numbers read byte by byte are, what a reader owns, taken apart, and the call that makes one.
+-- What numbers read byte by byte are.
 pub mod Numbers
-mod Apart
-mod Making

@@ -1,7 +1,8 @@
 // A reader of an image: it holds the image and its position. What it does is done by functions over a slice and a
-// number, so each function over a reader is thin: the borrow checker covers none that takes, makes or has one, and
-// their proofs are walks by hand. Callers need none of them: `two_from` has plain parameters, and `number_at` is what a
-// reader's next number is read by.
+// number, so each function over a reader is thin. Callers need none of them: `two_from` has plain parameters, and
+// `number_at` is what a reader's next number is read by.
+#![tactic(auto)]
+
 ghost use Rattle.std.specs.Prelude.{◌≡◌, true, ◌+◌, ◌*◌, ◌≤◌, length};
 ghost use Rattle.image_rules.specs.Read.{number_at};
 ghost use Rattle.image_reader.specs.Widths.{is_width};
@@ -14,7 +15,7 @@ pub struct Reader<'a> {
 }
 
 // Two numbers that stand one after the other.
-#[derive(Drop)]
+#[derive(Clone, Copy)]
 pub struct Two {
     pub first: u32,
     pub second: u32,

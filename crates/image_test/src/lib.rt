@@ -1,5 +1,7 @@
 // The first fault of an image's trees, found with one array of entries: every bucket's tags and layout, and a live tag
 // that an earlier live slot has.
+#![tactic(auto)]
+
 ghost use Rattle.std.specs.Prelude.{◌≡◌, ℕ, ◌≤◌, ◌<◌, ◌^◌, true, [], map, length, take};
 ghost use Rattle.metric_rules.specs.Row.{tag_of, is_live};
 ghost use Rattle.metric_rules.specs.Distance.{space_of};

@@ -1,4 +1,6 @@
 // The image of a table put into an area of bytes: header, sizes, all tags, all records. The bytes after it are kept.
+#![tactic(auto)]
+
 ghost use Rattle.std.specs.Prelude.{◌≡◌, ◌++◌, ◌+◌, ◌≤◌, length};
 ghost use Rattle.std.proofs.lemmas.List.Edits.{sets};
 ghost use Rattle.metric_rules.specs.Row.{word};

@@ -1,15 +1,17 @@
 // A name of a state. Every place of its part in an area is worked out here and nowhere else.
+#![tactic(auto)]
+
 ghost use Rattle.std.specs.Prelude.{◌≡◌, true, ◌+◌, ◌-◌, ◌≤◌};
 ghost use Rattle.state_rules.specs.Parts.{least_name, valid_name, part_bytes, part_start};
 ghost use Rattle.state_part.specs.Answers.{answer_of, name_answer};
 
-#[derive(Drop)]
+#[derive(Clone, Copy)]
 pub struct Name {
     pub number: u32,
 }
 
 // What asking for a name answers.
-#[derive(Drop)]
+#[derive(Clone, Copy)]
 pub enum Named {
     Is(Name),
     Unknown,

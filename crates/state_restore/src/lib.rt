@@ -1,4 +1,6 @@
 // Restore: the image in the part of a name is loaded. The states are only read.
+#![tactic(auto)]
+
 ghost use Rattle.std.specs.Prelude.{◌≡◌, true, length};
 ghost use Rattle.state_rules.specs.Parts.{valid_name, part_of, saved_image};
 ghost use Rattle.state_rules.specs.Restore.{part_refusal, restore_reply, table_after_restore};

@@ -1,4 +1,6 @@
 // Save: a snapshot of the table goes into the part of a name, its image by the writer and the image's length before it.
+#![tactic(auto)]
+
 ghost use Rattle.std.specs.Prelude.{◌≡◌, ◌≤◌, min, length};
 ghost use Rattle.std.proofs.lemmas.List.Edits.{sets};
 ghost use Rattle.image_rules.specs.Bytes.{bytes_of};

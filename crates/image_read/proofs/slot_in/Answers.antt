@@ -1,0 +1,51 @@
+-- `image_read::slot_in` meets its contract: the slot's tag stands after those of the slots before it, and its record after theirs.
+use Prim.Native.Nat.{ℕ, ◌+◌, ◌*◌, ◌≤◌, ◌<◌}
+use mathlib.Core.Path.{◌≡◌, refl, sym, ap, ap₂, ◌∙◌}
+use mathlib.Core.List.{List, ◌++◌}
+use native.Mathlib.Omega.{arith}
+use lib.ListN.{length}
+use Rattle.lists.specs.Lists.{total}
+use Rattle.image_rules.specs.Bytes.{tag_fields, record_fields, tag_bytes, record_bytes}
+use Rattle.image_rules.specs.Read.{fields_at, day_as, row_in}
+use Rattle.image_read.specs.declared.Slots.{Slots}
+use Rattle.image_read.specs.InImage.{InImage, slot_in}
+use Rattle.image_read.proofs.Numbers.{slot_within}
+use Rattle.image_read.proofs.slot_in.Goals as goal
+
+-- the slot's record is in the image, by the width that its form has
+record_inside : {image : List ℕ} {at : Slots} (i w : ℕ) → InImage image at → i < at.count → w ≡ record_bytes at.form.number
+    → at.records + w * (at.first + i) + w ≤ length image
+record_inside i w p h e = rw (e ∙ ap record_bytes p.formed) (slot_within i p h).1
+
+pub overflow_add-slot : goal.overflow_add-slot
+overflow_add-slot c = omega (arith, slot_within c.args.i c.requires.0 c.requires.1)
+
+pub overflow_mul-slot : goal.overflow_mul-slot
+overflow_mul-slot c = omega (arith, slot_within c.args.i c.requires.0 c.requires.1)
+
+pub overflow_add-at : goal.overflow_add-at
+overflow_add-at c = omega (arith, slot_within c.args.i c.requires.0 c.requires.1)
+
+pub overflow_mul-record_bytes : goal.overflow_mul-record_bytes
+overflow_mul-record_bytes c = omega (arith, record_inside c.args.i c.record_bytes.result c.requires.0 c.requires.1 c.record_bytes.ensures)
+
+pub overflow_add-at-2 : goal.overflow_add-at-2
+overflow_add-at-2 c = omega (arith, record_inside c.args.i c.record_bytes.result c.requires.0 c.requires.1 c.record_bytes.ensures)
+
+pub row_at-requires : goal.row_at-requires
+unfolding tag_bytes tag_fields total
+row_at-requires c =
+    let w = c.record_bytes in
+    ((slot_within c.args.i c.requires.0 c.requires.1).0, rw (sym w.ensures) (record_inside c.args.i w.result c.requires.0 c.requires.1 w.ensures))
+
+pub returns : goal.returns
+unfolding slot_in row_in tag_bytes tag_fields total
+returns c =
+    let w = c.record_bytes in
+    let image = c.args.image.now in
+    let at = c.args.at in
+    let p = c.requires.0 in
+    c.row_at.ensures
+    ∙ ap₂ (λ (form n : ℕ). fields_at image tag_fields (at.tags + 8 * (at.first + c.args.i)) ++ fields_at image (record_fields form) (at.records + n * (at.first + c.args.i)) ++ day_as form)
+    p.formed (w.ensures ∙ ap record_bytes p.formed)
+    ∙ rw (p.records_at, p.tags_at) refl
