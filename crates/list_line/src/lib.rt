@@ -1,4 +1,6 @@
 // A line of a herd list, read where it lies: first where it ends, then its fields in turn.
+#![tactic(auto)]
+
 ghost use Rattle.std.specs.Prelude.{◌≡◌, false};
 ghost use Rattle.list_line.specs.Places.{ItemAt, LineAt};
 
@@ -6,7 +8,7 @@ use metric_rules::Profile;
 use text_read::NumberRead;
 
 // An item and the place behind its line feed, or a line not of the form.
-#[derive(Drop)]
+#[derive(Clone, Copy)]
 pub struct LineRead {
     pub item: bool,
     pub tag: u64,

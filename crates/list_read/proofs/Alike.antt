@@ -1,7 +1,7 @@
 -- Two lists of numbers, the same or not: by their lengths, and from a place on by the elements there.
 use Prim.Native.Nat.{ℕ, suc, ◌+◌, ◌≤◌, ◌<◌}
 use mathlib.Core.Path.{◌≡◌, refl, ap, ap₂, ◌∙◌}
-use mathlib.Core.Bool.{Bool, true, false, ◌&&◌, and_false}
+use mathlib.Core.Bool.{Bool, true, false, ◌&&◌, and-false}
 use mathlib.Core.List.{List, [], ◌∷◌}
 use native.Mathlib.Numerals.{add-one}
 use lib.Dec.{eqb}
@@ -15,7 +15,7 @@ unfolding same_numbers alike
 other_length [] [] h = absurd (h refl)
 other_length [] (y ∷ ys) h = refl
 other_length (x ∷ xs) [] h = refl
-other_length (x ∷ xs) (y ∷ ys) h = ap (λ t. eqb x y && t) (other_length xs ys (λ e. h (ap suc e))) ∙ and_false (eqb x y)
+other_length (x ∷ xs) (y ∷ ys) h = ap (λ t. eqb x y && t) (other_length xs ys (λ e. h (ap suc e))) ∙ and-false (eqb x y)
 
 module _ (xs ys : List ℕ) (i : ℕ) where
   pub same_over : length xs ≤ i → length ys ≤ i → same_numbers (drop i xs) (drop i ys) ≡ true

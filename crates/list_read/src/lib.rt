@@ -1,4 +1,6 @@
 // A herd list read into a table: its header, then line by line an add, up to the first line refused.
+#![tactic(auto)]
+
 ghost use Rattle.std.specs.Prelude.{◌≡◌, ◌≤◌, length};
 ghost use Rattle.lists.specs.Lists.{same_numbers};
 ghost use Rattle.list_rules.specs.Lines.{list_header, has_header, item_lines};

@@ -1,5 +1,7 @@
 // What herd lists and `yard` read alike: the parts of a text, found one after the other, a part's number, and measures
 // in turn.
+#![tactic(auto)]
+
 ghost use Rattle.std.specs.Prelude.{◌≡◌, true, false, ◌≤◌, ◌<◌, length};
 ghost use Rattle.text_rules.specs.Text.{digit_of, is_digit};
 ghost use Rattle.text_rules.specs.Fields.{is_negative, unsigned};
@@ -7,14 +9,14 @@ ghost use Rattle.text_read.specs.Parts.{PartEnd, TwoParts, parts_behind};
 ghost use Rattle.text_read.specs.Answers.{answer_of, measure_answer_of};
 ghost use Rattle.text_read.specs.Found.{number_in, size_in, SizeFits, signed_size, MeasureBehind, MeasuresAt};
 
-#[derive(Drop)]
+#[derive(Clone, Copy)]
 pub enum NumberRead {
     Number(u64),
     NoNumber,
 }
 
 // A measure and where its part ends, or a part of another form.
-#[derive(Drop)]
+#[derive(Clone, Copy)]
 pub enum MeasureRead {
     Measure(i32, usize),
     NoMeasure,
@@ -22,7 +24,7 @@ pub enum MeasureRead {
 
 // Four measures and where the last one's part ends. Where they are not found, measures and place are left free: all
 // that holds of them is their type.
-#[derive(Drop)]
+#[derive(Clone, Copy)]
 pub struct MeasuresRead {
     pub found: bool,
     pub measures: [i32; 4],

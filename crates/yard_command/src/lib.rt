@@ -1,5 +1,7 @@
 // A line after an accepted header: the command that it is, and what answering it leaves in the areas. Each command has
 // a function: the call, and its reply as bytes.
+#![tactic(auto)]
+
 ghost use Rattle.std.specs.Prelude.{◌≡◌, ◌+◌, ◌*◌, ◌≤◌, ◌<◌, ◌^◌, length};
 ghost use Rattle.table_rules.specs.Add.{add_reply, table_after_add, work_after_add};
 ghost use Rattle.table_rules.specs.Remove.{remove_reply, table_after_remove, work_after_remove};

@@ -17,7 +17,7 @@ use Rattle.text_rules.specs.Fields.{is_tag, is_measure, measure_in}
 use Rattle.text_rules.proofs.Digits.{length_passes, numeral_digits, numeral_longest, numeral_shortest}
 use Rattle.text_read.specs.declared.MeasuresRead.{MeasuresRead}
 use Rattle.text_read.specs.Parts.{parts_behind, PartEnd}
-use Rattle.text_read.specs.Answers.{bad_form, Answer, answer_if}
+use Rattle.text_read.specs.Answers.{Answer, answer_if}
 use Rattle.text_read.specs.Found.{four_measures, measures_of, MeasuresAt}
 use Rattle.text_read.proofs.Finding.{first_part, next_part, none_behind, some_behind}
 use Rattle.text_read.proofs.Forms.{one_more, none_told, value_told}

@@ -1,5 +1,7 @@
 // What a line says: a header, a command with its day, its profile. Every line of bytes is one of them or of another
 // form. The fields are read in turn.
+#![tactic(auto)]
+
 ghost use Rattle.std.specs.Prelude.{◌≡◌, true, false, ◌≤◌, ◌<◌, ◌^◌, length};
 ghost use Rattle.text_rules.specs.Text.{space};
 ghost use Rattle.text_read.specs.Parts.{parts_behind};
@@ -12,7 +14,7 @@ use text_read::NumberRead;
 use yard_rules::{Command, Header};
 
 // A number below a bound, or a field of another form.
-#[derive(Drop)]
+#[derive(Clone, Copy)]
 pub enum WordRead {
     Word(u32),
     NoWord,
@@ -20,13 +22,13 @@ pub enum WordRead {
 
 // Where no code or profile is found, the words, the profile and its end are left free: all that holds of them is their
 // type.
-#[derive(Drop)]
+#[derive(Clone, Copy)]
 pub struct CodeRead {
     pub found: bool,
     pub words: [u64; 2],
 }
 
-#[derive(Drop)]
+#[derive(Clone, Copy)]
 pub struct ProfileRead {
     pub found: bool,
     pub profile: Profile,

@@ -1,9 +1,11 @@
 // Lines out of pieces of the input, held in an area of bounded length: a longer line is only known to be longer.
+#![tactic(auto)]
+
 ghost use Rattle.std.specs.Prelude.{List, [], ◌∷◌, ◌++◌, ℕ, ◌≤◌, length};
 ghost use Rattle.yard_lines.specs.Held.{Holds, Gathers};
 
 // How much of a line is held, and whether it is longer than the area.
-#[derive(Drop)]
+#[derive(Clone, Copy)]
 pub struct Held {
     pub length: usize,
     pub over: bool,
@@ -31,7 +33,7 @@ fn hold(area: &mut [u8], held: Held, b: u8) -> Held
 }
 
 // A line so far, and the place in the piece where its line feed stands or the piece ends.
-#[derive(Drop)]
+#[derive(Clone, Copy)]
 pub struct Gathered {
     pub length: usize,
     pub over: bool,

@@ -1,4 +1,6 @@
 // Numbers and replies as bytes, put into an area one after the other. Every other byte is kept.
+#![tactic(auto)]
+
 ghost use Rattle.std.specs.Prelude.{◌≡◌, ◌+◌, ◌*◌, ◌≤◌, length, take};
 ghost use Rattle.std.proofs.lemmas.List.Edits.{sets};
 ghost use Rattle.text_rules.specs.Text.{digits, width, decimal};

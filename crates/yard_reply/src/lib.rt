@@ -1,4 +1,6 @@
 // The replies of the calls as bytes, at the start of an area.
+#![tactic(auto)]
+
 ghost use Rattle.std.specs.Prelude.{[], ◌∷◌, ◌+◌, ◌*◌, ◌≤◌, length};
 ghost use Rattle.yard_reply.specs.Put.{Puts, FoundPut};
 ghost use Rattle.yard_rules.specs.Reply.{reply_line, add_text, remove_text, search_text};

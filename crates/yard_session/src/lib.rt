@@ -1,5 +1,7 @@
 // The conversation in steps: a piece of the input up to its next line feed or its end, and the end of the input. Each
 // step leaves its reply in an area.
+#![tactic(auto)]
+
 ghost use Rattle.std.specs.Prelude.{◌≡◌, true, false, List, [], ◌∷◌, ℕ, suc, ◌+◌, ◌-◌, ◌*◌, ◌^◌, ◌≤◌, ◌<◌, length};
 ghost use Rattle.text_rules.specs.Text.{line_feed};
 ghost use Rattle.yard_rules.specs.Conversation.{Areas};
@@ -15,7 +17,7 @@ use yard_rules::Stage;
 
 // How far the conversation is: the stage, the number of the line that comes in and what is held of it; and of the last
 // step the place in the piece where it ended, and how many bytes it printed.
-#[derive(Drop)]
+#[derive(Clone, Copy)]
 pub struct Place {
     pub stage: Stage,
     pub number: u64,

@@ -1,4 +1,6 @@
 // The conversation: a line and what stands before it, the areas after it and the bytes to print.
+#![tactic(auto)]
+
 ghost use Rattle.std.specs.Prelude.{◌≡◌, List, ℕ, ◌+◌, ◌*◌, ◌≤◌, ◌<◌, ◌^◌, length};
 ghost use Rattle.metric_rules.specs.Row.{Row};
 ghost use Rattle.search_rules.specs.Range.{Entry};
@@ -14,7 +16,7 @@ use table_rules::BAD_ORDER;
 use yard_rules::{Header, Stage};
 
 // How far the conversation is after a line, and how many bytes it prints.
-#[derive(Drop)]
+#[derive(Clone, Copy)]
 pub struct Stepped {
     pub stage: Stage,
     pub length: usize,
@@ -38,7 +40,7 @@ fn set_up(table: &mut [Row], order: u32, metric: u32) -> u32
 // A line of the form of a header.
 fn accept_header(table: &mut [Row], out: &mut [u8], order: u32, metric: u32) -> Stepped
     requires { 65 ≤ length out.old }
-    ensures* { λ r. ⌜ ((work : List Row) (result : List Entry) (number : ℕ) → StepLeaves (header_outcome (lent table.old work result) number (header.Of order metric)) (lent table.new work result) out.old out.new r) ⌝ }
+    ensures { (work : List Row) (res : List Entry) (number : ℕ) → StepLeaves (header_outcome (lent table.old work res) number (header.Of order metric)) (lent table.new work res) out.old out.new result }
 {
     let refusal = set_up(table, order, metric);
     if refusal == 0 {
@@ -57,7 +59,7 @@ fn accept_header(table: &mut [Row], out: &mut [u8], order: u32, metric: u32) -> 
 // The first line.
 fn first_line(table: &mut [Row], out: &mut [u8], number: u64, line: &[u8]) -> Stepped
     requires { (65 ≤ length out.old) × (length line.now < 2 ^ 32) }
-    ensures* { λ r. ⌜ ((work : List Row) (result : List Entry) → StepLeaves (header_outcome (lent table.old work result) number (header_in line.now)) (lent table.new work result) out.old out.new r) ⌝ }
+    ensures { (work : List Row) (res : List Entry) → StepLeaves (header_outcome (lent table.old work res) number (header_in line.now)) (lent table.new work res) out.old out.new result }
 {
     match yard_line::header(line) {
         Header::Of(order, metric) => accept_header(table, out, order, metric),
