@@ -2,11 +2,13 @@
 // each form cut at every length, into a table one row short and into one of the rows that it needs, and with each of
 // its bits flipped, that of form 2 by each metric. An accepted image is written again: `=` where its bytes come back,
 // `+` where those of its translation to form 2 do.
+#![tactic(auto)]
+
 mod bytes;
 
 use bytes::{CUTS, FORM_0_CUTS, FORM_0_LENGTH, FORM_1_CUTS, FORM_1_LENGTH, LENGTH};
-use libc::STDOUT_FILENO;
 use metric_rules::{ROW_WIDTH, Row};
+use std::io;
 
 // The rows of a table of order 2.
 const ROWS: usize = 11;
@@ -31,12 +33,16 @@ const RECORDS: usize = 294;
 
 const OLDER_RECORDS: usize = 280;
 
-fn print_place(n: usize) {
-    io::print_decimal(STDOUT_FILENO, n as u64);
+fn print_place(rt: &impl Print, n: usize) -> io::Result<()> {
+    print!(rt; "{n}")
 }
 
-fn print_end() {
-    io::write_all(STDOUT_FILENO, b"\n");
+fn print_end(rt: &impl Print) -> io::Result<()> {
+    println!(rt)
+}
+
+fn same(a: &[u8], b: &[u8]) -> bool {
+    a == b
 }
 
 // Whether the first is a record of form 2, and the second the same record in an older form, which has day 1.
@@ -45,7 +51,7 @@ fn is_record(written: &[u8], older: &[u8]) -> bool {
     if written.len() != RECORD {
         return false;
     }
-    check::same(&written[0..40], older) & check::same(&written[40..42], &day)
+    same(&written[0..40], older) & same(&written[40..42], &day)
 }
 
 // The same of all seven.
@@ -74,9 +80,9 @@ fn is_translation_of_form_0(written: &[u8], image: &[u8]) -> bool {
     if image.len() != FORM_0_LENGTH {
         return false;
     }
-    check::same(&written[0..2], &image[0..2])
-        & check::same(&written[2..8], &ones)
-        & check::same(&written[8..76], &image[4..72])
+    same(&written[0..2], &image[0..2])
+        & same(&written[2..8], &ones)
+        & same(&written[8..76], &image[4..72])
         & are_records(&written[76..], &image[72..])
 }
 
@@ -89,77 +95,81 @@ fn is_translation_of_form_1(written: &[u8], image: &[u8]) -> bool {
     if image.len() != FORM_1_LENGTH {
         return false;
     }
-    check::same(&written[0..2], &image[0..2])
-        & check::same(&written[2..4], &form)
-        & check::same(&written[4..76], &image[4..76])
+    same(&written[0..2], &image[0..2])
+        & same(&written[2..4], &form)
+        & same(&written[4..76], &image[4..76])
         & are_records(&written[76..], &image[76..])
 }
 
-fn print_mark(written: &[u8], image: &[u8]) {
-    if check::same(written, image) {
-        io::write_all(STDOUT_FILENO, b"=");
+fn print_mark(rt: &impl Print, written: &[u8], image: &[u8]) -> io::Result<()> {
+    if same(written, image) {
+        print!(rt; "=")?;
     } else if is_translation_of_form_0(written, image) | is_translation_of_form_1(written, image) {
-        io::write_all(STDOUT_FILENO, b"+");
+        print!(rt; "+")?;
     } else {
-        io::write_all(STDOUT_FILENO, b"!");
+        print!(rt; "!")?;
     }
+    Ok(())
 }
 
 // How the table, written, gives these bytes back.
-fn print_written(table: &[Row], image: &[u8]) {
+fn print_written(rt: &impl Print, table: &[Row], image: &[u8]) -> io::Result<()> {
     let mut written = [0u8; LENGTH];
     let reply = vpindex::vpindex_write(table, &mut written);
     if (reply.refusal == 0) & (reply.length as usize == LENGTH) {
-        print_mark(&written, image);
+        print_mark(rt, &written, image)?;
     } else {
-        io::write_all(STDOUT_FILENO, b"!");
+        print!(rt; "!")?;
     }
+    Ok(())
 }
 
 // A slot behind a colon, where it is not 0.
-fn print_slot(slot: u32) {
+fn print_slot(rt: &impl Print, slot: u32) -> io::Result<()> {
     if slot != 0 {
-        io::write_all(STDOUT_FILENO, b":");
-        io::print_decimal(STDOUT_FILENO, slot as u64);
+        print!(rt; ":{slot}")?;
     }
+    Ok(())
 }
 
-fn print_reply(table: &mut [Row], image: &[u8]) {
+fn print_reply(rt: &impl Print, table: &mut [Row], image: &[u8]) -> io::Result<()> {
     let reply = vpindex::vpindex_load(table, image);
-    io::write_all(STDOUT_FILENO, b" ");
-    io::print_decimal(STDOUT_FILENO, reply.refusal as u64);
-    print_slot(reply.slot);
+    print!(rt; " {}", reply.refusal)?;
+    print_slot(rt, reply.slot)?;
     if reply.refusal == 0 {
-        print_written(table, image);
+        print_written(rt, table, image)?;
     }
+    Ok(())
 }
 
 // The reply to the first n bytes.
-fn print_front(table: &mut [Row], bytes: &[u8], n: usize) {
+fn print_front(rt: &impl Print, table: &mut [Row], bytes: &[u8], n: usize) -> io::Result<()> {
     if n <= bytes.len() {
-        print_reply(table, &bytes[0..n]);
+        print_reply(rt, table, &bytes[0..n])?;
     }
+    Ok(())
 }
 
 // The image and the byte behind it, cut to n bytes.
-fn print_cut_of(image: &[u8], n: usize) {
+fn print_cut_of(rt: &impl Print, image: &[u8], n: usize) -> io::Result<()> {
     let mut short = [[0u32; ROW_WIDTH]; SHORT_ROWS];
     let mut table = [[0u32; ROW_WIDTH]; ROWS];
-    print_front(&mut short, image, n);
-    print_front(&mut table, image, n);
+    print_front(rt, &mut short, image, n)?;
+    print_front(rt, &mut table, image, n)
 }
 
-fn print_cut(form: u8, n: usize) {
+fn print_cut(rt: &impl Print, form: u8, n: usize) -> io::Result<()> {
     if form == 0 {
         let image = bytes::FORM_0_IMAGE;
-        print_cut_of(&image, n);
+        print_cut_of(rt, &image, n)?;
     } else if form == 1 {
         let image = bytes::FORM_1_IMAGE;
-        print_cut_of(&image, n);
+        print_cut_of(rt, &image, n)?;
     } else {
         let image = bytes::IMAGE;
-        print_cut_of(&image, n);
+        print_cut_of(rt, &image, n)?;
     }
+    Ok(())
 }
 
 fn flipped(byte: u8, bit: u32) -> u8 {
@@ -167,55 +177,59 @@ fn flipped(byte: u8, bit: u32) -> u8 {
 }
 
 // The image by this metric, with one bit of one byte flipped.
-fn print_flip(form: u8, metric: u8, at: usize, bit: u32) {
+fn print_flip(rt: &impl Print, form: u8, metric: u8, at: usize, bit: u32) -> io::Result<()> {
     let mut table = [[0u32; ROW_WIDTH]; ROWS];
     if form == 0 {
         let mut image = bytes::FORM_0_IMAGE;
         image[METRIC_AT] = metric;
         image[at % FORM_0_LENGTH] = flipped(image[at % FORM_0_LENGTH], bit);
-        print_front(&mut table, &image, FORM_0_LENGTH);
+        print_front(rt, &mut table, &image, FORM_0_LENGTH)?;
     } else if form == 1 {
         let mut image = bytes::FORM_1_IMAGE;
         image[METRIC_AT] = metric;
         image[at % FORM_1_LENGTH] = flipped(image[at % FORM_1_LENGTH], bit);
-        print_front(&mut table, &image, FORM_1_LENGTH);
+        print_front(rt, &mut table, &image, FORM_1_LENGTH)?;
     } else {
         let mut image = bytes::IMAGE;
         image[METRIC_AT] = metric;
         image[at % LENGTH] = flipped(image[at % LENGTH], bit);
-        print_front(&mut table, &image, LENGTH);
+        print_front(rt, &mut table, &image, LENGTH)?;
     }
+    Ok(())
 }
 
-fn print_flips(form: u8, metric: u8, at: usize) {
+fn print_flips(rt: &impl Print, form: u8, metric: u8, at: usize) -> io::Result<()> {
     for bit in 0..8 {
-        print_flip(form, metric, at, bit);
+        print_flip(rt, form, metric, at, bit)?;
     }
+    Ok(())
 }
 
-fn print_cut_lines(form: u8, cuts: usize) {
+fn print_cut_lines(rt: &impl Print, form: u8, cuts: usize) -> io::Result<()> {
     for n in 0..cuts {
-        print_place(n);
-        print_cut(form, n);
-        print_end();
+        print_place(rt, n)?;
+        print_cut(rt, form, n)?;
+        print_end(rt)?;
     }
+    Ok(())
 }
 
-fn print_flip_lines(form: u8, metric: u8, length: usize) {
+fn print_flip_lines(rt: &impl Print, form: u8, metric: u8, length: usize) -> io::Result<()> {
     for at in 0..length {
-        print_place(at);
-        print_flips(form, metric, at);
-        print_end();
+        print_place(rt, at)?;
+        print_flips(rt, form, metric, at)?;
+        print_end(rt)?;
     }
+    Ok(())
 }
 
-fn main() {
-    print_cut_lines(2, CUTS);
-    print_flip_lines(2, 0, LENGTH);
-    print_flip_lines(2, 1, LENGTH);
-    print_flip_lines(2, 2, LENGTH);
-    print_cut_lines(1, FORM_1_CUTS);
-    print_flip_lines(1, 0, FORM_1_LENGTH);
-    print_cut_lines(0, FORM_0_CUTS);
-    print_flip_lines(0, 0, FORM_0_LENGTH);
+fn main(rt: HostRuntime) -> io::Result<()> {
+    print_cut_lines(&rt, 2, CUTS)?;
+    print_flip_lines(&rt, 2, 0, LENGTH)?;
+    print_flip_lines(&rt, 2, 1, LENGTH)?;
+    print_flip_lines(&rt, 2, 2, LENGTH)?;
+    print_cut_lines(&rt, 1, FORM_1_CUTS)?;
+    print_flip_lines(&rt, 1, 0, FORM_1_LENGTH)?;
+    print_cut_lines(&rt, 0, FORM_0_CUTS)?;
+    print_flip_lines(&rt, 0, 0, FORM_0_LENGTH)
 }

@@ -1,30 +1,32 @@
 // Runs the metric crate on the vectors of vectors.rt, and prints what tools/metric_vectors.py worked out apart from it.
+#![tactic(auto)]
+
 mod vectors;
 
-use libc::STDOUT_FILENO;
 use metric_rules::{Profile, ROW_WIDTH, Row};
+use std::io;
 use vectors::COUNT;
 
-fn print_space() {
-    io::write_all(STDOUT_FILENO, b" ");
+fn print_space(rt: &impl Print) -> io::Result<()> {
+    print!(rt; " ")
 }
 
-fn print_end() {
-    io::write_all(STDOUT_FILENO, b"\n");
+fn print_end(rt: &impl Print) -> io::Result<()> {
+    println!(rt)
 }
 
-fn print_number(n: u64) {
-    io::print_decimal(STDOUT_FILENO, n);
-    print_space();
+fn print_number(rt: &impl Print, n: u64) -> io::Result<()> {
+    print!(rt; "{n}")?;
+    print_space(rt)
 }
 
-fn print_last(n: u64) {
-    io::print_decimal(STDOUT_FILENO, n);
-    print_end();
+fn print_last(rt: &impl Print, n: u64) -> io::Result<()> {
+    print!(rt; "{n}")?;
+    print_end(rt)
 }
 
-fn print_word(n: u32) {
-    io::print_hex(STDOUT_FILENO, n as u64, 8);
+fn print_word(rt: &impl Print, n: u32) -> io::Result<()> {
+    print!(rt; "{n:08x}")
 }
 
 // The table's row, profile, tag, threshold, mark and day of object i.
@@ -83,53 +85,57 @@ fn day_at(i: usize) -> u32 {
     vectors::DAYS[i % COUNT]
 }
 
-fn print_words(row: Row) {
+fn print_words(rt: &impl Print, row: Row) -> io::Result<()> {
     for k in 0..12 {
-        print_word(row[k]);
-        print_space();
+        print_word(rt, row[k])?;
+        print_space(rt)?;
     }
-    print_word(row[12]);
-    print_end();
+    print_word(rt, row[12])?;
+    print_end(rt)
 }
 
 // Whether the measures are those expected, one by one, and the code.
-fn print_profile(profile: Profile, expected: [i32; 4]) {
+fn print_profile(rt: &impl Print, profile: Profile, expected: [i32; 4]) -> io::Result<()> {
     let m = profile.measures;
     let c = profile.code;
-    print_number((m[0] == expected[0]) as u64);
-    print_number((m[1] == expected[1]) as u64);
-    print_number((m[2] == expected[2]) as u64);
-    print_number((m[3] == expected[3]) as u64);
-    io::print_hex(STDOUT_FILENO, c[0], 16);
-    print_space();
-    io::print_hex(STDOUT_FILENO, c[1], 16);
-    print_space();
+    print_number(rt, (m[0] == expected[0]) as u64)?;
+    print_number(rt, (m[1] == expected[1]) as u64)?;
+    print_number(rt, (m[2] == expected[2]) as u64)?;
+    print_number(rt, (m[3] == expected[3]) as u64)?;
+    print!(rt; "{:016x}", c[0])?;
+    print_space(rt)?;
+    print!(rt; "{:016x}", c[1])?;
+    print_space(rt)
 }
 
 // The row of object i's fields; then the fields of its row in the table, and whether its tag and its measures are
 // valid.
-fn print_object(i: usize) {
+fn print_object(rt: &impl Print, i: usize) -> io::Result<()> {
     let row = row_at(i);
-    print_words(row_store::row_of(
-        tag_at(i),
-        profile_at(i),
-        threshold_at(i),
-        mark_at(i),
-        day_at(i),
-    ));
-    print_number(rows::tag_of(row));
-    print_profile(rows::profile_of(row), measures_at(i));
-    print_number(rows::threshold_of(row) as u64);
-    print_number(rows::mark_of(row) as u64);
-    print_number(rows::day_of(row) as u64);
-    print_number(validity::valid_tag(tag_at(i)) as u64);
-    print_last(validity::valid_measures(profile_at(i)) as u64);
+    print_words(
+        rt,
+        row_store::row_of(
+            tag_at(i),
+            profile_at(i),
+            threshold_at(i),
+            mark_at(i),
+            day_at(i),
+        ),
+    )?;
+    print_number(rt, rows::tag_of(row))?;
+    print_profile(rt, rows::profile_of(row), measures_at(i))?;
+    print_number(rt, rows::threshold_of(row) as u64)?;
+    print_number(rt, rows::mark_of(row) as u64)?;
+    print_number(rt, rows::day_of(row) as u64)?;
+    print_number(rt, validity::valid_tag(tag_at(i)) as u64)?;
+    print_last(rt, validity::valid_measures(profile_at(i)) as u64)
 }
 
-fn print_objects() {
+fn print_objects(rt: &impl Print) -> io::Result<()> {
     for i in 0..COUNT {
-        print_object(i);
+        print_object(rt, i)?;
     }
+    Ok(())
 }
 
 // A header row with this metric and these weights.
@@ -154,54 +160,56 @@ fn to_query(metric: u32, a: Row, query: Profile) -> u64 {
 }
 
 // By each metric with these weights.
-fn print_weighted(weights: [u32; 4], a: Row, b: Row) {
-    print_number(weighted(0, weights, a, b));
-    print_number(weighted(1, weights, a, b));
-    print_number(weighted(2, weights, a, b));
+fn print_weighted(rt: &impl Print, weights: [u32; 4], a: Row, b: Row) -> io::Result<()> {
+    print_number(rt, weighted(0, weights, a, b))?;
+    print_number(rt, weighted(1, weights, a, b))?;
+    print_number(rt, weighted(2, weights, a, b))
 }
 
 // The distances of objects i and j: by each metric and by a number that is none, then from a row to a query, then with
 // other weights.
-fn print_pair(i: usize, j: usize) {
+fn print_pair(rt: &impl Print, i: usize, j: usize) -> io::Result<()> {
     let a = row_at(i);
     let b = row_at(j);
-    print_number(between(0, a, b));
-    print_number(between(1, a, b));
-    print_number(between(2, a, b));
-    print_number(between(0xffff_ffff, a, b));
-    print_number(to_query(0, a, profile_at(j)));
-    print_number(to_query(1, a, profile_at(j)));
-    print_number(to_query(2, a, profile_at(j)));
-    print_weighted([2, 1, 1, 1], a, b);
-    print_weighted([3, 0, 100, 1], a, b);
-    print_number(weighted(0, [100, 100, 100, 100], a, b));
-    print_number(weighted(1, [100, 100, 100, 100], a, b));
-    print_last(weighted(2, [100, 100, 100, 100], a, b));
+    print_number(rt, between(0, a, b))?;
+    print_number(rt, between(1, a, b))?;
+    print_number(rt, between(2, a, b))?;
+    print_number(rt, between(0xffff_ffff, a, b))?;
+    print_number(rt, to_query(0, a, profile_at(j)))?;
+    print_number(rt, to_query(1, a, profile_at(j)))?;
+    print_number(rt, to_query(2, a, profile_at(j)))?;
+    print_weighted(rt, [2, 1, 1, 1], a, b)?;
+    print_weighted(rt, [3, 0, 100, 1], a, b)?;
+    print_number(rt, weighted(0, [100, 100, 100, 100], a, b))?;
+    print_number(rt, weighted(1, [100, 100, 100, 100], a, b))?;
+    print_last(rt, weighted(2, [100, 100, 100, 100], a, b))
 }
 
-fn print_distances() {
+fn print_distances(rt: &impl Print) -> io::Result<()> {
     for i in 0..COUNT {
-        print_pair(i, i);
-        print_pair(i, i + 1);
-        print_pair(i, i + 5);
-        print_pair(i, i + 11);
+        print_pair(rt, i, i)?;
+        print_pair(rt, i, i + 1)?;
+        print_pair(rt, i, i + 5)?;
+        print_pair(rt, i, i + 11)?;
     }
+    Ok(())
 }
 
-fn print_tag(tag: u64) {
-    print_number(tag);
-    print_last(validity::valid_tag(tag) as u64);
+fn print_tag(rt: &impl Print, tag: u64) -> io::Result<()> {
+    print_number(rt, tag)?;
+    print_last(rt, validity::valid_tag(tag) as u64)
 }
 
-fn print_tags() {
+fn print_tags(rt: &impl Print) -> io::Result<()> {
     let tags = vectors::NEAR_TAGS;
     for i in 0..vectors::NEAR_COUNT {
-        print_tag(tags[i]);
+        print_tag(rt, tags[i])?;
     }
+    Ok(())
 }
 
-fn main() {
-    print_objects();
-    print_distances();
-    print_tags();
+fn main(rt: HostRuntime) -> io::Result<()> {
+    print_objects(&rt)?;
+    print_distances(&rt)?;
+    print_tags(&rt)
 }

@@ -1,12 +1,14 @@
 // Runs the calls on the steps of steps.rt, and prints what tools/table_runs.py worked out apart from the code: of each
 // step its kind, the last reply, the distances of all its calls together, and both sizes of every bucket.
+#![tactic(auto)]
+
 mod steps;
 
 ghost use Rattle.std.specs.Prelude.{◌≤◌};
 
-use libc::STDOUT_FILENO;
 use metric_rules::{Profile, ROW_WIDTH, Row, Weights};
 use search_rules::Entry;
+use std::io;
 use steps::COUNT;
 use table_views::word_at;
 
@@ -18,13 +20,12 @@ const TABLE_ROWS: usize = 8205;
 
 const WORK_ROWS: usize = 4096;
 
-fn print_number(n: u64) {
-    io::write_all(STDOUT_FILENO, b" ");
-    io::print_decimal(STDOUT_FILENO, n);
+fn print_number(rt: &impl Print, n: u64) -> io::Result<()> {
+    print!(rt; " {n}")
 }
 
 // What is printed of a step.
-#[derive(Drop)]
+#[derive(Clone, Copy)]
 pub struct Last {
     pub refusal: u32,
     pub second: u32,
@@ -131,43 +132,45 @@ fn bucket_count(order: u32) -> usize
 }
 
 // Built and live of each bucket.
-fn print_sizes(table: &[Row]) {
+fn print_sizes(rt: &impl Print, table: &[Row]) -> io::Result<()> {
     if table.len() < 14 {
-        return;
+        return Ok(());
     }
     let count = bucket_count(word_at(table[0], 0));
     let mut k = 0;
     while k < count {
         let sizes = table[k + 1];
-        print_number(word_at(sizes, 0) as u64);
-        print_number(word_at(sizes, 1) as u64);
+        print_number(rt, word_at(sizes, 0) as u64)?;
+        print_number(rt, word_at(sizes, 1) as u64)?;
         k += 1;
     }
+    Ok(())
 }
 
-fn print_step(kind: u32, last: Last, table: &[Row]) {
-    io::print_decimal(STDOUT_FILENO, kind as u64);
-    print_number(last.refusal as u64);
-    print_number(last.second as u64);
-    print_number(last.distances as u64);
-    print_number(last.total);
-    print_sizes(table);
-    io::write_all(STDOUT_FILENO, b"\n");
+fn print_step(rt: &impl Print, kind: u32, last: Last, table: &[Row]) -> io::Result<()> {
+    print!(rt; "{kind}")?;
+    print_number(rt, last.refusal as u64)?;
+    print_number(rt, last.second as u64)?;
+    print_number(rt, last.distances as u64)?;
+    print_number(rt, last.total)?;
+    print_sizes(rt, table)?;
+    println!(rt)
 }
 
-fn run(table: &mut [Row], work: &mut [Row], res: &mut [Entry]) {
+fn run(rt: &impl Print, table: &mut [Row], work: &mut [Row], res: &mut [Entry]) -> io::Result<()> {
     let mut i = 0;
     while i < COUNT {
         let kind = steps::KINDS[i];
         let last = perform(table, work, res, kind, steps::FIRST[i], steps::SECOND[i]);
-        print_step(kind, last, table);
+        print_step(rt, kind, last, table)?;
         i += 1;
     }
+    Ok(())
 }
 
-fn main() {
+fn main(rt: HostRuntime) -> io::Result<()> {
     let mut table = [[0u32; ROW_WIDTH]; TABLE_ROWS];
     let mut work = [[0u32; ROW_WIDTH]; WORK_ROWS];
     let mut result = [[0u64; 2]; WORK_ROWS];
-    run(&mut table, &mut work, &mut result);
+    run(&rt, &mut table, &mut work, &mut result)
 }

@@ -1,6 +1,8 @@
-// The calls of the index as they ship, under their C names: every value of every argument, lent areas of any length and
-// content, no condition on the caller. Each contract is its call of crates/call_rules/specs/Calls, the one that the
-// demands' theorems speak of.
+// The calls of the index under the names that C has for them (crates/vpindex_c): every value of every argument, lent
+// areas of any length and content, no condition on the caller. Each contract is its call of
+// crates/call_rules/specs/Calls, the one that the demands' theorems speak of.
+#![tactic(auto)]
+
 ghost use Rattle.std.specs.Prelude.{◌≡◌, length};
 ghost use Rattle.call_rules.specs.Calls.{draft_areas, Ask, begin_reply, table_begun, change_reply, table_changed};
 ghost use Rattle.call_rules.specs.Calls.{work_changed, ask_reply, areas_answered, Write, written_reply, bytes_written};
@@ -18,8 +20,7 @@ use search_rules::Entry;
 use table_rules::{Added, LookedUp, Removed, Searched};
 
 // A table of this order, metric and weights with no item in it. The reply is the refusal: 3, 4, 32, 23, or 0.
-#[unsafe(no_mangle)]
-pub extern "C" fn vpindex_fresh(table: &mut [Row], order: u32, metric: u32, weights: Weights) -> u32
+pub fn vpindex_fresh(table: &mut [Row], order: u32, metric: u32, weights: Weights) -> u32
     ensures reply { result ≡ begin_reply (fresh order (record { metric = metric; weights = weights })) (length table.old) }
     ensures table { table.new ≡ table_begun (fresh order (record { metric = metric; weights = weights })) table.old }
 {
@@ -28,8 +29,7 @@ pub extern "C" fn vpindex_fresh(table: &mut [Row], order: u32, metric: u32, weig
 
 // The table that these bytes are the image of. Refusals: 7, 3, 4, 8, 7, 32, 7, 24, 7, 23, 33, 8; and then 36, 37 or 38
 // with the lowest slot that one is of.
-#[unsafe(no_mangle)]
-pub extern "C" fn vpindex_load(table: &mut [Row], image: &[u8]) -> Loaded
+pub fn vpindex_load(table: &mut [Row], image: &[u8]) -> Loaded
     ensures reply { result ≡ begin_reply (load image.now) (length table.old) }
     ensures table { table.new ≡ table_begun (load image.now) table.old }
 {
@@ -38,8 +38,7 @@ pub extern "C" fn vpindex_load(table: &mut [Row], image: &[u8]) -> Loaded
 
 // An item put in, with the day on which it was weighed; the reply has the bucket that was built and the distances that
 // its build worked out.
-#[unsafe(no_mangle)]
-pub extern "C" fn vpindex_add(
+pub fn vpindex_add(
     table: &mut [Row],
     work: &mut [Row],
     tag: u64,
@@ -54,8 +53,7 @@ pub extern "C" fn vpindex_add(
 }
 
 // An item struck out; the reply has the distances that a build worked out, 0 where none was built.
-#[unsafe(no_mangle)]
-pub extern "C" fn vpindex_remove(table: &mut [Row], work: &mut [Row], tag: u64) -> Removed
+pub fn vpindex_remove(table: &mut [Row], work: &mut [Row], tag: u64) -> Removed
     ensures reply { result ≡ change_reply (remove tag) table.old work.old }
     ensures table { table.new ≡ table_changed (remove tag) table.old work.old }
     ensures work { work.new ≡ work_changed (remove tag) table.old work.old }
@@ -64,16 +62,14 @@ pub extern "C" fn vpindex_remove(table: &mut [Row], work: &mut [Row], tag: u64) 
 }
 
 // The bucket, the profile and the day of the live item with this tag.
-#[unsafe(no_mangle)]
-pub extern "C" fn vpindex_look_up(table: &[Row], tag: u64) -> LookedUp
+pub fn vpindex_look_up(table: &[Row], tag: u64) -> LookedUp
     ensures reply { result ≡ ask_reply (look_up tag) table.now tt }
 {
     table_look_up::look_up(table, tag)
 }
 
 // Every live item within this radius of the query that was weighed on the first day or later, by distance, then tag.
-#[unsafe(no_mangle)]
-pub extern "C" fn vpindex_range(
+pub fn vpindex_range(
     table: &[Row],
     res: &mut [Entry],
     query: Profile,
@@ -88,8 +84,7 @@ pub extern "C" fn vpindex_range(
 
 // Of the live items weighed on the first day or later the k nearest to the query, or all if there are fewer, by
 // distance, then tag.
-#[unsafe(no_mangle)]
-pub extern "C" fn vpindex_nearest(
+pub fn vpindex_nearest(
     table: &[Row],
     res: &mut [Entry],
     query: Profile,
@@ -104,8 +99,7 @@ pub extern "C" fn vpindex_nearest(
 
 // Range for 1 to 16 queries at once, each a row with its profile, its radius and its first day: each query's list in
 // its own part of the area, its number in the reply, and a slot visited once if any of them visits it.
-#[unsafe(no_mangle)]
-pub extern "C" fn vpindex_range_batch(table: &[Row], res: &mut [Entry], queries: &[Row]) -> Ranges
+pub fn vpindex_range_batch(table: &[Row], res: &mut [Entry], queries: &[Row]) -> Ranges
     ensures reply { result ≡ ask_reply (range_batch queries.now) table.now res.old }
     ensures res { res.new ≡ areas_answered (range_batch queries.now) table.now res.old }
 {
@@ -113,8 +107,7 @@ pub extern "C" fn vpindex_range_batch(table: &[Row], res: &mut [Entry], queries:
 }
 
 // The image of the table, its length in the reply; bytes after it are unchanged.
-#[unsafe(no_mangle)]
-pub extern "C" fn vpindex_write(table: &[Row], image: &mut [u8]) -> Written
+pub fn vpindex_write(table: &[Row], image: &mut [u8]) -> Written
     ensures reply { result ≡ written_reply Write.image table.now image.old }
     ensures image { image.new ≡ bytes_written Write.image table.now image.old }
 {
@@ -123,13 +116,7 @@ pub extern "C" fn vpindex_write(table: &[Row], image: &mut [u8]) -> Written
 
 // A herd list of one day: each line an add, up to the first line refused. The reply has that line's refusal and number,
 // the items added and their distances.
-#[unsafe(no_mangle)]
-pub extern "C" fn vpindex_read_list(
-    table: &mut [Row],
-    work: &mut [Row],
-    list: &[u8],
-    day: u16,
-) -> ListRead
+pub fn vpindex_read_list(table: &mut [Row], work: &mut [Row], list: &[u8], day: u16) -> ListRead
     ensures reply { result ≡ change_reply (read_list list.now day) table.old work.old }
     ensures table { table.new ≡ table_changed (read_list list.now day) table.old work.old }
     ensures work { work.new ≡ work_changed (read_list list.now day) table.old work.old }
@@ -139,8 +126,7 @@ pub extern "C" fn vpindex_read_list(
 
 // A snapshot of the table saved under a name, its image's length in the reply; other parts, and the bytes after the
 // snapshot, are unchanged.
-#[unsafe(no_mangle)]
-pub extern "C" fn vpindex_save(table: &[Row], states: &mut [u8], name: u32) -> Written
+pub fn vpindex_save(table: &[Row], states: &mut [u8], name: u32) -> Written
     ensures reply { result ≡ written_reply (Write.save name) table.now states.old }
     ensures states { states.new ≡ bytes_written (Write.save name) table.now states.old }
 {
@@ -148,8 +134,7 @@ pub extern "C" fn vpindex_save(table: &[Row], states: &mut [u8], name: u32) -> W
 }
 
 // The table that was saved under a name. Refusals: 34, 35, 7, then what a load replies.
-#[unsafe(no_mangle)]
-pub extern "C" fn vpindex_restore(table: &mut [Row], states: &[u8], name: u32) -> Loaded
+pub fn vpindex_restore(table: &mut [Row], states: &[u8], name: u32) -> Loaded
     ensures reply { result ≡ begin_reply (restore states.now name) (length table.old) }
     ensures table { table.new ≡ table_begun (restore states.now name) table.old }
 {
@@ -158,8 +143,7 @@ pub extern "C" fn vpindex_restore(table: &mut [Row], states: &[u8], name: u32) -
 
 // What the items with these tags pay at the gate, each number in the order of the list and their total in the reply;
 // numbers after them are unchanged.
-#[unsafe(no_mangle)]
-pub extern "C" fn vpindex_dues(table: &[Row], tags: &[u64], dues: &mut [u32]) -> Dues
+pub fn vpindex_dues(table: &[Row], tags: &[u64], dues: &mut [u32]) -> Dues
     ensures reply { result ≡ ask_reply (Ask.dues tags.now) table.now dues.old }
     ensures dues { dues.new ≡ areas_answered (Ask.dues tags.now) table.now dues.old }
 {
@@ -168,8 +152,7 @@ pub extern "C" fn vpindex_dues(table: &[Row], tags: &[u64], dues: &mut [u32]) ->
 
 // The live items drafted into lots by each of some radii: the number of lots and the size of the largest for each, and
 // the lots by the chosen one listed.
-#[unsafe(no_mangle)]
-pub extern "C" fn vpindex_lots(
+pub fn vpindex_lots(
     table: &[Row],
     work: &mut [Entry],
     radii: &[u32],
