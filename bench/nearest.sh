@@ -16,9 +16,7 @@ program() {
     (cd rust && VPINDEX_LIB_DIR=$1 CARGO_TARGET_DIR=$2 cargo build --offline --release --quiet --package bench)
 }
 
-if [ -z "${VPINDEX_LIB_DIR:-}" ]; then
-    rt staticlib vpindex > "$out/staticlib.log" 2>&1 || { cat "$out/staticlib.log"; exit 1; }
-fi
+sh tools/build.sh vpindex
 program "${VPINDEX_LIB_DIR:-$PWD/target/staticlib}" "$out/now"
 programs=now
 if [ -n "${BEFORE:-}" ]; then

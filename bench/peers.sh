@@ -14,9 +14,7 @@ if [ -n "$missing" ]; then
 fi
 seeds=${*:-9E3779B97F4A7C15 510E527FADE682D1 9B05688C2B3E6C1F 3243F6A8885A308D 452821E638D01377}
 mkdir -p target/bench
-if [ -z "${VPINDEX_LIB_DIR:-}" ]; then
-    rt staticlib vpindex > target/bench/staticlib.log 2>&1 || { cat target/bench/staticlib.log; exit 1; }
-fi
+sh tools/build.sh vpindex
 # nanoflann copies a tree with nothing in it yet, which g++ would warn of.
 g++ -std=c++17 -O3 -Wall -Wextra -Wno-maybe-uninitialized -fopenmp -I include -o target/bench/peers \
     bench/peers/peers.cpp -L "${VPINDEX_LIB_DIR:-target/staticlib}" -lvpindex -lfaiss -lopenblas

@@ -5,8 +5,6 @@
 set -eu
 cd "$(dirname "$0")/.."
 mkdir -p target/bench
-if [ -z "${VPINDEX_LIB_DIR:-}" ]; then
-    rt staticlib vpindex > target/bench/staticlib.log 2>&1 || { cat target/bench/staticlib.log; exit 1; }
-fi
+sh tools/build.sh vpindex
 (cd rust && cargo build --offline --release --quiet --package bench)
 target/rust/release/bench target/bench "$@"

@@ -1,7 +1,7 @@
 /*
  * The calls of vpindex.h by the C conventions of any little-endian processor. Each lends its areas and structs to the
- * proved function of its name, which takes all of them behind pointers. tools/cross.sh compiles this beside the module
- * of the proved code, and holds the declarations here to what the module defines.
+ * proved function of its name, which takes and gives every struct behind a pointer. tools/cross.sh compiles this beside
+ * the module of the proved code, and holds the declarations here to what the module defines.
  */
 #include "vpindex.h"
 
@@ -36,30 +36,24 @@ BYTES(vpindex_list_read, 16);
 BYTES(vpindex_dues_reply, 16);
 PLACE(vpindex_dues_reply, total, 8);
 
-/* An area as the proved code has it: its length has 64 bits and stands at byte 8, also where an address has 4 bytes. */
-typedef struct {
-    _Alignas(8) const void *at;
-    _Alignas(8) uint64_t length;
-} area;
-BYTES(area, 16);
-PLACE(area, length, 8);
-#define AREA(at, length) (&(area){(at), (length)})
+/* An area as the proved code takes it: where it is, and its length, which has 64 bits also where an address has 32. */
+#define LENT const void *, uint64_t
+#define AREA(at, length) (at), (length)
 
-void vpindex_proved_add(vpindex_added *, const area *, const area *, uint64_t, const vpindex_profile *, uint16_t);
-void vpindex_proved_dues(vpindex_dues_reply *, const area *, const area *, const area *);
-uint32_t vpindex_proved_fresh(const area *, uint32_t, uint32_t, const vpindex_weights *);
-void vpindex_proved_load(vpindex_loaded *, const area *, const area *);
-void vpindex_proved_look_up(vpindex_looked_up *, const area *, uint64_t);
-uint32_t vpindex_proved_lots(const area *, const area *, const area *, const area *, const area *, uint32_t);
-void vpindex_proved_nearest(vpindex_searched *, const area *, const area *, const vpindex_profile *, uint32_t,
-                            uint16_t);
-void vpindex_proved_range(vpindex_searched *, const area *, const area *, const vpindex_profile *, uint32_t, uint16_t);
-void vpindex_proved_range_batch(vpindex_ranges *, const area *, const area *, const area *);
-void vpindex_proved_read_list(vpindex_list_read *, const area *, const area *, const area *, uint16_t);
-void vpindex_proved_remove(vpindex_removed *, const area *, const area *, uint64_t);
-void vpindex_proved_restore(vpindex_loaded *, const area *, const area *, uint32_t);
-void vpindex_proved_save(vpindex_written *, const area *, const area *, uint32_t);
-void vpindex_proved_write(vpindex_written *, const area *, const area *);
+void vpindex_proved_add(vpindex_added *, LENT, LENT, uint64_t, const vpindex_profile *, uint16_t);
+void vpindex_proved_dues(vpindex_dues_reply *, LENT, LENT, LENT);
+uint32_t vpindex_proved_fresh(LENT, uint32_t, uint32_t, const vpindex_weights *);
+void vpindex_proved_load(vpindex_loaded *, LENT, LENT);
+void vpindex_proved_look_up(vpindex_looked_up *, LENT, uint64_t);
+uint32_t vpindex_proved_lots(LENT, LENT, LENT, LENT, LENT, uint32_t);
+void vpindex_proved_nearest(vpindex_searched *, LENT, LENT, const vpindex_profile *, uint32_t, uint16_t);
+void vpindex_proved_range(vpindex_searched *, LENT, LENT, const vpindex_profile *, uint32_t, uint16_t);
+void vpindex_proved_range_batch(vpindex_ranges *, LENT, LENT, LENT);
+void vpindex_proved_read_list(vpindex_list_read *, LENT, LENT, LENT, uint16_t);
+void vpindex_proved_remove(vpindex_removed *, LENT, LENT, uint64_t);
+void vpindex_proved_restore(vpindex_loaded *, LENT, LENT, uint32_t);
+void vpindex_proved_save(vpindex_written *, LENT, LENT, uint32_t);
+void vpindex_proved_write(vpindex_written *, LENT, LENT);
 
 uint32_t vpindex_fresh(uint32_t (*table)[VPINDEX_ROW_WORDS], size_t table_rows, uint32_t order, uint32_t metric,
                        vpindex_weights weights) {

@@ -1,7 +1,8 @@
 #!/bin/sh
 # Proves and builds the archive of the calls or the program yard: sh tools/build.sh vpindex|yard
 # sh tools/build.sh vpindex --target NAME then compiles the same proved code for another processor (tools/cross.sh).
-# Each crate is shown on standard error as it is proved. Where no file of the crates has changed since, nothing is done.
+# Each crate is shown on standard error as its proof begins. Where no file of the crates has changed since, nothing is
+# done. With --proved behind its name, right after an rt ci that passed, what that left is not proved once more.
 # VPINDEX_LIB_DIR, a full path, names the folder of another libvpindex.a, and then no archive is built.
 set -eu
 cd "$(dirname "$0")/.."
@@ -12,6 +13,13 @@ if [ "${1:-} ${2:-}" = 'vpindex --target' ]; then
     under_way "the calls for $3" sh tools/cross.sh "$3"
     exit 0
 fi
+case ${2:-} in
+    '') proved= ;;
+    --proved) proved=yes ;;
+    *) set -- ;;
+esac
+# Libraries of rt ci's have no stamp, and so rt would make them anew.
+of_ci() { [ "$proved" ] && ! ls crates/*/out/rlib/stamp > /dev/null 2>&1; }
 case ${1:-} in
     vpindex)
         case ${VPINDEX_LIB_DIR:-} in
@@ -26,15 +34,26 @@ case ${1:-} in
                 exit 1
                 ;;
         esac
+        crate=vpindex_c
+        made=crates/vpindex_c/out/libvpindex_c.a
         built=target/staticlib/libvpindex.a
-        build() { rt check vpindex && echo 'step: writing the archive' && rt staticlib vpindex; }
+        build() {
+            if of_ci; then
+                sh tools/archive.sh "$made"
+            else
+                (cd crates/vpindex_c && rt lib)
+            fi
+        }
         ;;
     yard)
+        crate=yard
+        made=crates/yard/out/yard
         built=target/bin/yard
-        build() { rt check yard; }
+        # It is built to be run, and so it has to be: on no input.
+        build() { [ "$proved" ] || (cd crates/yard && rt run < /dev/null > /dev/null); }
         ;;
     *)
-        echo 'usage: sh tools/build.sh vpindex [--target NAME] | yard' >&2
+        echo 'usage: sh tools/build.sh vpindex [--target NAME | --proved] | yard [--proved]' >&2
         exit 2
         ;;
 esac
@@ -43,13 +62,14 @@ if ! command -v rt > /dev/null; then
     exit 1
 fi
 # What it is built from: the kit, and the names and contents of all files of the crates.
-sum=$({ rt version; find crates.txt crates -type f | LC_ALL=C sort | xargs sha256sum; } | sha256sum)
+files() { find crates.txt crates -path 'crates/*/out' -prune -o -type f -print | LC_ALL=C sort; }
+sum=$({ rt version; files | xargs sha256sum; } | sha256sum)
 if [ -f "$built" ] && [ "$(cat "$built.sum" 2> /dev/null)" = "$sum" ]; then
     exit 0
 fi
 # How many crates it rests on, itself included.
-crates=$(awk -v root="$1" -F': *' '
-    /^[a-z]/ { rests[$1] = $2 }
+crates=$(awk -v root="$crate" -F': *' '
+    /^[a-z]/ { sub(/ .*/, "", $1); rests[$1] = $2 }
     function reach(name, words, n, i) {
         if (name in rests && !(name in met)) {
             met[name] = 1
@@ -59,25 +79,28 @@ crates=$(awk -v root="$1" -F': *' '
     }
     END { reach(root); n = 0; for (name in met) n++; print n }' crates.txt)
 log=target/$1.log
-if ! mkdir -p target || [ ! -w target ]; then
+if ! mkdir -p "${built%/*}" || [ ! -w target ]; then
     echo "$built is not there or not of these crates, and $PWD/target cannot be written" >&2
     exit 1
 fi
-echo "proving $crates crates and building $built: some minutes the first time, less after a change; the log is $log" >&2
-# Of the lines of a build it shows each crate that is proved and each further step, at once (an awk may wait for more).
+if [ "$proved" ]; then
+    echo "building $built from what rt ci has proved; the log is $log" >&2
+else
+    echo "proving $crates crates and building $built: long the first time, less after a change; the log is $log" >&2
+fi
+# Of the lines of a build it shows each crate whose proof begins, at once (an awk may wait for more).
 shown() {
     start=$(date +%s) n=0
     while IFS= read -r line; do
-        told=
         case $line in
-            'rt: '*' proved (unchanged '*) n=$((n + 1)) ;;
-            'rt: '*' proved ('*) n=$((n + 1)) line=${line#rt: } told="$n of $crates  ${line%% *}" ;;
-            'step: '*) told=${line#step: } ;;
+            'rt: chose --jobs '*' for '*)
+                n=$((n + 1))
+                echo "  $n of at most $crates  ${line##* for }  ($(($(date +%s) - start)) s so far)" >&2
+                ;;
         esac
-        [ -z "$told" ] || echo "  $told  ($(($(date +%s) - start)) s so far)" >&2
     done
 }
-build_and_show() { { build 2>&1 || echo 'rt: not built'; } | tee "$log" | shown; }
+build_and_show() { { { build && cp "$made" "$built"; } 2>&1 || echo 'rt: not built'; } | tee "$log" | shown; }
 under_way "$built" build_and_show
 if tail -n 1 "$log" | grep -q '^rt: not built$'; then
     cat "$log"

@@ -34,9 +34,8 @@ case ${1:-} in
 esac
 name=${1:-}
 words=$(words_of "$name")
-kit=${RATTLE_HOME:-$(dirname "$(dirname "$(readlink -f "$(command -v rt)")")")}
-own=$kit/on/$(uname -m)
-tools=$own/toolchain/bin
+kit=$(dirname "$(dirname "$(readlink -f "$(command -v rt)")")")
+tools=$kit/toolchain/bin
 proved=target/staticlib/libvpindex.a
 lowered=target/module/lowered.ll
 out=target/$name
@@ -53,18 +52,12 @@ stop() {
 # --toolchain: here one whose clang keeps what it is given.
 lower() {
     mkdir -p "$scratch/tools/bin"
-    ln -s "$(readlink -f "$own/toolchain/lib")" "$scratch/tools/lib"
+    ln -s "$kit/toolchain/lib" "$scratch/tools/lib"
     ln -s "$tools/llvm-ar" "$tools/ld.lld" "$scratch/tools/bin/"
     keeper=$scratch/tools/bin/clang
     printf '#!/bin/sh\ncp module.bc "%s/module.bc"\nexec "%s/clang" "$@"\n' "$scratch" "$tools" > "$keeper"
     chmod +x "$keeper"
-    set -- --extern "std=$own/rlib/std.rlib"
-    for crate in $(sed -n 's/^vpindex: *//p' crates.txt); do
-        set -- "$@" --extern "$crate=target/rlib/$crate.rlib"
-    done
-    "$own/bin/rattle" build --crate-name vpindex crates/vpindex/src/lib.rt "$@" -L dependency=target/rlib \
-        -L "dependency=$own/rlib" --antt-project "$kit/logic/antt-project.json" --logic-built "$own/logic-built" \
-        --toolchain "$scratch/tools" --crate-type staticlib -o "$scratch/libvpindex.a" > "$scratch/log" 2>&1 || {
+    sh tools/archive.sh "$scratch/libvpindex.a" "$scratch/tools" > "$scratch/log" 2>&1 || {
         cat "$scratch/log"
         stop 'the kit did not build the calls again'
     }
@@ -73,10 +66,30 @@ lower() {
     "$tools/clang" --target=x86_64-unknown-linux-gnu -S -emit-llvm -O0 -x ir "$scratch/module.bc" -o "$lowered"
 }
 
+# For each proved function of the calls one that C can spell. What comes back in a register is extended to the whole of
+# it, as riscv64's C calls have it; what comes back in two is stored where the caller says.
+spelled() {
+    sed -nE 's/^define internal (noundef )?(.*) @"vpindex_c::vpindex_([a-z_]+)"\((.*)\) #[0-9]+ \{$/\2|\3|\4/p' "$lowered" |
+        while IFS='|' read -r gives name takes; do
+            call="call $gives @\"vpindex_c::vpindex_$name\"($takes)"
+            case $gives in
+                void) printf '\ndefine hidden void @vpindex_proved_%s(%s) {\n  %s\n  ret void\n}\n' "$name" "$takes" "$call" ;;
+                i*)
+                    printf '\ndefine hidden signext %s @vpindex_proved_%s(%s) {\n' "$gives" "$name" "$takes"
+                    printf '  %%given = %s\n  ret %s %%given\n}\n' "$call" "$gives"
+                    ;;
+                *)
+                    printf '\ndefine hidden void @vpindex_proved_%s(ptr %%out, %s) {\n' "$name" "$takes"
+                    printf '  %%given = %s\n  store %s %%given, ptr %%out\n  ret void\n}\n' "$call" "$gives"
+                    ;;
+            esac
+        done
+}
+
 # What each proved function of a module gives and takes.
 shapes() {
     sed -nE 's/^(define|declare) (.*)@(vpindex_proved_[a-z_]+\([^)]*\)).*/\2\3/; T
-        s/\b(noundef|signext|zeroext|hidden|dso_local)\b ?//g; s/ ?%a[0-9]+//g; s/ +([,)])/\1/g; p' "$1" | LC_ALL=C sort
+        s/\b(noundef|signext|zeroext|hidden|dso_local)\b ?//g; s/ ?%[a-z]+[0-9]*//g; s/ +([,)])/\1/g; p' "$1" | LC_ALL=C sort
 }
 
 # Whatever the module is expected to be, and is changed to, stands here.
@@ -85,17 +98,17 @@ carry() {
     ! grep -E 'getelementptr ' "$lowered" | grep -qvE 'getelementptr (inbounds )?(nuw )?i8, ptr ' ||
         stop 'the module finds a place by something else than bytes'
     ! grep -E '^declare ' "$lowered" | grep -qv '@llvm\.' || stop 'the module calls a function that it does not have'
-    ! grep -qE '^@' "$lowered" || stop 'the module has data of its own'
+    ! grep -E '^@' "$lowered" | grep -qvE ' constant \[[0-9]+ x i8\] c"' ||
+        stop 'the module has other data of its own than constant bytes'
     # 1. Layout, triple and processor are left to the target.
     # 2. The wrappers that spell x86-64's C calls are no longer seen from outside, and so dropped.
-    # 3. The proved functions below them are seen, by names that C can spell. What they return in a register is extended
-    #    to the whole of it, as riscv64's C calls have it.
-    sed -E '/^target (datalayout|triple) /d
-        s/ ?"(target-cpu|target-features|tune-cpu|probe-stack)"="[^"]*"//g
-        s/^define (.* @vpindex_)/define internal \1/
-        s/^define internal (.* @"vpindex::vpindex_)/define hidden \1/
-        s/^define hidden noundef (i[0-9]+ )/define hidden noundef signext \1/
-        s/@"vpindex::vpindex_([a-z_]+)"/@vpindex_proved_\1/g' "$lowered" > "$module"
+    # 3. The proved functions below them have others, which are seen.
+    {
+        sed -E '/^target (datalayout|triple) /d
+            s/ ?"(target-cpu|target-features|tune-cpu|probe-stack|stack-probe-size)"="[^"]*"//g
+            s/^define (.* @vpindex_)/define internal \1/' "$lowered"
+        spelled
+    } > "$module"
     # 4. On ARM a line says that no float is passed, so that programs link with it which pass theirs in either way.
     case $words in
         *gnueabihf* | *-eabi*) echo 'module asm ".eabi_attribute Tag_ABI_VFP_args, 3"' >> "$module" ;;

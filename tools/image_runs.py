@@ -14,6 +14,8 @@ import sys
 from collections import namedtuple
 from pathlib import Path
 
+from layout import constant
+
 CRATE = Path(__file__).resolve().parent.parent / "crates" / "image_runs"
 COUNTRY = 36 * 10**12
 ORDER, ROWS = 2, 11
@@ -215,15 +217,12 @@ def constants(form):
     """The image with a byte behind it, its length, and the number of lengths from 0 to one more than that."""
     image, name = image_of(form, 0), "" if form == LAST_FORM else f"FORM_{form}_"
     return [
-        "",
         f"// Of form {form}.",
         f"pub const {name}LENGTH: usize = {len(image)};",
         "",
         f"pub const {name}CUTS: usize = {len(image) + 2};",
         "",
-        f"pub const {name}IMAGE: [u8; {len(image) + 1}] = [",
-        *(f"    {b}," for b in image + bytes(1)),
-        "];",
+        *constant(f"{name}IMAGE", "u8", image + bytes(1)),
     ]
 
 
@@ -231,8 +230,9 @@ def source():
     lines = [
         "// A sound image of each form, all of the same slots, and behind it one byte that is no part of it, as",
         "// tools/image_runs.py writes them: its length, the lengths from 0 to one more than that, and the bytes.",
+        "",
     ]
-    return "\n".join(lines + [line for form in reversed(range(len(FORMS))) for line in constants(form)]) + "\n"
+    return "\n".join(lines + [line for form in reversed(range(len(FORMS))) for line in constants(form)])
 
 
 def main():

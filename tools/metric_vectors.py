@@ -9,6 +9,8 @@ import struct
 import sys
 from pathlib import Path
 
+from layout import constant
+
 CRATE = Path(__file__).resolve().parent.parent / "crates" / "metric_vectors"
 LOW, HIGH = -(2**31), 2**31 - 1
 WORD = 2**64 - 1
@@ -95,10 +97,6 @@ def tags():
     """The last national and the next, at three countries; the ends of the countries; and numbers that are no tags."""
     edges = [country * NATIONALS + LAST_NATIONAL + past for country in (1, 36, 999) for past in (0, 1)]
     return edges + [0, NATIONALS - 1, NATIONALS, 10**15 - 1, 10**15, 10**15 + LAST_NATIONAL, 2**32, 2**63 - 1, WORD]
-
-
-def constant(name, kind, numbers):
-    return [f"pub const {name}: [{kind}; {len(numbers)}] = ["] + [f"    {n}," for n in numbers] + ["];", ""]
 
 
 def table(items, tag_list):

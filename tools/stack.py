@@ -79,11 +79,11 @@ def functions_in(lines):
         if not code or name is None:
             continue
         text = code[1]
-        # A large frame is made page by page, down to the address that stands in r11.
+        # A large frame is made step by step, down to the address that stands in r11.
         probe = re.match(r"sub +\$(0x[0-9a-f]+),%r11", text)
         if probe:
             probed = int(probe[1], 16)
-        if probed and re.match(r"sub +\$0x1000,%rsp", text):
+        if probed and re.match(r"sub +\$0x[0-9a-f]+,%rsp", text):
             found[name].frame += probed
             probed = None
             continue

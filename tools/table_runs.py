@@ -10,6 +10,8 @@ A step is an operation and two numbers: fresh (order, metric), add or remove (fi
 import sys
 from pathlib import Path
 
+from layout import constant
+
 CRATE = Path(__file__).resolve().parent.parent / "crates" / "table_runs"
 FRESH, ADD, REMOVE, RANGE, NEAREST = range(5)
 NO_BUCKET = 0
@@ -146,14 +148,10 @@ def output(steps):
     return "\n".join(lines) + "\n"
 
 
-def constant(name, numbers):
-    return [f"pub const {name}: [u32; {len(numbers)}] = ["] + [f"    {n}," for n in numbers] + ["];", ""]
-
-
 def source(steps):
     lines = ["// The steps, as tools/table_runs.py writes them.", f"pub const COUNT: usize = {len(steps)};", ""]
     for name, at in (("KINDS", 0), ("FIRST", 1), ("SECOND", 2)):
-        lines += constant(name, [s[at] for s in steps])
+        lines += constant(name, "u32", [s[at] for s in steps])
     return "\n".join(lines[:-1]) + "\n"
 
 

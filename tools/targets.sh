@@ -22,8 +22,8 @@ fi
 calls=200000 seed=1
 out=target/targets
 mkdir -p "$out"
-kit=${RATTLE_HOME:-$(dirname "$(dirname "$(readlink -f "$(command -v rt)")")")}
-tools=$kit/on/$(uname -m)/toolchain/bin
+kit=$(dirname "$(dirname "$(readlink -f "$(command -v rt)")")")
+tools=$kit/toolchain/bin
 strict="-std=c11 -O2 -pedantic -Wall -Wextra -Werror -Iinclude -DCALLS=$calls -DSEED=$seed"
 bare='-ffreestanding -nostdinc -isystem c/bare'
 digest='c/digest.c c/digest_main.c'
