@@ -2,7 +2,7 @@
 
 // The image of a table: the bytes it is written as, and the table that they load as.
 
-// RULES 14.1: the numbers of the refusals that name a slot.
+// RULES 14.1: the numbers of the refusals that name a slot, as C's replies have them (`Refusal` of the crate refusals).
 pub const DUPLICATE_TAG: u32 = 36;
 
 pub const MISPLACED_ITEM: u32 = 37;
@@ -31,6 +31,7 @@ pub const RECORD_WORDS_BYTES: usize = 4 * RECORD_WORDS;
 
 pub const DAY_BYTES: usize = 2;
 
+// The replies are C's: a refusal's number stands beside what an accepted call replies.
 #[repr(C)]
 #[derive(Clone, Copy)]
 pub struct Written {

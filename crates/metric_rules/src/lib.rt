@@ -43,7 +43,8 @@ pub const WEIGHT_2: usize = 4;
 
 pub const WEIGHT_3: usize = 5;
 
-// A slot of a table: thirteen words of 32 bits. Every thirteen words are some slot.
+// A slot of a table: thirteen words of 32 bits. Every thirteen words are some slot. It stays an array, with a place for
+// each word, since C lends whole tables as such words.
 pub type Row = [u32; ROW_WIDTH];
 
 // RULES 3.7: what the difference of each measure is multiplied by.
@@ -56,7 +57,8 @@ pub struct Weights {
 // Weights with which every measure counts as it is.
 pub const WEIGHTS_ONE: Weights = Weights { each: [1, 1, 1, 1] };
 
-// What a distance depends on, in one value: a table's metric and its weights.
+// What a distance depends on, in one value: a table's metric and its weights. The metric stays a number, since a header
+// row that is lent may have any: `distance` reads one that is no metric as 2.
 #[derive(Clone, Copy)]
 pub struct Space {
     pub metric: u32,

@@ -2,7 +2,7 @@
 
 // Named states: a snapshot of a table under each of eight names, all in one area of bytes. No function.
 
-// RULES 14.1: the numbers of their own refusals.
+// RULES 14.1: the numbers of their own refusals, as C's replies have them (`Refusal` of the crate refusals).
 pub const BAD_NAME: u32 = 34;
 
 pub const NOT_SAVED: u32 = 35;

@@ -3,7 +3,8 @@
 
 use metric_rules::Profile;
 
-// RULES 14.1: the numbers of the refusals; 0 is an accepted call.
+// RULES 14.1: the numbers of the refusals, as the replies that C reads have them; 0 is an accepted call. The code names
+// them by the enum `Refusal` of the crate refusals.
 pub const BAD_TAG: u32 = 1;
 
 pub const BAD_MEASURE: u32 = 2;
@@ -34,6 +35,7 @@ pub const BAD_WEIGHT: u32 = 32;
 
 pub const BAD_DAY: u32 = 33;
 
+// The replies are C's: a refusal's number stands beside what an accepted call replies.
 #[repr(C)]
 #[derive(Clone, Copy)]
 pub struct Added {

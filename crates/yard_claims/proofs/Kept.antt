@@ -1,6 +1,7 @@
 -- The adds and removals of some lines as a list of calls, each lent the table that the line before it left. No call
 -- makes a table shorter, so what it leaves is all that the list keeps: after every line list and conversation have the
 -- same table, and the same model.
+use Rattle.std.proofs.Common.{Option, Some, None}
 use Prim.Native.Nat.{ℕ, suc, ◌^◌, ◌≤◌, ◌<◌}
 use native.Mathlib.Omega.{arith}
 use mathlib.Core.Path.{◌≡◌, refl, sym, ◌∙◌, ap, subst}
@@ -34,7 +35,6 @@ use Rattle.history.specs.History.{IsBegin, IsCall, before, blank_model, opening,
 use Rattle.history.proofs.LongAreas.{begun_alike}
 use Rattle.history.proofs.Theorems.{any_area}
 use Rattle.yard_rules.specs.declared.Header.{Header}
-use Rattle.yard_rules.specs.declared.Header.TheVariants as header
 use Rattle.yard_rules.specs.declared.Command.{Command}
 use Rattle.yard_rules.specs.declared.Command.TheVariants as command
 use Rattle.yard_rules.specs.Line.{only_byte, field, has_profile, letter_a, letter_n, letter_r, letter_w, is_number, opens, day_or, header_in, command_in, profile_in}
@@ -63,17 +63,17 @@ left_whole change longer t =
     ∙ append-nil (change t)
 
 -- the line's own add or removal: the table after it, and the model's answer to it
-change_table : (state : State) (a : Areas) → state.table ≡ a.table → (c : Command) (p : Profile) → (state_after_all state (change_at a c p)).table ≡ (areas_after a c p).table
+change_table : (state : State) (a : Areas) → state.table ≡ a.table → (c : Option Command) (p : Profile) → (state_after_all state (change_at a c p)).table ≡ (areas_after a c p).table
 unfolding state_after_all state_after change_at areas_after
-change_table state a e (command.Add tag day) p =
+change_table state a e (Some (command.Add tag day)) p =
     ap (λ (t : Table). left_by t (table_after_add (overlaid t a.table) a.work tag p day)) e
     ∙ left_whole (λ t. table_after_add t a.work tag p day) (add_longer a.work tag p day) a.table
-change_table state a e (command.Remove tag) p =
+change_table state a e (Some (command.Remove tag)) p =
     ap (λ (t : Table). left_by t (table_after_remove (overlaid t a.table) a.work tag)) e
     ∙ left_whole (λ t. table_after_remove t a.work tag) (remove_longer a.work tag) a.table
-change_table state a e (command.Within radius firstDay) p = e
-change_table state a e (command.Nearest k firstDay) p = e
-change_table state a e command.Other p = e
+change_table state a e (Some (command.Within radius firstDay)) p = e
+change_table state a e (Some (command.Nearest k firstDay)) p = e
+change_table state a e None p = e
 
 module _ {a : Areas} {m : Model} (s : ServedBy a m) where
   long_enough : can_change m (length a.table) (length a.work) ≡ true
@@ -83,22 +83,22 @@ module _ {a : Areas} {m : Model} (s : ServedBy a m) where
       (le-leb (table_rows m.order) (length a.table) (omega (arith, ap table_rows s.matches.order, s.matches.invariant.long)))
       (le-leb (work_rows m.order) (length a.work) s.work_long)
 
-  change_model : (c : Command) (p : Profile) → model_after_all m (change_at a c p) ≡ model_after m c p
+  change_model : (c : Option Command) (p : Profile) → model_after_all m (change_at a c p) ≡ model_after m c p
   unfolding model_after_all answer_at answer change_answer add_refusal_of remove_refusal_of change_at model_after line_refusal
-  change_model (command.Add tag day) p =
+  change_model (Some (command.Add tag day)) p =
       ap (λ (b : Bool). after_unless (unless b short_area (item_refusal m tag p day)) m (with (record { tag = tag; profile = p; day = day }) m)) long_enough
-  change_model (command.Remove tag) p = ap (λ (b : Bool). after_unless (unless b short_area (tag_refusal m tag)) m (without tag m)) long_enough
-  change_model (command.Within radius firstDay) p = refl
-  change_model (command.Nearest k firstDay) p = refl
-  change_model command.Other p = refl
+  change_model (Some (command.Remove tag)) p = ap (λ (b : Bool). after_unless (unless b short_area (tag_refusal m tag)) m (without tag m)) long_enough
+  change_model (Some (command.Within radius firstDay)) p = refl
+  change_model (Some (command.Nearest k firstDay)) p = refl
+  change_model None p = refl
 
 -- its arguments are values of their machine types
-abbrev RemovalFits : Command → Type 0
-RemovalFits (command.Add tag day) = Unit {0}
-RemovalFits (command.Remove tag) = tag < 2 ^ 64
-RemovalFits (command.Within radius firstDay) = Unit {0}
-RemovalFits (command.Nearest k firstDay) = Unit {0}
-RemovalFits command.Other = Unit {0}
+abbrev RemovalFits : Option Command → Type 0
+RemovalFits (Some (command.Add tag day)) = Unit {0}
+RemovalFits (Some (command.Remove tag)) = tag < 2 ^ 64
+RemovalFits (Some (command.Within radius firstDay)) = Unit {0}
+RemovalFits (Some (command.Nearest k firstDay)) = Unit {0}
+RemovalFits None = Unit {0}
 
 removal_fits : (line : List ℕ) → RemovalFits (command_in line)
 unfolding command_in opens
@@ -111,17 +111,17 @@ removal_fits line =
 
     go : (profile a w n r : Bool) → (eqb (parts_in space line) 2 && opens letter_r is_tag line) ≡ r
         → RemovalFits
-        (elim profile as (λ _. Command) [
+        (elim profile as (λ _. Option Command) [
           | true ↦
               elim a [
-                | true ↦ command.Add number (day_or 1 line)
+                | true ↦ Some (command.Add number (day_or 1 line))
                 | false ↦
                     elim w [
-                      | true ↦ command.Within number (day_or 0 line)
-                      | false ↦ elim n [ true ↦ command.Nearest number (day_or 0 line) | false ↦ command.Other ]
+                      | true ↦ Some (command.Within number (day_or 0 line))
+                      | false ↦ elim n [ true ↦ Some (command.Nearest number (day_or 0 line)) | false ↦ None ]
                     ]
               ]
-          | false ↦ elim r [ true ↦ command.Remove number | false ↦ command.Other ]
+          | false ↦ elim r [ true ↦ Some (command.Remove number) | false ↦ None ]
         ])
     go true true w n r e = tt
     go true false true n r e = tt
@@ -133,13 +133,13 @@ removal_fits line =
         omega (arith, numeral_below 15 15 (field line 1) tagged)
     go false a w n false e = tt
 
-change_fits : (a : Areas) (c : Command) (p : Profile) → CommandFits c p → RemovalFits c → All (λ s. IsCall s.call) (change_at a c p)
+change_fits : (a : Areas) (c : Option Command) (p : Profile) → CommandFits c p → RemovalFits c → All (λ s. IsCall s.call) (change_at a c p)
 unfolding change_at
-change_fits a (command.Add tag day) p is fits = (is, tt)
-change_fits a (command.Remove tag) p is fits = (fits, tt)
-change_fits a (command.Within radius firstDay) p is fits = tt
-change_fits a (command.Nearest k firstDay) p is fits = tt
-change_fits a command.Other p is fits = tt
+change_fits a (Some (command.Add tag day)) p is fits = (is, tt)
+change_fits a (Some (command.Remove tag)) p is fits = (fits, tt)
+change_fits a (Some (command.Within radius firstDay)) p is fits = tt
+change_fits a (Some (command.Nearest k firstDay)) p is fits = tt
+change_fits a None p is fits = tt
 
 -- a list behind another goes on from what that left
 state_append : (xs ys : List Step) (state : State) → state_after_all state (xs ++ ys) ≡ state_after_all (state_after_all state xs) ys
@@ -158,7 +158,7 @@ lines_table : (lines : List (List ℕ)) (a : Areas) (n : ℕ) (state : State) �
 unfolding state_after_all changes_of after_lines after line_outcome command_outcome
 lines_table [] a n state e = e
 lines_table (line ∷ lines) a n state e =
-    let c : Command = command_in line in
+    let c : Option Command = command_in line in
     let p : Profile = profile_in line in
     ap (λ (st : State). st.table) (state_append (change_at a c p) (changes_of (serving (areas_after a c p) (suc n)) lines) state)
     ∙ lines_table lines (areas_after a c p) (suc n) (state_after_all state (change_at a c p)) (change_table state a e c p)
@@ -167,7 +167,7 @@ lines_model : (lines : List (List ℕ)) (a : Areas) (n : ℕ) (m : Model) → Se
 unfolding model_after_all changes_of model_after_lines after line_outcome command_outcome
 lines_model [] a n m s = refl
 lines_model (line ∷ lines) a n m s =
-    let c : Command = command_in line in
+    let c : Option Command = command_in line in
     let p : Profile = profile_in line in
     let rest : List Step = changes_of (serving (areas_after a c p) (suc n)) lines in
     model_append (change_at a c p) rest m
@@ -178,13 +178,13 @@ lines_fit : (lines : List (List ℕ)) (y : Yard) → All (λ s. IsCall s.call) (
 unfolding changes_of
 lines_fit [] y = tt
 lines_fit (line ∷ lines) y =
-    let c : Command = command_in line in
+    let c : Option Command = command_in line in
     let p : Profile = profile_in line in
     all_append (λ s. IsCall s.call) (change_at y.areas c p) (changes_of (after y line) lines)
     (change_fits y.areas c p (command_fits line) (removal_fits line)) (lines_fit lines (after y line))
 
 -- an accepted first line and some more
-module _ {a : Areas} (ample : Ample a) (first : List ℕ) (order metric : ℕ) (h : header_in first ≡ header.Of order metric) (e : first_refusal order metric ≡ 0) where
+module _ {a : Areas} (ample : Ample a) (first : List ℕ) (order metric : ℕ) (h : header_in first ≡ Some (record { order = order; metric = metric })) (e : first_refusal order metric ≡ 0) where
   abbrev opened : Step
   opened = opening (fresh order (yard_space metric)) a.table
 
@@ -201,7 +201,7 @@ module _ {a : Areas} (ample : Ample a) (first : List ℕ) (order metric : ℕ) (
   begun_after : after (waiting a) first ≡ serving begun 1
   unfolding after line_outcome header_outcome
   begun_after =
-      ap (λ (k : Header). after_first_lem (header_outcome a 1 k)) h ∙ ap (λ (n : ℕ). after_first_lem (first_outcome a order metric n)) accepted
+      ap (λ (k : Option Header). after_first_lem (header_outcome a 1 k)) h ∙ ap (λ (n : ℕ). after_first_lem (first_outcome a order metric n)) accepted
 
   first_accepted : (shown_at (before a.table) opened).refusal ≡ 0
   unfolding shown_at opening before shown begin_shown

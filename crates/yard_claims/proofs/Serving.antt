@@ -1,6 +1,7 @@
 -- One line of a conversation in areas that are long enough and hold a table that matches the model (`Served`): it
 -- prints what the model prints, with the counts of its own reply, and leaves such areas. A first line in ample areas is
 -- refused by 3 or 4 alone, and an accepted one leaves them so.
+use Rattle.std.proofs.Common.{Option, Some, None}
 use Prim.Native.Nat.{ℕ, zero, suc, ◌-◌, ◌≤◌}
 use native.Mathlib.Omega.{arith}
 use native.Mathlib.Nat.{le_trans}
@@ -55,32 +56,32 @@ search_text_lem letter zero result a =
 search_text_lem letter (suc n) result a = append-nil (reply_line letter (suc n ∷ []))
 
 module _ {a : Areas} {m : Model} (s : ServedBy a m) where
-  pub text_served : (number : ℕ) (c : Command) (p : Profile) → text_after a number c p ≡ model_text m number c p (counts_at a c p)
+  pub text_served : (number : ℕ) (c : Option Command) (p : Profile) → text_after a number c p ≡ model_text m number c p (counts_at a c p)
   unfolding text_after model_text line_refusal counts_at add_text remove_text range_reply result_after_range nearest_reply result_after_nearest
-  text_served number (command.Add tag day) p =
+  text_served number (Some (command.Add tag day)) p =
       let r = add_reply a.table a.work tag p day in
       ap (λ (n : ℕ). reply_line letter_a (reply_numbers n (r.bucket ∷ r.distances ∷ []))) (add_refusal_alike s tag p day)
-  text_served number (command.Remove tag) p =
+  text_served number (Some (command.Remove tag)) p =
       ap (λ (n : ℕ). reply_line letter_r (reply_numbers n ((remove_reply a.table a.work tag).distances ∷ []))) (remove_refusal_alike s tag)
-  text_served number (command.Within radius firstDay) p =
+  text_served number (Some (command.Within radius firstDay)) p =
       let found : Answer = range_answer a.table p radius firstDay in
       search_text_lem letter_w (range_refusal a.table a.result p radius firstDay) a.result found
       ∙ ap₂ (λ (n : ℕ) (es : List Entry). search_lines letter_w n es (range_reply a.table a.result p radius firstDay).distances)
       (range_refused s p radius firstDay) (range_alike s.matches p radius firstDay)
-  text_served number (command.Nearest k firstDay) p =
+  text_served number (Some (command.Nearest k firstDay)) p =
       let found : Answer = nearest_answer a.table p k firstDay in
       search_text_lem letter_n (nearest_refusal a.table a.result p k firstDay) a.result found
       ∙ ap₂ (λ (n : ℕ) (es : List Entry). search_lines letter_n n es (nearest_reply a.table a.result p k firstDay).distances)
       (nearest_refused s p k firstDay) (nearest_alike s.matches p k firstDay)
-  text_served number command.Other p = refl
+  text_served number None p = refl
 
-  pub stays_served : (c : Command) (p : Profile) → CommandFits c p → ServedBy (areas_after a c p) (model_after m c p)
+  pub stays_served : (c : Option Command) (p : Profile) → CommandFits c p → ServedBy (areas_after a c p) (model_after m c p)
   unfolding areas_after model_after line_refusal result_after_range result_after_nearest
-  stays_served (command.Add tag day) p is = add_served s tag p day is.0 is.1 is.2
-  stays_served (command.Remove tag) p is = remove_served s tag
-  stays_served (command.Within radius firstDay) p is = search_served s (range_refusal a.table a.result p radius firstDay) (range_answer a.table p radius firstDay)
-  stays_served (command.Nearest k firstDay) p is = search_served s (nearest_refusal a.table a.result p k firstDay) (nearest_answer a.table p k firstDay)
-  stays_served command.Other p is = s
+  stays_served (Some (command.Add tag day)) p is = add_served s tag p day is.0 is.1 is.2
+  stays_served (Some (command.Remove tag)) p is = remove_served s tag
+  stays_served (Some (command.Within radius firstDay)) p is = search_served s (range_refusal a.table a.result p radius firstDay) (range_answer a.table p radius firstDay)
+  stays_served (Some (command.Nearest k firstDay)) p is = search_served s (nearest_refusal a.table a.result p k firstDay) (nearest_answer a.table p k firstDay)
+  stays_served None p is = s
 
 -- rows grow with the order, so what is enough for order 8 is enough below it
 rows_grow : {j k : ℕ} → j ≤ k → table_rows j ≤ table_rows k

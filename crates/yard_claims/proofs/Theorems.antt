@@ -1,5 +1,6 @@
 -- The claims of `specs/Claims`, by the lines: the first one begins the model or ends all, and each later one prints as
 -- the model does and leaves areas for the next.
+use Rattle.std.proofs.Common.{Option, Some, None}
 use Prim.Native.Nat.{ℕ, zero, suc, ◌^◌, ◌<◌}
 use native.Mathlib.Omega.{arith}
 use mathlib.Core.Path.{◌≡◌, refl, ◌∙◌, ap, ap₂}
@@ -14,7 +15,6 @@ use Rattle.table_rules.specs.Refusals.{bad_day}
 use Rattle.call_rules.specs.Calls.Begin.{fresh}
 use Rattle.history.specs.Model.{Model, is_in, tag_refusal, item_refusal, model_begun}
 use Rattle.yard_rules.specs.declared.Header.{Header}
-use Rattle.yard_rules.specs.declared.Header.TheVariants as header
 use Rattle.yard_rules.specs.declared.Command.{Command}
 use Rattle.yard_rules.specs.declared.Command.TheVariants as command
 use Rattle.yard_rules.specs.declared.Stage.TheVariants as stage
@@ -34,7 +34,7 @@ lines_served : (lines : List (List ℕ)) (a : Areas) (m : Model) (n : ℕ) → S
 unfolding printed after line_outcome command_outcome model_printed counts_of after_lines
 lines_served [] a m n s = refl
 lines_served (line ∷ lines) a m n s =
-    let c : Command = command_in line in
+    let c : Option Command = command_in line in
     let p : Profile = profile_in line in
     let here : text_after a (suc n) c p ≡ model_text m (suc n) c p (counts_of (serving a n) (line ∷ lines) 0) = text_served s (suc n) c p in
     ap₂ ◌++◌ here (lines_served lines (areas_after a c p) (model_after m c p) (suc n) (stays_served s c p (command_fits line)))
@@ -47,18 +47,18 @@ module _ {a : Areas} (ample : Ample a) (lines : List (List ℕ)) where
   ended_as_model : (text : List ℕ) → followed (record { areas = a; stage = stage.Ended; text = text }) ≡ text
   ended_as_model text = ap (λ (t : List ℕ). text ++ t) (ended_prints a 1 lines) ∙ append-nil text
 
-  opened_as_model : (h : Header) → followed (header_outcome a 1 h) ≡ model_opened h lines (counts_of (after_first_lem (header_outcome a 1 h)) lines)
+  opened_as_model : (h : Option Header) → followed (header_outcome a 1 h) ≡ model_opened h lines (counts_of (after_first_lem (header_outcome a 1 h)) lines)
   unfolding header_outcome model_opened
-  opened_as_model header.Other = ended_as_model (other_text 1)
-  opened_as_model (header.Of order metric) =
-      let n = header_refusal a.table order metric in
-      go n refl ∙ ap (λ (i : ℕ). opened i (counts_of (after_first_lem (first_outcome a order metric n)) lines)) (first_refused_lem ample order metric)
+  opened_as_model None = ended_as_model (other_text 1)
+  opened_as_model (Some header) =
+      let n = header_refusal a.table header.order header.metric in
+      go n refl ∙ ap (λ (i : ℕ). opened i (counts_of (after_first_lem (first_outcome a header.order header.metric n)) lines)) (first_refused_lem ample header.order header.metric)
     where
       opened : ℕ → (ℕ → Counts) → List ℕ
-      opened n counts = elim n [ zero ↦ model_printed (model_begun (fresh order (yard_space metric))) 2 lines counts | suc i ↦ reply_line letter_f (suc i ∷ []) ]
+      opened n counts = elim n [ zero ↦ model_printed (model_begun (fresh header.order (yard_space header.metric))) 2 lines counts | suc i ↦ reply_line letter_f (suc i ∷ []) ]
 
-      go : (n : ℕ) → header_refusal a.table order metric ≡ n → followed (first_outcome a order metric n) ≡ opened n (counts_of (after_first_lem (first_outcome a order metric n)) lines)
-      go zero e = lines_served lines _ _ 1 (first_served ample order metric e)
+      go : (n : ℕ) → header_refusal a.table header.order header.metric ≡ n → followed (first_outcome a header.order header.metric n) ≡ opened n (counts_of (after_first_lem (first_outcome a header.order header.metric n)) lines)
+      go zero e = lines_served lines _ _ 1 (first_served ample header.order header.metric e)
       go (suc n) e = ended_as_model (reply_line letter_f (suc n ∷ []))
 
 all_as_model : (a : Areas) → Ample a → (lines : List (List ℕ))
@@ -79,9 +79,9 @@ either : (test : Bool) {x y : ℕ} → Number x → Number y → Number (elim te
 either true h k = h
 either false h k = k
 
-line_number : (m : Model) (c : Command) (p : Profile) → Number (line_refusal m c p)
+line_number : (m : Model) (c : Option Command) (p : Profile) → Number (line_refusal m c p)
 unfolding line_refusal item_refusal tag_refusal
-line_number m (command.Add tag day) p =
+line_number m (Some (command.Add tag day)) p =
     either (tag_sound tag)
     (either (measures_within p)
     (either (eqb day 0) (inr (inr refl))
@@ -89,10 +89,10 @@ line_number m (command.Add tag day) p =
     (either (leb (2 ^ m.order) (length m.items)) (inr (inl (omega arith, omega arith))) (inl (omega arith)))))
     (inl (omega arith)))
     (inl (omega arith))
-line_number m (command.Remove tag) p = either (tag_sound tag) (either (is_in m tag) (inl (omega arith)) (inr (inl (omega arith, omega arith)))) (inl (omega arith))
-line_number m (command.Within radius firstDay) p = either (measures_within p) (inl (omega arith)) (inl (omega arith))
-line_number m (command.Nearest k firstDay) p = either (measures_within p) (either (eqb k 0) (inl (omega arith)) (inl (omega arith))) (inl (omega arith))
-line_number m command.Other p = inl (omega arith)
+line_number m (Some (command.Remove tag)) p = either (tag_sound tag) (either (is_in m tag) (inl (omega arith)) (inr (inl (omega arith, omega arith)))) (inl (omega arith))
+line_number m (Some (command.Within radius firstDay)) p = either (measures_within p) (inl (omega arith)) (inl (omega arith))
+line_number m (Some (command.Nearest k firstDay)) p = either (measures_within p) (either (eqb k 0) (inl (omega arith)) (inl (omega arith))) (inl (omega arith))
+line_number m None p = inl (omega arith)
 
 pub no_area_refused : NoAreaRefused
 no_area_refused m c p = apart (line_refusal m c p) (line_number m c p)

@@ -1,5 +1,6 @@
 -- What a typed add says are values of its machine types, whatever the bytes: a tag of 15 digits is below 10^15, a measure's hundredths are below 10^7, 16 hex
 -- digits are a number of 64 bits, and a day has 16.
+use Rattle.std.proofs.Common.{Option, Some, None}
 use Prim.Native.Nat.{ℕ, ◌^◌, ◌<◌}
 use mathlib.Core.Path.{◌≡◌, refl, subst}
 use mathlib.Core.Bool.{Bool, true, false, ◌&&◌, ◌||◌}
@@ -73,12 +74,12 @@ profile_fits line e =
     }
 
 -- a command as the call may be asked it
-abbrev pub CommandFits : Command → Profile → Type 0
-CommandFits (command.Add tag day) p = (tag < 2 ^ 64) × IsProfile p × (day < 2 ^ 16)
-CommandFits (command.Remove tag) p = Unit {0}
-CommandFits (command.Within radius firstDay) p = Unit {0}
-CommandFits (command.Nearest k firstDay) p = Unit {0}
-CommandFits command.Other p = Unit {0}
+abbrev pub CommandFits : Option Command → Profile → Type 0
+CommandFits (Some (command.Add tag day)) p = (tag < 2 ^ 64) × IsProfile p × (day < 2 ^ 16)
+CommandFits (Some (command.Remove tag)) p = Unit {0}
+CommandFits (Some (command.Within radius firstDay)) p = Unit {0}
+CommandFits (Some (command.Nearest k firstDay)) p = Unit {0}
+CommandFits None p = Unit {0}
 
 tag_fits : (line : List ℕ) → opens letter_a is_tag line ≡ true → numeral 10 (field line 1) < 2 ^ 64
 unfolding opens
@@ -109,17 +110,17 @@ command_fits line =
 
     go : (profile : Bool) → has_profile line ≡ profile → (a : Bool) → opens letter_a is_tag line ≡ a → (w n r : Bool)
         → CommandFits
-        (elim profile as (λ _. Command) [
+        (elim profile as (λ _. Option Command) [
           | true ↦
               elim a [
-                | true ↦ command.Add number (day_or 1 line)
+                | true ↦ Some (command.Add number (day_or 1 line))
                 | false ↦
                     elim w [
-                      | true ↦ command.Within number (day_or 0 line)
-                      | false ↦ elim n [ true ↦ command.Nearest number (day_or 0 line) | false ↦ command.Other ]
+                      | true ↦ Some (command.Within number (day_or 0 line))
+                      | false ↦ elim n [ true ↦ Some (command.Nearest number (day_or 0 line)) | false ↦ None ]
                     ]
               ]
-          | false ↦ elim r [ true ↦ command.Remove number | false ↦ command.Other ]
+          | false ↦ elim r [ true ↦ Some (command.Remove number) | false ↦ None ]
         ])
         (profile_in line)
     go true e true f w n r = (tag_fits line f, profile_fits line e, day_fits 1 line (omega arith))

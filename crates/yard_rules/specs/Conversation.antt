@@ -1,6 +1,6 @@
 -- RULES 18: the whole conversation. A line and what stands before it give what stands after it and the bytes to print,
 -- by the calls' own definitions.
-use Rattle.std.specs.Prelude.{ℕ, zero, suc, ◌≤◌, List, [], ◌∷◌, ◌++◌, length, leb}
+use Rattle.std.specs.Prelude.{ℕ, zero, suc, ◌≤◌, List, [], ◌∷◌, ◌++◌, length, leb, Option, Some, None}
 use Rattle.metric_rules.specs.declared.Profile.{Profile}
 use Rattle.metric_rules.specs.declared.Space.{Space}
 use Rattle.metric_rules.specs.Distance.{weights_one}
@@ -14,7 +14,6 @@ use Rattle.table_rules.specs.Add.{add_reply, table_after_add, work_after_add}
 use Rattle.table_rules.specs.Remove.{remove_reply, table_after_remove, work_after_remove}
 use Rattle.table_rules.specs.Search.{range_reply, result_after_range, nearest_reply, result_after_nearest}
 use Rattle.yard_rules.specs.declared.Header.{Header}
-use Rattle.yard_rules.specs.declared.Header.TheVariants as header
 use Rattle.yard_rules.specs.declared.Command.{Command}
 use Rattle.yard_rules.specs.declared.Command.TheVariants as command
 use Rattle.yard_rules.specs.declared.Stage.{Stage}
@@ -66,49 +65,49 @@ header_refusal t order metric =
     (fresh_refusal (length t) order (yard_space metric))
 
 -- RULES 18.1, 18.2: an accepted header prints nothing; `F 3`, `F 4` and `? 1` end the program
-unfoldable pub header_outcome : Areas → ℕ → Header → LineOutcome
-header_outcome a number (header.Of order metric) =
-    elim (header_refusal a.table order metric) [
+unfoldable pub header_outcome : Areas → ℕ → Option Header → LineOutcome
+header_outcome a number (Some header) =
+    elim (header_refusal a.table header.order header.metric) [
       | zero ↦
           record {
-            areas = record { table = table_after_fresh order (yard_space metric) a.table; work = a.work; result = a.result };
+            areas = record { table = table_after_fresh header.order (yard_space header.metric) a.table; work = a.work; result = a.result };
             stage = stage.Serving;
             text = [];
           }
       | suc n ↦ record { areas = a; stage = stage.Ended; text = reply_line letter_f (suc n ∷ []) }
     ]
-header_outcome a number header.Other = record { areas = a; stage = stage.Ended; text = other_text number }
+header_outcome a number None = record { areas = a; stage = stage.Ended; text = other_text number }
 
 -- RULES 18.3: what the calls leave of the areas
-unfoldable pub areas_after : Areas → Command → Profile → Areas
-areas_after a (command.Add tag day) p =
+unfoldable pub areas_after : Areas → Option Command → Profile → Areas
+areas_after a (Some (command.Add tag day)) p =
     record {
       table = table_after_add a.table a.work tag p day;
       work = work_after_add a.table a.work tag p day;
       result = a.result;
     }
-areas_after a (command.Remove tag) p =
+areas_after a (Some (command.Remove tag)) p =
     record {
       table = table_after_remove a.table a.work tag;
       work = work_after_remove a.table a.work tag;
       result = a.result;
     }
-areas_after a (command.Within radius firstDay) p =
+areas_after a (Some (command.Within radius firstDay)) p =
     record { table = a.table; work = a.work; result = result_after_range a.table a.result p radius firstDay }
-areas_after a (command.Nearest k firstDay) p = record { table = a.table; work = a.work; result = result_after_nearest a.table a.result p k firstDay }
-areas_after a command.Other p = a
+areas_after a (Some (command.Nearest k firstDay)) p = record { table = a.table; work = a.work; result = result_after_nearest a.table a.result p k firstDay }
+areas_after a None p = a
 
 -- RULES 18.3, and what is printed: a search's entries are those of the result area after it
-unfoldable pub text_after : Areas → ℕ → Command → Profile → List ℕ
-text_after a number (command.Add tag day) p = add_text (add_reply a.table a.work tag p day)
-text_after a number (command.Remove tag) p = remove_text (remove_reply a.table a.work tag)
-text_after a number (command.Within radius firstDay) p =
+unfoldable pub text_after : Areas → ℕ → Option Command → Profile → List ℕ
+text_after a number (Some (command.Add tag day)) p = add_text (add_reply a.table a.work tag p day)
+text_after a number (Some (command.Remove tag)) p = remove_text (remove_reply a.table a.work tag)
+text_after a number (Some (command.Within radius firstDay)) p =
     search_text letter_w (range_reply a.table a.result p radius firstDay) (result_after_range a.table a.result p radius firstDay)
-text_after a number (command.Nearest k firstDay) p =
+text_after a number (Some (command.Nearest k firstDay)) p =
     search_text letter_n (nearest_reply a.table a.result p k firstDay) (result_after_nearest a.table a.result p k firstDay)
-text_after a number command.Other p = other_text number
+text_after a number None p = other_text number
 
-unfoldable pub command_outcome : Areas → ℕ → Command → Profile → LineOutcome
+unfoldable pub command_outcome : Areas → ℕ → Option Command → Profile → LineOutcome
 command_outcome a number c p = record { areas = areas_after a c p; stage = stage.Serving; text = text_after a number c p }
 
 -- RULES 18.7, a line by its number: one that is `?` counts, and the header is line 1

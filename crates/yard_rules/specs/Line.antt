@@ -1,9 +1,8 @@
 -- RULES 18: the form of a line, and what a line of that form says. Every line of bytes is a header or not, and a
 -- command or not.
-use Rattle.std.specs.Prelude.{ℕ, ◌^◌, Bool, true, false, ◌&&◌, ◌||◌, List, [], ◌∷◌, length, get_or, take, drop, ltb, eqb}
+use Rattle.std.specs.Prelude.{ℕ, ◌^◌, Bool, true, false, ◌&&◌, ◌||◌, List, [], ◌∷◌, length, get_or, take, drop, ltb, eqb, Option, Some, None}
 use Rattle.metric_rules.specs.declared.Profile.{Profile}
 use Rattle.yard_rules.specs.declared.Header.{Header}
-use Rattle.yard_rules.specs.declared.Header.TheVariants as header
 use Rattle.yard_rules.specs.declared.Command.{Command}
 use Rattle.yard_rules.specs.declared.Command.TheVariants as command
 use Rattle.text_rules.specs.Text.{space, minus, point, part_at, parts_in, is_numeral, numeral}
@@ -63,11 +62,11 @@ profile_in line =
     }
 
 -- RULES 18.1: the first line is `T metric`
-unfoldable pub header_in : List ℕ → Header
+unfoldable pub header_in : List ℕ → Option Header
 header_in line =
     elim (eqb (parts_in space line) 2 && is_number (field line 0) && is_number (field line 1)) [
-      | true ↦ header.Of (numeral 10 (field line 0)) (numeral 10 (field line 1))
-      | false ↦ header.Other
+      | true ↦ Some (record { order = numeral 10 (field line 0); metric = numeral 10 (field line 1) })
+      | false ↦ None
     ]
 
 -- RULES 18.3: the letters of the commands and of the replies
@@ -99,19 +98,19 @@ day_or n line = elim (has_day line) [ true ↦ numeral 10 (field line 7) | false
 
 -- RULES 18.3: `A tag profile`, `R tag`, `W radius profile`, `N k profile`. Behind each profile there may be a day;
 -- without it an item's is 1, and a search's first day 0
-unfoldable pub command_in : List ℕ → Command
+unfoldable pub command_in : List ℕ → Option Command
 command_in line =
     let number = numeral 10 (field line 1) in
     elim (has_profile line) [
       | true ↦
           elim (opens letter_a is_tag line) [
-            | true ↦ command.Add number (day_or 1 line)
+            | true ↦ Some (command.Add number (day_or 1 line))
             | false ↦
                 elim (opens letter_w is_number line) [
-                  | true ↦ command.Within number (day_or 0 line)
-                  | false ↦ elim (opens letter_n is_number line) [ true ↦ command.Nearest number (day_or 0 line) | false ↦ command.Other ]
+                  | true ↦ Some (command.Within number (day_or 0 line))
+                  | false ↦ elim (opens letter_n is_number line) [ true ↦ Some (command.Nearest number (day_or 0 line)) | false ↦ None ]
                 ]
           ]
       | false ↦
-          elim (eqb (parts_in space line) 2 && opens letter_r is_tag line) [ true ↦ command.Remove number | false ↦ command.Other ]
+          elim (eqb (parts_in space line) 2 && opens letter_r is_tag line) [ true ↦ Some (command.Remove number) | false ↦ None ]
     ]
