@@ -1,4 +1,4 @@
 -- Laws of the tests of a lent table, for the code.
 pub mod Sizing
-pub mod Told
+pub mod Inside
 pub mod Framing

@@ -97,12 +97,9 @@ pub fn live_total(table: &[Row], order: Order) -> u64
     requires { (order.t < 31) × (sizes_row order.t < length table.now) }
     ensures { result ≡ total (map (live_of table.now) (buckets_of order.t)) }
 {
-    let t = order.t;
     let mut sum: u64 = 0;
-    let mut k = 0;
-    while k <= t {
+    for k in 0..order.buckets() {
         sum += live_of(table, k) as u64;
-        k += 1;
     }
     sum
 }

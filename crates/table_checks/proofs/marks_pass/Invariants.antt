@@ -1,4 +1,4 @@
-use Prim.Native.Nat.{ℕ, ◌+◌, ◌-◌, ◌≤◌}
+use Prim.Native.Nat.{ℕ}
 use mathlib.Core.Path.{◌≡◌}
 use mathlib.Core.Bool.{Bool}
 use Rattle.lists.specs.Lists.{every}
@@ -12,7 +12,6 @@ abbrev pub marked : Table → ℕ → Bool
 marked t k = slots_marked (slots_of t k) (live_of t k)
 
 abbrev pub invariant-loop-k : goal.invariant-loop-k
-invariant-loop-k l = (l.k ≤ l.last + 1) × (every (marked l.table) (buckets_from l.last l.k) ≡ every (marked l.table) (buckets_of l.last))
-
-abbrev pub decreases-loop-k : goal.decreases-loop-k
-decreases-loop-k l = l.last + 1 - l.k
+invariant-loop-k l =
+    let t = l.fn.table in
+    every (marked t.rows.now) (buckets_from t.order.t l.k) ≡ every (marked t.rows.now) (buckets_of t.order.t)

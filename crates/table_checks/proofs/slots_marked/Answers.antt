@@ -43,48 +43,36 @@ module _ (slots : List Row) (i : ℕ) where
   unfolding select
   none_left h = ap (λ (xs : List Row). length (select is_live xs)) (drop_of_length-le slots h)
 
-pub loop-i-init : goal.loop-i-init
-loop-i-init c = (omega arith, omega arith, refl, omega arith)
-
-pub offset_bounds-slots-i : goal.offset_bounds-slots-i
-offset_bounds-slots-i c = omega arith
-
-pub bounds-slots-i : goal.bounds-slots-i
-bounds-slots-i c = omega arith
+pub loop-slot-init : goal.loop-slot-init
+loop-slot-init c = (omega arith, omega arith, refl, omega arith)
 
 pub returns-then-mark-gt1 : goal.returns-then-mark-gt1
 returns-then-mark-gt1 c =
     let a = c.args in
-    let l = c.loop-i in
+    let l = c.loop-slot in
     ap (λ (b : Bool). b && eqb (length (select is_live a.slots.now)) a.live)
-    (scan_fails valid_mark [] a.slots.now l.i (omega arith) l.invariant.2
-    (lt-leb (mark_of (get_or a.slots.now l.i [])) 1 (omega (arith, c.mark_of-mark.ensures))))
+    (scan_fails valid_mark [] a.slots.now l.slot-index (omega arith) l.invariant.2
+    (lt-leb (mark_of (get_or a.slots.now l.slot-index [])) 1 (omega (arith, c.mark_of-mark.ensures))))
 
 pub overflow_add-found : goal.overflow_add-found
 overflow_add-found c = omega arith
 
-pub overflow_add-i : goal.overflow_add-i
-overflow_add-i c = omega arith
-
-pub loop-i-smaller : goal.loop-i-smaller
-loop-i-smaller c = omega arith
-
-pub loop-i-preserved : goal.loop-i-preserved
-loop-i-preserved c =
+pub loop-slot-preserved : goal.loop-slot-preserved
+loop-slot-preserved c =
     let a = c.args in
-    let l = c.loop-i in
-    let m : mark_of (get_or a.slots.now l.i []) ≤ 1 = omega (arith, c.mark_of-mark.ensures) in (
+    let l = c.loop-slot in
+    let m : mark_of (get_or a.slots.now l.slot-index []) ≤ 1 = omega (arith, c.mark_of-mark.ensures) in (
       omega arith,
       omega arith,
-      scan_passes valid_mark [] a.slots.now l.i (omega arith) l.invariant.2 (le-leb (mark_of (get_or a.slots.now l.i [])) 1 m),
-      omega (arith, live_next a.slots.now l.i (omega arith) m, c.mark_of-mark.ensures, l.invariant.3),
+      scan_passes valid_mark [] a.slots.now l.slot-index (omega arith) l.invariant.2 (le-leb (mark_of (get_or a.slots.now l.slot-index [])) 1 m),
+      omega (arith, live_next a.slots.now l.slot-index (omega arith) m, c.mark_of-mark.ensures, l.invariant.3),
     )
 
 pub returns : goal.returns
 returns c =
     let a = c.args in
-    let l = c.loop-i in
-    let none : length (select is_live (drop l.i a.slots.now)) ≡ 0 = none_left a.slots.now l.i (omega arith) in
+    let l = c.loop-slot in
+    let none : length (select is_live (drop l.slot-index a.slots.now)) ≡ 0 = none_left a.slots.now l.slot-index (omega arith) in
     let all : l.found ≡ length (select is_live a.slots.now) = omega (arith, l.invariant.3) in
     ap (λ (n : ℕ). eqb n a.live) all
-    ∙ ap (λ (b : Bool). b && eqb (length (select is_live a.slots.now)) a.live) (scan_ends valid_mark a.slots.now l.i (omega arith) l.invariant.2)
+    ∙ ap (λ (b : Bool). b && eqb (length (select is_live a.slots.now)) a.live) (scan_ends valid_mark a.slots.now l.slot-index (omega arith) l.invariant.2)

@@ -30,7 +30,7 @@ loop-k-init c =
     let live = live_of c.args.table.now in
     let all : total (map live (buckets_from c.args.order.t 0)) ≡ total (map live (buckets_of c.args.order.t)) =
     ap (λ (ks : List ℕ). total (map live ks)) (buckets_all c.args.order.t) in
-    (omega arith, omega arith, omega arith)
+    (omega arith, omega arith)
 
 pub live_of-requires : goal.live_of-requires
 unfolding sizes_row
@@ -39,23 +39,16 @@ live_of-requires c = omega arith
 pub overflow_add-sum : goal.overflow_add-sum
 overflow_add-sum c = omega (arith, c.live_of.type_inv)
 
-pub overflow_add-k : goal.overflow_add-k
-overflow_add-k c = omega arith
-
-pub loop-k-smaller : goal.loop-k-smaller
-loop-k-smaller c = omega arith
-
 pub loop-k-preserved : goal.loop-k-preserved
 loop-k-preserved c =
     let a = c.args in
     let l = c.loop-k in (
-      omega arith,
       omega (arith, c.live_of.type_inv),
-      more_live a.table.now a.order.t l.k l.sum (omega arith) c.live_of.result c.live_of.ensures l.invariant.2,
+      more_live a.table.now a.order.t l.k l.sum (omega arith) c.live_of.result c.live_of.ensures l.invariant.1,
     )
 
 pub returns : goal.returns
 returns c =
     let a = c.args in
     let l = c.loop-k in
-    all_live a.table.now a.order.t l.k l.sum (omega arith) l.invariant.2
+    all_live a.table.now a.order.t l.k l.sum (omega arith) l.invariant.1

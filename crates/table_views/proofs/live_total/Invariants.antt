@@ -1,4 +1,4 @@
-use Prim.Native.Nat.{◌+◌, ◌-◌, ◌*◌, ◌^◌, ◌≤◌}
+use Prim.Native.Nat.{◌+◌, ◌*◌, ◌^◌, ◌≤◌}
 use mathlib.Core.Path.{◌≡◌}
 use mathlib.Core.List.{map}
 use Rattle.lists.specs.Lists.{total}
@@ -9,7 +9,4 @@ use Rattle.table_views.proofs.live_total.Given as goal
 
 abbrev pub invariant-loop-k : goal.invariant-loop-k
 invariant-loop-k l =
-    (l.k ≤ l.t + 1) × (l.sum ≤ l.k * 2 ^ 32) × (l.sum + total (map (live_of l.table) (buckets_from l.t l.k)) ≡ total (map (live_of l.table) (buckets_of l.t)))
-
-abbrev pub decreases-loop-k : goal.decreases-loop-k
-decreases-loop-k l = l.t + 1 - l.k
+    (l.sum ≤ l.k * 2 ^ 32) × (l.sum + total (map (live_of l.table) (buckets_from l.fn.order.t l.k)) ≡ total (map (live_of l.table) (buckets_of l.fn.order.t)))

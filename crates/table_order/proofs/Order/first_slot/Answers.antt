@@ -1,18 +1,8 @@
 -- `table_order::Order::first_slot` meets its contract; the sum fits, with each part below 2^32.
-use borrow.Author.Rules.{rules}
 use native.Mathlib.Omega.{arith}
 use Rattle.table_rules.specs.Geometry.{first_slot}
 use Rattle.table_order.proofs.Orders.{room_fits}
 use Rattle.table_order.proofs.Order.first_slot.Goals as goal
-
-pub overflow_cast-result : goal.overflow_cast-result
-overflow_cast-result c = search rules
-
-pub overflow_add-result : goal.overflow_add-result
-overflow_add-result c = search rules
-
-pub room-requires : goal.room-requires
-room-requires c = search rules
 
 pub overflow_add-result-2 : goal.overflow_add-result-2
 overflow_add-result-2 c = omega (arith, c.room.ensures, room_fits c.args.k c.requires)

@@ -3,9 +3,6 @@ use borrow.Author.Rules.{rules}
 use Rattle.table_rules.specs.Geometry.{sizes_row}
 use Rattle.table_order.proofs.Order.sizes_row.Goals as goal
 
-pub overflow_add-result : goal.overflow_add-result
-overflow_add-result c = search rules
-
 pub returns : goal.returns
 unfolding sizes_row
 returns c = search rules

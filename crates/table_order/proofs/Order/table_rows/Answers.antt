@@ -1,15 +1,8 @@
 -- `table_order::Order::table_rows` meets its contract: a table ends where the bucket after its last would start.
-use borrow.Author.Rules.{rules}
 use native.Mathlib.Numerals.{add-one}
 use mathlib.Core.Path.{◌∙◌, ap}
 use Rattle.table_rules.specs.Geometry.{first_slot, table_rows}
 use Rattle.table_order.proofs.Order.table_rows.Goals as goal
-
-pub overflow_add-self : goal.overflow_add-self
-overflow_add-self c = search rules
-
-pub first_slot-requires : goal.first_slot-requires
-first_slot-requires c = search rules
 
 pub returns : goal.returns
 unfolding table_rows

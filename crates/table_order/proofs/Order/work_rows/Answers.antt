@@ -3,9 +3,6 @@ use borrow.Author.Rules.{rules}
 use Rattle.table_rules.specs.Geometry.{work_rows}
 use Rattle.table_order.proofs.Order.work_rows.Goals as goal
 
-pub room-requires : goal.room-requires
-room-requires c = search rules
-
 pub returns : goal.returns
 unfolding work_rows
 returns c = search rules
