@@ -13,57 +13,36 @@ use metric_rules::{
 };
 use rows::joined;
 
-// The first number past a distance, and what a larger product or sum is taken as.
-const PAST_DISTANCES: u64 = 0x1_0000_0000;
-
-const MOST_DISTANCE: u32 = 0xffff_ffff;
-
-// Half the range of a word.
-const HALF_RANGE: u32 = 0x8000_0000;
-
-// The absolute difference of the signed numbers that two words hold. Moved up by half the range they are unsigned, in
-// the same order and as far apart. So there is no case for each sign, and every difference fits.
+// The absolute difference of the signed numbers that two words hold. It is worked out unsigned, so that every
+// difference fits.
 fn gap_of(a: u32, b: u32) -> u32
     ensures { result ≡ unsigned_abs (to_z w32 a -ℤ to_z w32 b) }
 {
-    let x = std::num::wrapping_add_u32(a, HALF_RANGE);
-    let y = std::num::wrapping_add_u32(b, HALF_RANGE);
-    if x < y { y - x } else { x - y }
+    a.cast_signed().abs_diff(b.cast_signed())
 }
 
 // The difference of one measure, by its weight: in 64 bits the product of two words fits.
 fn weighted_gap(weight: u32, a: u32, b: u32) -> u64
     ensures { result ≡ weight * unsigned_abs (to_z w32 a -ℤ to_z w32 b) }
 {
-    weight as u64 * gap_of(a, b) as u64
+    u64::from(weight) * u64::from(gap_of(a, b))
 }
 
+// A number past 32 bits is taken as the largest distance.
+#[tactic(auto, unfolding(metric_rules::specs::Distance::saturated))]
 fn saturate(n: u64) -> u32
     ensures { result ≡ saturated n }
 {
-    if n < PAST_DISTANCES {
-        n as u32
-    } else {
-        MOST_DISTANCE
-    }
+    n.min(u64::from(u32::MAX)) as u32
 }
 
-// The sum of four products, saturated once, at the end. One that is past 32 bits decides, so that no sum wraps; the
-// four tests are one for the compiler.
+// The sum of four products, saturated once more, at the end: a sum that stops at the most of 64 bits is past 32 bits,
+// too.
+#[tactic(auto, unfolding(metric_rules::specs::Distance::saturated))]
 fn saturated_sum(a: u64, b: u64, c: u64, d: u64) -> u32
     ensures { result ≡ saturated (a + b + c + d) }
 {
-    if (a < PAST_DISTANCES) & (b < PAST_DISTANCES) & (c < PAST_DISTANCES) & (d < PAST_DISTANCES) {
-        saturate(a + b + c + d)
-    } else {
-        MOST_DISTANCE
-    }
-}
-
-fn larger(a: u64, b: u64) -> u64
-    ensures { result ≡ max a b }
-{
-    if a < b { b } else { a }
+    saturate(a.saturating_add(b).saturating_add(c).saturating_add(d))
 }
 
 // Metrics 0 and 2: the sum and the largest of the four measures' weighted differences. The differences stand here once,
@@ -77,18 +56,18 @@ fn measure_distance(header: &Row, a: Row, b: Row) -> u32
     let third = weighted_gap(header[WEIGHT_2], a[MEASURE_2], b[MEASURE_2]);
     let fourth = weighted_gap(header[WEIGHT_3], a[MEASURE_3], b[MEASURE_3]);
     if header[METRIC_AT] == 0 {
-        return saturated_sum(first, second, third, fourth);
+        saturated_sum(first, second, third, fourth)
+    } else {
+        saturate(first.max(second).max(third.max(fourth)))
     }
-    let front = larger(first, second);
-    let back = larger(third, fourth);
-    saturate(larger(front, back))
 }
 
 // The number of bits in which two words differ.
+#[tactic(auto, using(metric_rules::proofs::Digits::differing_ones))]
 fn differing_bits(a: u64, b: u64) -> u32
     ensures { result ≡ differing 64 a b }
 {
-    u64::count_ones(a ^ b)
+    (a ^ b).count_ones()
 }
 
 // Metric 1, of the code's two numbers of 64 bits.

@@ -2,30 +2,21 @@
 #![tactic(auto)]
 
 ghost use Rattle.std.specs.Prelude.{◌≡◌, ◌/◌, ◌%◌, ◌^◌, length, replicate};
-ghost use Rattle.std.specs.Int.{w32};
-ghost use Rattle.std.proofs.Common.{of_z};
 ghost use Rattle.metric_rules.specs.Row.{row_of, new_row, zero_row};
 
 use metric_rules::{Profile, ROW_WIDTH, Row};
-
-// The word that holds a measure, in two's complement. The sum is not negative, so that its lowest 32 bits are the word.
-fn unsigned(measure: i32) -> u32
-    ensures { result ≡ of_z w32 measure }
-{
-    ((measure as i64 + 0x1_0000_0000) as u64 % 0x1_0000_0000) as u32
-}
 
 // The low and the high word of a number of 64 bits.
 fn low(n: u64) -> u32
     ensures { result ≡ n % 2 ^ 32 }
 {
-    (n % 0x1_0000_0000) as u32
+    (n & 0xffff_ffff) as u32
 }
 
 fn high(n: u64) -> u32
     ensures { result ≡ n / 2 ^ 32 }
 {
-    (n / 0x1_0000_0000) as u32
+    (n >> 32) as u32
 }
 
 // The row of these fields.
@@ -37,10 +28,10 @@ pub fn row_of(tag: u64, profile: Profile, threshold: u32, mark: u32, day: u32) -
     [
         low(tag),
         high(tag),
-        unsigned(m[0]),
-        unsigned(m[1]),
-        unsigned(m[2]),
-        unsigned(m[3]),
+        m[0].cast_unsigned(),
+        m[1].cast_unsigned(),
+        m[2].cast_unsigned(),
+        m[3].cast_unsigned(),
         low(c[0]),
         high(c[0]),
         low(c[1]),
@@ -58,13 +49,13 @@ pub fn new_row(tag: u64, profile: Profile, day: u32) -> Row
     row_of(tag, profile, 0, 0, day)
 }
 
-// Every row becomes zero.
+// Every row becomes zero. Each kind of area has three such lines: a generic function would take the zero, which each
+// contract names for its own type, and `fill` says nothing of arrays.
+#[tactic(auto, unfolding(metric_rules::specs::Row::zero_row, metric_rules::specs::Row::row_width))]
 pub fn zero_rows(rows: &mut [Row])
     ensures { rows.new ≡ replicate (length rows.old) zero_row }
 {
-    let mut i = 0;
-    while i < rows.len() {
-        rows[i] = [0u32; ROW_WIDTH];
-        i += 1;
+    for row in rows.iter_mut() {
+        *row = [0u32; ROW_WIDTH];
     }
 }

@@ -2,7 +2,7 @@
 // Its rows carry their rank in the mark word and, once measured, their distance from the first in the threshold word.
 #![tactic(auto)]
 
-ghost use Rattle.std.specs.Prelude.{◌≡◌, ◌-◌, ◌≤◌, ◌<◌, true, [], map, length, get_or, set};
+ghost use Rattle.std.specs.Prelude.{◌≡◌, ◌-◌, ◌≤◌, ◌<◌, true, [], map, length, get_or};
 ghost use Rattle.lists.specs.Lists.{every};
 ghost use Rattle.metric_rules.specs.Distance.{distance, space_of};
 ghost use Rattle.tree_rules.specs.Sorting.{key_le};
@@ -19,25 +19,12 @@ fn first_at(rows: &[Row]) -> usize
     ensures { (result < length rows.now) × (every (λ x. key_le (first_key (get_or rows.now result [])) (first_key x)) rows.now ≡ true) }
 {
     let mut at = 0;
-    let mut i = 1;
-    while i < rows.len() {
-        if !tag_le(rows[at], rows[i]) {
+    for (i, row) in rows.iter().enumerate() {
+        if !tag_le(rows[at], *row) {
             at = i;
         }
-        i += 1;
     }
     at
-}
-
-// The first row and the row at a place change places.
-fn bring_first(rows: &mut [Row], at: usize)
-    requires { at < length rows.old }
-    ensures { rows.new ≡ set (set rows.old 0 (get_or rows.old at [])) at (get_or rows.old 0 []) }
-{
-    let first = rows[0];
-    let row = rows[at];
-    rows[0] = row;
-    rows[at] = first;
 }
 
 // The rows of src with their distances from v written, and a copy of them in dst. The reply is the number of distances
@@ -49,15 +36,11 @@ fn measure(dst: &mut [Row], src: &mut [Row], v: Row, header: &Row) -> u64
     ensures counted { result ≡ length src.old }
 {
     let mut count: u64 = 0;
-    let mut i = 0;
-    while i < src.len() {
-        let mut row = src[i];
-        row[THRESHOLD_AT] = distance_between(header, v, row);
+    for row in src.iter_mut() {
+        row[THRESHOLD_AT] = distance_between(header, v, *row);
         count += 1;
-        src[i] = row;
-        dst[i] = row;
-        i += 1;
     }
+    dst.copy_from_slice(src);
     count
 }
 
@@ -70,7 +53,7 @@ pub fn arrange(dst: &mut [Row], src: &mut [Row], header: &Row) -> u64
     ensures counted { result ≡ length src.old - 1 }
 {
     let at = first_at(src);
-    bring_first(src, at);
+    src.swap(0, at);
     let v = src[0];
     let count = measure(&mut dst[1..], &mut src[1..], v, header);
     sort(&mut src[1..], &mut dst[1..]);

@@ -14,6 +14,7 @@ use tree_arrange::arrange;
 
 // A row with its rank. A row by value has all its words, and says so for the rows of a slice, of which nothing else
 // does.
+#[tactic(auto, unfolding(metric_rules::specs::Row::with_mark, metric_rules::specs::Row::row_width))]
 fn with_rank(row: Row, rank: u32) -> Row
     ensures { (result ≡ with_mark rank row) × (length row ≡ row_width) }
 {
@@ -27,10 +28,8 @@ fn write_ranks(rows: &mut [Row])
     requires { length rows.old ≤ 2 ^ 32 }
     ensures { (rows.new ≡ ranks_written 0 rows.old) × Whole rows.old }
 {
-    let mut i = 0;
-    while i < rows.len() {
-        rows[i] = with_rank(rows[i], i as u32);
-        i += 1;
+    for (i, row) in rows.iter_mut().enumerate() {
+        *row = with_rank(*row, i as u32);
     }
 }
 
@@ -43,6 +42,7 @@ fn last_distance(rows: &[Row], l: usize) -> u32
 }
 
 // The row as its slot holds it.
+#[tactic(auto, unfolding(tree_rules::specs::Layout::placed))]
 fn place(row: Row, threshold: u32) -> Row
     ensures { result ≡ placed threshold row }
 {

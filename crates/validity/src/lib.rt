@@ -16,26 +16,26 @@ const PAST_TAGS: u64 = 1_000_000_000_000_000;
 const LAST_NATIONAL: u64 = 274_877_906_943;
 
 // The largest size of a measure, in hundredths.
-const MEASURE_LIMIT: i32 = 1_000_000;
+const MEASURE_LIMIT: u32 = 1_000_000;
 
-// All tests are made at once, with no branch.
+#[tactic(auto, using(metric_rules::proofs::Ranges::tag_range), unfolding(metric_rules::specs::Validity::valid_tag))]
 pub fn valid_tag(tag: u64) -> bool
     ensures { result ≡ valid_tag tag }
 {
-    (NATIONALS <= tag) & (tag < PAST_TAGS) & (tag % NATIONALS <= LAST_NATIONAL)
+    (NATIONALS..PAST_TAGS).contains(&tag) && tag % NATIONALS <= LAST_NATIONAL
 }
 
+#[tactic(auto, unfolding(metric_rules::specs::Validity::valid_measure, metric_rules::specs::Validity::measure_limit))]
 fn valid_measure(measure: i32) -> bool
     ensures { result ≡ valid_measure measure }
 {
-    (-MEASURE_LIMIT <= measure) & (measure <= MEASURE_LIMIT)
+    measure.unsigned_abs() <= MEASURE_LIMIT
 }
 
 pub fn valid_measures(profile: Profile) -> bool
     ensures { result ≡ valid_measures profile }
 {
-    let m = profile.measures;
-    valid_measure(m[0]) & valid_measure(m[1]) & valid_measure(m[2]) & valid_measure(m[3])
+    profile.measures.iter().all(|m| valid_measure(*m))
 }
 
 // A day has 16 bits, and 0 is none.
@@ -48,6 +48,7 @@ pub fn valid_day(day: u32) -> bool
 // The metrics are 0 to this one.
 const LAST_METRIC: u32 = 2;
 
+#[tactic(auto, unfolding(metric_rules::specs::Distance::valid_metric, metric_rules::specs::Distance::last_metric))]
 pub fn valid_metric(space: Space) -> bool
     ensures { result ≡ valid_metric space }
 {
@@ -60,6 +61,5 @@ const MOST_WEIGHT: u32 = 100;
 pub fn valid_weights(weights: Weights) -> bool
     ensures { result ≡ valid_weights weights }
 {
-    let w = weights.each;
-    (w[0] <= MOST_WEIGHT) & (w[1] <= MOST_WEIGHT) & (w[2] <= MOST_WEIGHT) & (w[3] <= MOST_WEIGHT)
+    weights.each.iter().all(|weight| *weight <= MOST_WEIGHT)
 }

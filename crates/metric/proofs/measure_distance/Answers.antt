@@ -1,7 +1,7 @@
 -- `metric::measure_distance` puts the four products together, by their sum or their largest, and saturates once.
--- The words read are the weights of the header and the measures of the two profiles, by the definitions; to saturate each product, too, gives the same
--- number (`sum_once`, `largest_once`).
-use Rattle.std.proofs.Common.{◌≡◌, ℕ, ◌+◌, ◌*◌, max, sym, ap, ◌∙◌, ap₂}
+-- The words read are the weights of the header and the measures of the two profiles, by the definitions; to saturate
+-- each product, too, gives the same number (`sum_once`, `largest_once`).
+use Rattle.std.proofs.Common.{◌≡◌, ℕ, ◌+◌, ◌*◌, max, sym, ◌∙◌}
 use Rattle.metric_rules.specs.declared.Profile.{Profile}
 use Rattle.metric_rules.specs.declared.Weights.{Weights}
 use Rattle.metric_rules.specs.Row.{profile_of}
@@ -27,34 +27,19 @@ module _ (weights : Weights) (p q : Profile) {a b c d : ℕ}
 pub returns-then-header-eq0 : goal.returns-then-header-eq0
 unfolding distance space_of weights_of weight gap profile_of
 returns-then-header-eq0 c =
-    let c4 = c.before.before.before in
-    let c3 = c4.before.before in
-    let c2 = c3.before.before in
-    let c1 = c2.before.before in
-    let a = c1.args in
-    let weights : Weights = weights_of a.header.now in
-    let p : Profile = profile_of a.a in
-    let q : Profile = profile_of a.b in
-    c.saturated_sum.ensures
-    ∙ summed weights p q c1.weighted_gap-first.ensures c2.weighted_gap-second.ensures c3.weighted_gap-third.ensures c4.weighted_gap-fourth.ensures
-    ∙ sym (by_sum weights p q (space_of a.header.now).metric c.if-header-eq0.true)
+    let weights = weights_of c.args.header.now in
+    let p = profile_of c.args.a in
+    let q = profile_of c.args.b in
+    let total = summed weights p q c.weighted_gap-first.ensures c.weighted_gap-second.ensures c.weighted_gap-third.ensures c.weighted_gap-fourth.ensures in
+    let by = by_sum weights p q (space_of c.args.header.now).metric c.if-header-eq0.true in
+    cc
 
-pub returns : goal.returns
+pub returns-else-header-eq0 : goal.returns-else-header-eq0
 unfolding distance space_of weights_of weight gap profile_of
-returns c =
-    let b = c.before.before in
-    let e = b.before.before in
-    let c4 = e.before.before in
-    let c3 = c4.before.before in
-    let c2 = c3.before.before in
-    let c1 = c2.before.before in
-    let s = c1.before.before in
-    let weights : Weights = weights_of s.args.header.now in
-    let p : Profile = profile_of s.args.a in
-    let q : Profile = profile_of s.args.b in
-    let front : b.larger-front.result ≡ max c1.weighted_gap-first.result c2.weighted_gap-second.result = b.larger-front.ensures in
-    let back : b.larger-back.result ≡ max c3.weighted_gap-third.result c4.weighted_gap-fourth.result = b.larger-back.ensures in
-    c.saturate.ensures
-    ∙ ap saturated (c.larger.ensures ∙ ap₂ max front back)
-    ∙ worst weights p q c1.weighted_gap-first.ensures c2.weighted_gap-second.ensures c3.weighted_gap-third.ensures c4.weighted_gap-fourth.ensures
-    ∙ sym (by_worst weights p q (space_of s.args.header.now).metric e.if-header-eq0.false s.requires)
+returns-else-header-eq0 c =
+    let weights = weights_of c.args.header.now in
+    let p = profile_of c.args.a in
+    let q = profile_of c.args.b in
+    let most = worst weights p q c.weighted_gap-first.ensures c.weighted_gap-second.ensures c.weighted_gap-third.ensures c.weighted_gap-fourth.ensures in
+    let by = by_worst weights p q (space_of c.args.header.now).metric c.if-header-eq0.false c.requires in
+    cc

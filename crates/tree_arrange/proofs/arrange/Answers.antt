@@ -8,6 +8,7 @@ use Prim.Native.Nat.{ℕ, ◌-◌, ◌≤◌, ◌<◌}
 use lib.Seq.{get_or-take}
 use lib.ListN.{length, take, drop, get_or, length-set, length-take, length-drop}
 use borrow.Rule.Slice.PartMut.{put_mid}
+use Rattle.std.proofs.lemmas.List.Edits.{swap_is}
 use Rattle.lists.specs.Lists.{every}
 use Rattle.lists.proofs.Lists.{all_perm}
 use Rattle.lists.proofs.Tests.{every_all}
@@ -71,20 +72,20 @@ pub sort-requires : goal.sort-requires
 sort-requires c =
     let m = c.measure-count in
     let a = c.args in
-    let b : List Row = c.bring_first.new.rows in
-    let k : length b ≡ length a.src.now = c.bring_first.auto.rows in
+    let b : List Row = c.swap.new.self in
+    let k : length b ≡ length a.src.now = c.swap.ensures.len in
     let p = c.requires in
     again a.dst.now m.new.dst (omega (arith, p.0, p.1)) ∙ m.ensures.copied ∙ sym (again b m.new.src (omega (arith, k, p.1)))
 
 pub returns : goal.returns
 returns c =
     let m = c.measure-count in
-    let b = c.bring_first in
+    let b = c.swap in
     let f = c.first_at-at in
-    let k : length b.new.rows ≡ length c.args.src.now = b.auto.rows in
+    let k : length b.new.self ≡ length c.args.src.now = b.ensures.len in
     record {
       arranged =
-          finished (space_of c.args.header.now) c.args.src.now f.result f.ensures.0 f.ensures.1 c.requires.2 b.new.rows m.new.src c.sort.new.rows
-          b.ensures m.ensures.measured c.sort.ensures;
-      counted = m.ensures.counted ∙ ap length (part_rest 1 b.new.rows) ∙ length-drop 1 b.new.rows ∙ ap (λ (n : ℕ). n - 1) k;
+          finished (space_of c.args.header.now) c.args.src.now f.result f.ensures.0 f.ensures.1 c.requires.2 b.new.self m.new.src c.sort.new.rows
+          (b.ensures.after ∙ sym (swap_is c.args.src.now 0 f.result [] (omega arith) f.ensures.0)) m.ensures.measured c.sort.ensures;
+      counted = m.ensures.counted ∙ ap length (part_rest 1 b.new.self) ∙ length-drop 1 b.new.self ∙ ap (λ (n : ℕ). n - 1) k;
     }

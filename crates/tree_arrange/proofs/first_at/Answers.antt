@@ -4,7 +4,7 @@ use native.Mathlib.Numerals.{add-one}
 use mathlib.Core.Path.{◌≡◌, sym, ◌∙◌, ap, subst}
 use mathlib.Core.Bool.{true, false}
 use mathlib.Core.List.{List, [], ◌∷◌}
-use Prim.Native.Nat.{ℕ, ◌+◌, ◌≤◌, ◌<◌}
+use Prim.Native.Nat.{ℕ, ◌+◌, ◌<◌}
 use lib.Seq.{take-suc, take_all}
 use lib.ListN.{length, take, get_or}
 use Rattle.lists.specs.Lists.{All}
@@ -17,10 +17,6 @@ use Rattle.tree_rules.proofs.Sorting.{key_le_refl, key_le_trans, key_le_flip}
 use Rattle.tree_arrange.proofs.first_at.Invariants.{Least}
 use Rattle.tree_arrange.proofs.first_at.Goals as goal
 use Rattle.tree_arrange.proofs.first_at.Goals.{then-not-tag_le, else-not-tag_le}
-
-least_one : (rows : List Row) → 1 ≤ length rows → Least rows 0 1
-least_one rows h =
-    subst (All (λ x. key_le (first_key (get_or rows 0 [])) (first_key x) ≡ true)) (sym (take-suc rows 0 [] h)) (key_le_refl (first_key (get_or rows 0 [])), tt)
 
 least_with : (rows : List Row) (at i : ℕ) → i < length rows → Least rows at i → key_le (first_key (get_or rows at [])) (first_key (get_or rows i [])) ≡ true → Least rows at (i + 1)
 least_with rows at i h a k =
@@ -35,25 +31,7 @@ least_moved rows at i h a k =
     (key_le_refl (first_key (get_or rows i [])))
 
 pub loop-i-init : goal.loop-i-init
-loop-i-init c = (omega arith, c.requires, least_one c.args.rows.now c.requires)
-
-pub offset_bounds-rows-at : goal.offset_bounds-rows-at
-offset_bounds-rows-at c = omega arith
-
-pub bounds-rows-at : goal.bounds-rows-at
-bounds-rows-at c = omega arith
-
-pub offset_bounds-rows-i : goal.offset_bounds-rows-i
-offset_bounds-rows-i c = omega arith
-
-pub bounds-rows-i : goal.bounds-rows-i
-bounds-rows-i c = omega arith
-
-pub overflow_add-i : goal.overflow_add-i
-overflow_add-i c = omega arith
-
-pub loop-i-smaller : goal.loop-i-smaller
-loop-i-smaller c = omega arith
+loop-i-init c = (c.requires, tt)
 
 pub loop-i-preserved : goal.loop-i-preserved
 loop-i-preserved c =
@@ -63,15 +41,13 @@ loop-i-preserved c =
     elim c.if-not-tag_le.branch [
       | then-not-tag_le w ↦ (
         omega (arith, w.at-is),
-        omega arith,
         subst (λ (n : ℕ). Least rows n (l.i + 1)) (sym w.at-is)
-            (least_moved rows l.at l.i h l.invariant.2 (sym c.tag_le.ensures ∙ w.if-not-tag_le.true)),
+            (least_moved rows l.at l.i h l.invariant.1 (sym c.tag_le.ensures ∙ w.if-not-tag_le.true)),
       )
       | else-not-tag_le w ↦ (
         omega (arith, w.at-is),
-        omega arith,
         subst (λ (n : ℕ). Least rows n (l.i + 1)) (sym w.at-is)
-            (least_with rows l.at l.i h l.invariant.2 (sym c.tag_le.ensures ∙ w.if-not-tag_le.false)),
+            (least_with rows l.at l.i h l.invariant.1 (sym c.tag_le.ensures ∙ w.if-not-tag_le.false)),
       )
     ]
 
@@ -81,5 +57,5 @@ returns c =
     let l = c.loop-i in (
       omega arith,
       all_every (λ x. key_le (first_key (get_or rows l.at [])) (first_key x)) rows
-          (subst (All (λ x. key_le (first_key (get_or rows l.at [])) (first_key x) ≡ true)) (take_all l.i rows (omega arith)) l.invariant.2),
+          (subst (All (λ x. key_le (first_key (get_or rows l.at [])) (first_key x) ≡ true)) (take_all l.i rows (omega arith)) l.invariant.1),
     )

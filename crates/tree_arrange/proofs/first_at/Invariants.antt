@@ -1,7 +1,7 @@
 use mathlib.Core.Path.{◌≡◌}
 use mathlib.Core.Bool.{true}
 use mathlib.Core.List.{List, []}
-use Prim.Native.Nat.{ℕ, ◌-◌, ◌≤◌, ◌<◌}
+use Prim.Native.Nat.{ℕ, ◌<◌}
 use lib.ListN.{length, take, get_or}
 use Rattle.lists.specs.Lists.{All}
 use Rattle.metric_rules.specs.Row.{Row}
@@ -14,7 +14,4 @@ abbrev pub Least : List Row → ℕ → ℕ → Type 0
 Least rows at i = All (λ x. key_le (first_key (get_or rows at [])) (first_key x) ≡ true) (take i rows)
 
 abbrev pub invariant-loop-i : goal.invariant-loop-i
-invariant-loop-i l = (l.at < l.i) × (l.i ≤ length l.rows) × Least l.rows l.at l.i
-
-abbrev pub decreases-loop-i : goal.decreases-loop-i
-decreases-loop-i l = length l.rows - l.i
+invariant-loop-i l = (l.at < length l.rows) × Least l.rows l.at l.i

@@ -3,7 +3,7 @@ use native.Mathlib.Omega.{arith}
 use mathlib.Core.Path.{◌≡◌, refl, sym, ◌∙◌, ap, ap₂}
 use mathlib.Core.List.{List, []}
 use Prim.Native.Nat.{ℕ, ◌+◌, ◌<◌}
-use lib.ListN.{length, length-map, get_or, set, length-set}
+use lib.ListN.{length, length-map, get_or, set}
 use Rattle.metric_rules.specs.Row.{Row, profile_of}
 use Rattle.metric_rules.specs.declared.Space.{Space}
 use Rattle.metric_rules.specs.Distance.{distance, space_of}
@@ -29,69 +29,27 @@ module _ (space : Space) (v : Row) (old : List Row) where
   measure_step : (whole rows : List Row) (i : ℕ) (x : Row) → length whole ≡ length old → i < length old → rows ≡ written_to whole (new space v old) i → x ≡ get_or (new space v old) i [] → set rows i x ≡ written_to whole (new space v old) (i + 1)
   measure_step whole rows i x n h e q = written_step whole (new space v old) (new_length ∙ sym n) [] rows x i (omega arith) e q
 
-pub loop-i-init : goal.loop-i-init
-loop-i-init c = (omega arith, refl, refl, c.requires, refl, refl)
+pub loop-row-init : goal.loop-row-init
+loop-row-init c = (refl, refl)
 
-pub offset_bounds-src-i : goal.offset_bounds-src-i
-offset_bounds-src-i c = omega arith
-
-pub slice_copy_out-row : goal.slice_copy_out-row
-slice_copy_out-row c = omega arith
-
-pub bounds-row-10 : goal.bounds-row-10
-bounds-row-10 c = omega arith
-
-pub overflow_add-count : goal.overflow_add-count
-overflow_add-count c = omega arith
-
-pub offset_bounds-src-i-in-loop-i : goal.offset_bounds-src-i-in-loop-i
-offset_bounds-src-i-in-loop-i c = omega arith
-
-pub bounds-src-i : goal.bounds-src-i
-bounds-src-i c = omega arith
-
-pub offset_bounds-dst-i : goal.offset_bounds-dst-i
-offset_bounds-dst-i c = omega arith
-
-pub bounds-dst-i : goal.bounds-dst-i
-bounds-dst-i c = omega arith
-
-pub overflow_add-i : goal.overflow_add-i
-overflow_add-i c = omega arith
-
-pub loop-i-smaller : goal.loop-i-smaller
-loop-i-smaller c = omega arith
-
-pub loop-i-preserved : goal.loop-i-preserved
-loop-i-preserved c =
+pub loop-row-preserved : goal.loop-row-preserved
+loop-row-preserved c =
     let a = c.args in
-    let l = c.loop-i in
-    let h : l.i < length a.src.now = omega arith in
-    let x : set (get_or l.src l.i []) 10 c.distance_between.result ≡ get_or (new (space_of a.header.now) a.v a.src.now) l.i [] =
-    measured_row (space_of a.header.now) a.v a.src.now l.src l.i c.distance_between.result h l.invariant.4 c.distance_between.ensures in (
+    let l = c.loop-row in
+    let h : l.row-index < length a.src.now = omega arith in
+    let d = set (get_or l.src l.row-index []) 10 c.distance_between.result in (
       omega arith,
-      omega arith,
-      simp length-set l.invariant.2,
-      simp length-set l.invariant.3,
-      measure_step (space_of a.header.now) a.v a.src.now a.src.now l.src l.i (set (get_or l.src l.i []) 10 c.distance_between.result) refl h l.invariant.4 x,
-      measure_step (space_of a.header.now) a.v a.src.now a.dst.now l.dst l.i (set (get_or l.src l.i []) 10 c.distance_between.result)
-          c.requires h l.invariant.5 x,
+      measure_step (space_of a.header.now) a.v a.src.now a.src.now l.src l.row-index d refl h l.invariant.1
+          (measured_row (space_of a.header.now) a.v a.src.now l.src l.row-index c.distance_between.result h l.invariant.1 c.distance_between.ensures),
     )
-
-pub shape_of-dst : goal.shape_of-dst
-shape_of-dst c = omega arith
-
-pub shape_of-src : goal.shape_of-src
-shape_of-src c = omega arith
 
 pub returns : goal.returns
 unfolding new
 returns c =
     let a = c.args in
-    let l = c.loop-i in
-    let s : l.src ≡ new (space_of a.header.now) a.v a.src.now =
-    l.invariant.4 ∙ written_all a.src.now (new (space_of a.header.now) a.v a.src.now) (new_length (space_of a.header.now) a.v a.src.now) [] l.i (omega arith) in
-    let d : l.dst ≡ new (space_of a.header.now) a.v a.src.now =
-    l.invariant.5
-    ∙ written_all a.dst.now (new (space_of a.header.now) a.v a.src.now) (new_length (space_of a.header.now) a.v a.src.now ∙ sym c.requires) [] l.i (omega arith) in
-    record { measured = s; copied = d ∙ sym s; counted = omega arith }
+    let l = c.loop-row in
+    record {
+      measured = l.invariant.1 ∙ written_all a.src.now (new (space_of a.header.now) a.v a.src.now) (new_length (space_of a.header.now) a.v a.src.now) [] l.row-index (omega arith);
+      copied = c.copy_from_slice.ensures.after;
+      counted = omega arith;
+    }

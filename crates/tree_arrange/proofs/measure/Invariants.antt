@@ -3,8 +3,6 @@ use mathlib.Core.List.{List, map}
 use Rattle.metric_rules.specs.Row.{Row}
 use Rattle.metric_rules.specs.declared.Space.{Space}
 use Rattle.tree_rows.specs.Working.{measured_from}
-use Prim.Native.Nat.{◌-◌, ◌≤◌}
-use lib.ListN.{length}
 use Rattle.metric_rules.specs.Distance.{distance, space_of}
 use Rattle.tree_rules.proofs.Parts.{written_to}
 use Rattle.tree_arrange.proofs.measure.Given as goal
@@ -13,14 +11,6 @@ use Rattle.tree_arrange.proofs.measure.Given as goal
 unfoldable pub new : Space → Row → List Row → List Row
 new space v old = map (measured_from (distance space) v) old
 
-abbrev pub invariant-loop-i : goal.invariant-loop-i
-invariant-loop-i l =
-    (l.i ≤ length l.initial.src)
-    × (l.count ≡ l.i)
-    × (length l.src ≡ length l.initial.src)
-    × (length l.dst ≡ length l.initial.src)
-    × (l.src ≡ written_to l.initial.src (new (space_of l.header) l.v l.initial.src) l.i)
-    × (l.dst ≡ written_to l.initial.dst (new (space_of l.header) l.v l.initial.src) l.i)
-
-abbrev pub decreases-loop-i : goal.decreases-loop-i
-decreases-loop-i l = length l.initial.src - l.i
+abbrev pub invariant-loop-row : goal.invariant-loop-row
+invariant-loop-row l =
+    (l.count ≡ l.row-index) × (l.src ≡ written_to l.initial.src (new (space_of l.header) l.v l.initial.src) l.row-index)

@@ -5,7 +5,7 @@ use mathlib.Core.Path.{◌≡◌, refl, sym, ◌∙◌, ap, subst}
 use mathlib.Core.List.{List, []}
 use Prim.Native.Nat.{ℕ, ◌+◌, ◌<◌}
 use lib.Seq.{take_all}
-use lib.ListN.{length, get_or, set, length-set}
+use lib.ListN.{length, get_or, set}
 use Rattle.metric_rules.specs.Row.{Row, with_mark}
 use Rattle.tree_rows.specs.Working.{ranks_written}
 use Rattle.tree_rules.specs.Guided.{Whole}
@@ -25,28 +25,7 @@ rank_step old rows i h e =
     ∙ sym (ranks_at 0 old i h))
 
 pub loop-i-init : goal.loop-i-init
-loop-i-init c = (omega arith, refl, refl, tt)
-
-pub offset_bounds-rows-i : goal.offset_bounds-rows-i
-offset_bounds-rows-i c = omega arith
-
-pub slice_copy_out-with_rank : goal.slice_copy_out-with_rank
-slice_copy_out-with_rank c = omega arith
-
-pub overflow_cast-i : goal.overflow_cast-i
-overflow_cast-i c = omega arith
-
-pub offset_bounds-rows-i-in-loop-i : goal.offset_bounds-rows-i-in-loop-i
-offset_bounds-rows-i-in-loop-i c = omega arith
-
-pub bounds-rows-i : goal.bounds-rows-i
-bounds-rows-i c = omega arith
-
-pub overflow_add-i : goal.overflow_add-i
-overflow_add-i c = omega arith
-
-pub loop-i-smaller : goal.loop-i-smaller
-loop-i-smaller c = omega arith
+loop-i-init c = (refl, tt)
 
 pub loop-i-preserved : goal.loop-i-preserved
 loop-i-preserved c =
@@ -55,20 +34,15 @@ loop-i-preserved c =
     let old : List Row = c.args.rows.now in
     let h : l.i < length old = omega arith in
     let e : get_or l.rows l.i [] ≡ get_or old l.i [] =
-    ap (λ (r : List Row). get_or r l.i []) v.2 ∙ written_at old (ranks_written 0 old) (ranks_length 0 old) [] l.i h in (
-      omega arith,
-      simp length-set v.1,
-      ap (set l.rows l.i) c.with_rank.ensures.0 ∙ rank_step old l.rows l.i h v.2,
-      whole_next old l.i h v.3 (ap length (sym e) ∙ c.with_rank.ensures.1),
+    ap (λ (r : List Row). get_or r l.i []) v.0 ∙ written_at old (ranks_written 0 old) (ranks_length 0 old) [] l.i h in (
+      ap (set l.rows l.i) c.with_rank.ensures.0 ∙ rank_step old l.rows l.i h v.0,
+      whole_next old l.i h v.1 (ap length (sym e) ∙ c.with_rank.ensures.1),
     )
-
-pub shape_of-rows : goal.shape_of-rows
-shape_of-rows c = omega arith
 
 pub returns : goal.returns
 returns c =
     let old : List Row = c.args.rows.now in
     let l = c.loop-i in (
-      l.invariant.2 ∙ written_all old (ranks_written 0 old) (ranks_length 0 old) [] l.i (omega arith),
-      subst Whole (take_all l.i old (omega arith)) l.invariant.3,
+      l.invariant.0 ∙ written_all old (ranks_written 0 old) (ranks_length 0 old) [] l.i (omega arith),
+      subst Whole (take_all l.i old (omega arith)) l.invariant.1,
     )
