@@ -28,6 +28,7 @@ pub fn asked_of(header: Row, query: Profile, number: u32, first_day: u32) -> Ask
 }
 
 // Whether a search by this query may report a slot: a live item, weighed on the first day or later.
+#[tactic(auto, unfolding(metric_rules::specs::Row::may_report))]
 pub fn may_report(query: &Row, row: Row) -> bool
     ensures { result ≡ may_report query.now row }
 {

@@ -12,14 +12,13 @@ use table_rules::{NO_ROOM, Searched};
 pub fn zero_entries(area: &mut [Entry])
     ensures { area.new ≡ replicate (length area.old) zero_entry }
 {
-    let mut i = 0;
-    while i < area.len() {
-        area[i] = [0u64; 2];
-        i += 1;
+    for entry in area.iter_mut() {
+        *entry = [0u64; 2];
     }
 }
 
-// The entries behind the first n become zero.
+// The entries behind the first n become zero. How much of a lent area is filled goes along as a number: with no heap it
+// has no length of its own.
 pub fn zero_behind(area: &mut [Entry], n: usize)
     requires { n ≤ length area.old }
     ensures { area.new ≡ take n area.old ++ replicate (length area.old - n) zero_entry }
@@ -27,7 +26,7 @@ pub fn zero_behind(area: &mut [Entry], n: usize)
     zero_entries(&mut area[n..]);
 }
 
-// A refusal returns its number and zeros.
+// A refusal returns its number and zeros. The number is any, as the contract has it: a Refusal would be a narrower type.
 pub fn refused(refusal: u32) -> Searched
     ensures { result ≡ record { refusal = refusal; found = 0; distances = 0 } }
 {

@@ -34,10 +34,6 @@ known_part {slots} {ds} h n i =
       fit = all_take (λ d. d < 2 ^ 32) n (drop i ds) (all_drop (λ d. d < 2 ^ 32) i ds h.fit);
     }
 
--- and of all from a place on
-pub known_rest : {slots : List Row} {ds : List ℕ} → Known slots ds → (i : ℕ) → Known (take (length slots - i) (drop i slots)) (take (length ds - i) (drop i ds))
-known_rest {slots} {ds} h i = subst (λ (n : ℕ). Known (take (length slots - i) (drop i slots)) (take (n - i) (drop i ds))) (sym h.each) (known_part h (length slots - i) i)
-
 -- one of them
 pub known_at : {slots : List Row} {ds : List ℕ} → Known slots ds → (i : ℕ) → i < length slots → get_or ds i 0 < 2 ^ 32
 known_at {slots} {ds} h i inside = go ds i (omega (arith, inside, h.each)) h.fit

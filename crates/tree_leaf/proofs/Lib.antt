@@ -1,5 +1,4 @@
 -- What a few slots' distances say of a visit.
 pub mod Known
 pub mod Halves
-mod Working
 pub mod Passing

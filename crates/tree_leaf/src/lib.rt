@@ -16,26 +16,26 @@ pub type Distances = [u64; 8];
 
 const MOST_DISTANCE: u64 = 0xffff_ffff;
 
-// The distances of at most seven slots. The reply is the least of them. The number 7 in the loop lets the compiler
-// write it out.
+// The distances of at most seven slots. The reply is the least of them. The number 7 lets the compiler write the loop
+// out.
 pub fn distances_of(slots: &[Row], asked: &Asked, into: &mut Distances) -> u64
     requires { (length slots.now < 8) × (length into.old ≡ 8) }
     ensures each { take (length slots.now) into.new ≡ distances_asked asked.now slots.now }
     ensures least { All (λ d. result ≤ d) (distances_asked asked.now slots.now) }
 {
+    let few = &slots[..slots.len().min(7)];
     let mut least = MOST_DISTANCE;
-    let mut i = 0;
-    while (i < slots.len()) & (i < 7) {
-        let d = distance_between(&asked[0], slots[i], asked[1]) as u64;
+    for (i, slot) in few.iter().enumerate() {
+        let d = distance_between(&asked[0], *slot, asked[1]) as u64;
         into[i] = d;
-        least = if d < least { d } else { least };
-        i += 1;
+        least = least.min(d);
     }
     least
 }
 
 // The n slots of the left half below a slot at distance d and of threshold m count where the half is entered. The right
 // half's test is this with d and m exchanged.
+#[tactic(auto, unfolding(crate::specs::Leaf::count_if))]
 fn half_count(d: u64, m: u64, bound: u64, n: usize) -> usize
     requires { (m < 2 ^ 32) × (bound < 2 ^ 32) }
     ensures { result ≡ count_if (leb d (m + bound)) n }
@@ -44,6 +44,7 @@ fn half_count(d: u64, m: u64, bound: u64, n: usize) -> usize
 }
 
 // How many of one to three slots at these distances a visit meets, where none of them is within the bound.
+#[tactic(auto, using(crate::proofs::Passing::count_most))]
 fn three_passed(slots: &[Row], ds: &[u64], bound: u64) -> usize
     requires { (0 < length slots.now) × (length slots.now < 4) × Known slots.now ds.now × (bound < 2 ^ 32) }
     ensures { (result ≤ 3) × MetAt slots.now ds.now bound result }
@@ -56,6 +57,7 @@ fn three_passed(slots: &[Row], ds: &[u64], bound: u64) -> usize
 }
 
 // How many of one to seven slots at these distances a visit meets, where none of them is within the bound.
+#[tactic(auto, using(crate::proofs::Passing::count_most))]
 pub fn passed_over(slots: &[Row], ds: &[u64], bound: u64) -> usize
     requires { (0 < length slots.now) × (length slots.now < 8) × Known slots.now ds.now × (bound < 2 ^ 32) }
     ensures { MetAt slots.now ds.now bound result }

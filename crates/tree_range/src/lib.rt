@@ -9,7 +9,7 @@ ghost use Rattle.tree_range.specs.Collected.{Room, found_after, collected, met_a
 
 use metric::distance_between;
 use metric_rules::Row;
-use rows::threshold_of;
+use rows::{tag_of, threshold_of};
 use search_asked::{Asked, may_report};
 use search_rules::Entry;
 use tree_leaf::{distances_of, passed_over};
@@ -27,24 +27,24 @@ fn meet(found: Found, row: &Row, d: u64, query: &Row, area: &mut [Entry]) -> Fou
     ensures reply { result ≡ found_after found (met_alone (may_report query.now) row.now d (threshold_of query.now)) }
     ensures area { area.new ≡ collected area.old found (met_alone (may_report query.now) row.now d (threshold_of query.now)) }
 {
-    let at = found.hits;
-    let count = found.count + 1;
+    let counted = Found {
+        count: found.count + 1,
+        ..found
+    };
     let radius = threshold_of(*query) as u64;
     if radius < d {
-        return Found {
-            hits: found.hits,
-            count,
-        };
+        return counted;
     }
     if !may_report(query, *row) {
-        return Found { hits: at, count };
+        return counted;
     }
+    let at = found.hits;
     if at < area.len() {
-        area[at] = [rows::tag_of(*row), d];
+        area[at] = [tag_of(*row), d];
     }
     Found {
         hits: at + 1,
-        count,
+        ..counted
     }
 }
 
@@ -56,7 +56,7 @@ pub fn range_tree(found: Found, slots: &[Row], area: &mut [Entry], asked: &Asked
     ensures reply { result ≡ found_after found (range_asked asked.now slots.now) }
     ensures area { area.new ≡ collected area.old found (range_asked asked.now slots.now) }
 {
-    if slots.len() == 0 {
+    if slots.is_empty() {
         return found;
     }
     if slots.len() < 8 {
@@ -111,8 +111,6 @@ fn range_leaf(found: Found, slots: &[Row], area: &mut [Entry], asked: &Asked) ->
     ensures reply { result ≡ found_after found (range_asked asked.now slots.now) }
     ensures area { area.new ≡ collected area.old found (range_asked asked.now slots.now) }
 {
-    let hits = found.hits;
-    let count = found.count;
     let n = slots.len();
     let mut ds = [0u64; 8];
     let least = distances_of(slots, asked, &mut ds);
@@ -120,8 +118,8 @@ fn range_leaf(found: Found, slots: &[Row], area: &mut [Entry], asked: &Asked) ->
     if radius < least {
         let passed = passed_over(slots, &ds[..n], radius);
         return Found {
-            hits,
-            count: count + passed,
+            count: found.count + passed,
+            ..found
         };
     }
     range_seven(found, slots, &ds[..n], area, asked)

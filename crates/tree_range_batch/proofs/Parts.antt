@@ -18,7 +18,8 @@ use Rattle.search_rules.specs.Range.{Entry, Met, entry, to_query}
 use Rattle.search_asked.specs.Asked.{distance_asked, query_asked, reports_asked, radius_asked}
 use Rattle.tree_range.specs.declared.Found.{Found}
 use Rattle.tree_range.specs.Collected.{found_after, collected, met_alone, range_asked}
-use Rattle.tree_range_batch.specs.Together.{is_on, asked_at, part_at, only, hits_alone, alone_on, Collects}
+use Rattle.tree_range_batch.specs.declared.Hits.{Hits}
+use Rattle.tree_range_batch.specs.Together.{is_on, asked_at, part_at, only, hits_alone, alone_on, Fewer, Collects, Collected}
 
 -- nothing is collected
 pub collects_none : (size : ℕ) (hits : ℕ → List Entry) (found : List ℕ) (area : List Entry) → ((j : ℕ) → hits j ≡ []) → Collects size hits found area found area
@@ -318,3 +319,30 @@ collects_single size j n k batch slots found area at whole counted inside f r ne
           (collects_alone size j found area counted inside (range_asked (asked_at batch j) slots).hits r.hits new
           (ap (λ (x : Found). x.hits) p ∙ λ i. h i + length (e i).hits) is long),
     )
+
+-- the same three of hits with the places they go to
+pub collected_none : (hits : ℕ → List Entry) (to : Hits) → ((j : ℕ) → hits j ≡ []) → Collected to hits to
+collected_none hits to none = record { collects = collects_none to.part hits to.found.now to.area.now none; part = refl; size = refl; names = (refl, refl) }
+
+pub collected_alike : {hits : ℕ → List Entry} (same : ℕ → List Entry) → ((j : ℕ) → same j ≡ hits j)
+    → {before after : Hits} → Collected before hits after → Collected before same after
+collected_alike same e a = record { collects = collects_alike same e a.collects; part = a.part; size = a.size; names = a.names }
+
+pub collected_both : {first second : ℕ → List Entry} (hits : ℕ → List Entry) → ((j : ℕ) → hits j ≡ first j ++ second j)
+    → {before mid after : Hits} → Collected before first mid → Collected mid second after → Collected before hits after
+collected_both {first} {second} hits e {before} {mid} {after} a b =
+    record {
+      collects = collects_both hits e a.collects
+          (subst (λ (part : ℕ). Collects part second mid.found.now mid.area.now after.found.now after.area.now) a.part b.collects);
+      part = b.part ∙ a.part;
+      size = b.size ∙ a.size;
+      names = (b.names.0 ∙ a.names.0, b.names.1 ∙ a.names.1);
+    }
+
+-- what a part has room for afterwards: its place is where it was, and the numbers have grown by the hits
+module _ {before after : Hits} {hits : ℕ → List Entry} (c : Collected before hits after) where
+  pub part_after : (j : ℕ) → suc j * before.part ≤ length before.area.now → suc j * after.part ≤ length after.area.now
+  part_after j h = coe 0 1 (i. suc j * sym c.part i ≤ sym c.size i) h
+
+  pub fewer_after : {more less : ℕ} → ((j : ℕ) → length (hits j) + less ≤ more) → Fewer more before.found.now → Fewer less after.found.now
+  fewer_after le f = record { sixteen = c.collects.same ∙ f.sixteen; each = λ j. omega (arith, f.each j, c.collects.numbers j, le j) }

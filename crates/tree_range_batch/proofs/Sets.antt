@@ -160,9 +160,6 @@ pub remaining_all : (on : ℕ) → on < 2 ^ 16 → Remaining on 0 on
 remaining_all on h = record { bits = λ i. ap (is_on on) (omega arith); few = omega arith; below = h }
 
 module _ {on j rest : ℕ} (r : Remaining on j rest) where
-  pub remaining_below : rest < 2 ^ 16
-  remaining_below = omega (arith, r.below, pow_mono {i = 16 - j} {j = 16} (omega arith))
-
   pub remaining_none : rest ≡ 0 → (i : ℕ) → j ≤ i → is_on on i ≡ false
   remaining_none none i h =
       let at : j + (i - j) ≡ i = omega arith in

@@ -6,7 +6,6 @@ use mathlib.Core.Bool.{Bool, true, false, ◌&&◌}
 use mathlib.Core.Logic.{◌⊎◌, inl, inr}
 use mathlib.Core.List.{List, [], ◌∷◌, ◌++◌}
 use lib.ListN.{length, take, drop, get_or}
-use lib.Seq.{sets}
 use lib.Dec.{eqb}
 use borrow.Author.Tests.{eqb-true, eqb-false}
 use native.Mathlib.Omega.{arith}
@@ -24,17 +23,13 @@ use Rattle.tree_range.proofs.Collecting.{tree_empty, tree_first}
 use Rattle.batch_rules.specs.Batch.{reached_by_some}
 use Rattle.batch_rules.proofs.Together.{goes_left, goes_right, together_no_query, together_no_slot, together_le, together-step, together_one}
 use Rattle.tree_range_batch.specs.Together.{is_on, asked_at, chosen, goes_left_at, goes_right_at, hits_alone, alone_on, hits_on, count_on, hits_in_halves}
-use Rattle.tree_range_batch.specs.Together.{count_in_halves, part_at, only, Fewer, Collects}
+use Rattle.tree_range_batch.specs.declared.Hits.{Hits}
+use Rattle.tree_range_batch.specs.Together.{count_in_halves, only, Fewer, Collects, Rooms, Collected}
 use Rattle.tree_range_batch.proofs.Sets.{on_none, on_some, chosen_none, chosen_selected, Single, chosen_one}
-use Rattle.tree_range_batch.proofs.Parts.{alone_one, collects_none, collects_both}
+use Rattle.tree_range_batch.proofs.Parts.{alone_one, collected_none, collected_alike, collected_both, part_after, fewer_after}
 
 pub fewer_less : {more : ℕ} {found : List ℕ} → Fewer more found → {less : ℕ} → less ≤ more → Fewer less found
 fewer_less f le = record { sixteen = f.sixteen; each = λ j. omega (arith, f.each j, le) }
-
--- a slot alone leaves room for the slots behind it
-pub alone_fewer : (batch : List Row) (on : ℕ) (s : Row) {part : ℕ} {found : List ℕ} {area : List Entry} {found₁ : List ℕ} {area₁ : List Entry} → Collects part (alone_on batch on s) found area found₁ area₁
-    → (all more : ℕ) → all ≡ 1 + more → Fewer all found → Fewer more found₁
-alone_fewer batch on s c all more e f = record { sixteen = c.same ∙ f.sixteen; each = λ j. omega (arith, c.numbers j, f.each j, alone_one batch on s j, e) }
 
 empty : (slots : List Row) → length slots ≡ 0 → slots ≡ []
 empty [] e = refl
@@ -89,36 +84,48 @@ module _ (batch : List Row) where
     pub hits : Collects part (hits_on batch on slots) found area found' area'
     pub same : length area' ≡ length area
 
-  pub turn_skipped : (part on : ℕ) (slots : List Row) → (length slots ≡ 0) ⊎ (on ≡ 0) → (count : ℕ) (found : List ℕ) (area : List Entry) → Turn part on slots count found area count found area
-  turn_skipped part on slots none count found area =
-      record {
-        counts = omega (arith, no_count_lem on slots none);
-        hits = collects_none part (hits_on batch on slots) found area (no_hits on slots none);
-        same = refl;
-      }
-
   -- the numbers that it leaves still fit
   pub turn_fewer : {part on : ℕ} {slots : List Row} {count : ℕ} {found : List ℕ} {area : List Entry} {count' : ℕ} {found' : List ℕ} {area' : List Entry}
       → Turn part on slots count found area count' found' area' → (all more : ℕ) → all ≡ length slots + more → Fewer all found → Fewer more found'
   turn_fewer {part} {on} {slots} t all more e f =
       record { sixteen = t.hits.same ∙ f.sixteen; each = λ j. omega (arith, t.hits.numbers j, f.each j, hits_le on slots j, e) }
 
-  pub turn_few : {part on : ℕ} {slots : List Row} {count : ℕ} {found : List ℕ} {area : List Entry} {count' : ℕ} {found' : List ℕ} {area' : List Entry}
-      → Turn part on slots count found area count' found' area' → (all more : ℕ) → all ≡ length slots + more → count + all < 2 ^ 32 → count' + more < 2 ^ 32
-  turn_few {part} {on} {slots} t all more e f = omega (arith, t.counts, count_le on slots, e)
-
   pub turn_most : {part on : ℕ} {slots : List Row} {count : ℕ} {found : List ℕ} {area : List Entry} {count' : ℕ} {found' : List ℕ} {area' : List Entry}
       → Turn part on slots count found area count' found' area' → count' ≤ count + length slots
   turn_most {part} {on} {slots} t = omega (arith, t.counts, count_le on slots)
 
+  -- the same of hits with the places they go to
+  pub record Visited (on : ℕ) (slots : List Row) (count : ℕ) (before : Hits) (count' : ℕ) (after : Hits) : Type 0 where
+    pub counts : count' ≡ count + count_on batch on slots
+    pub hits : Collected before (hits_on batch on slots) after
+
+  pub visited_skipped : (on : ℕ) (slots : List Row) → (length slots ≡ 0) ⊎ (on ≡ 0) → (count : ℕ) (to : Hits) → Visited on slots count to count to
+  visited_skipped on slots none count to =
+      record { counts = omega (arith, no_count_lem on slots none); hits = collected_none (hits_on batch on slots) to (no_hits on slots none) }
+
+  -- it leaves room for the slots behind it, where there was room for all
+  pub visited_rooms : {on : ℕ} {slots : List Row} {count : ℕ} {before : Hits} {count' : ℕ} {after : Hits} → Visited on slots count before count' after
+      → (set all more : ℕ) → all ≡ length slots + more → Rooms set all before → Rooms set more after
+  visited_rooms {on} {slots} v set all more e r =
+      (λ j is. part_after v.hits j (r.0 j is), fewer_after v.hits (λ j. omega (arith, hits_le on slots j, e)) r.1)
+
+  pub visited_few : {on : ℕ} {slots : List Row} {count : ℕ} {before : Hits} {count' : ℕ} {after : Hits} → Visited on slots count before count' after
+      → (all more : ℕ) → all ≡ length slots + more → count + all < 2 ^ 32 → count' + more < 2 ^ 32
+  visited_few {on} {slots} v all more e f = omega (arith, v.counts, count_le on slots, e)
+
+  -- a slot alone leaves room for the slots behind it
+  pub alone_fewer : (on : ℕ) (s : Row) {before after : Hits} → Collected before (alone_on batch on s) after
+      → (all more : ℕ) → all ≡ 1 + more → Fewer all before.found.now → Fewer more after.found.now
+  alone_fewer on s c all more e f = fewer_after c (λ j. omega (arith, alone_one batch on s j, e)) f
+
   -- the two halves, the one after the other
-  pub both_halves : {part left right : ℕ} (rest : List Row) {count : ℕ} {found : List ℕ} {area : List Entry} {count₁ : ℕ} {found₁ : List ℕ} {area₁ : List Entry} {count₂ : ℕ} {found₂ : List ℕ} {area₂ : List Entry}
-      → Turn part left (take (left_size (suc (length rest))) rest) count found area count₁ found₁ area₁ → Turn part right (drop (left_size (suc (length rest))) rest) count₁ found₁ area₁ count₂ found₂ area₂
-      → (count₂ ≡ count + count_in_halves batch left right rest) × Collects part (hits_in_halves batch left right rest) found area found₂ area₂
+  pub both_halves : {left right : ℕ} (rest : List Row) {count : ℕ} {before : Hits} {count₁ : ℕ} {mid : Hits} {count₂ : ℕ} {after : Hits}
+      → Visited left (take (left_size (suc (length rest))) rest) count before count₁ mid → Visited right (drop (left_size (suc (length rest))) rest) count₁ mid count₂ after
+      → (count₂ ≡ count + count_in_halves batch left right rest) × Collected before (hits_in_halves batch left right rest) after
   unfolding count_in_halves hits_in_halves
-  both_halves {part} {left} {right} rest t u = (
-    omega (arith, t.counts, u.counts),
-    collects_both (hits_in_halves batch left right rest) (λ j. refl) t.hits u.hits,
+  both_halves {left} {right} rest v w = (
+    omega (arith, v.counts, w.counts),
+    collected_both (hits_in_halves batch left right rest) (λ j. refl) v.hits w.hits,
   )
 
   -- a query that enters a half has its own hits there, and another none
@@ -161,42 +168,37 @@ module _ (header : Row) (queries : List Row) (on left right : ℕ) (s : Row) (re
       (sym (chosen_selected (goes_right dist s) queries (is_on on) (is_on right) (λ j h. rights j)))
 
 -- a slot's visit and then its halves' leave what the tree's visit does
-pub tree_visit : (batch : List Row) (part on left right : ℕ) (slots : List Row) → 0 < length slots → length batch ≡ 17 → on < 2 ^ 16 → (on ≡ 0 → ⊥)
+pub tree_visit : (batch : List Row) (on left right : ℕ) (slots : List Row) → 0 < length slots → length batch ≡ 17 → on < 2 ^ 16 → (on ≡ 0 → ⊥)
     → ((j : ℕ) → is_on left j ≡ (is_on on j && goes_left_at batch (get_or slots 0 []) j)) → ((j : ℕ) → is_on right j ≡ (is_on on j && goes_right_at batch (get_or slots 0 []) j))
-    → (count : ℕ) {found : List ℕ} {area : List Entry} {found₁ : List ℕ} {area₁ : List Entry} {found₂ : List ℕ} {area₂ : List Entry}
-    → Collects part (alone_on batch on (get_or slots 0 [])) found area found₁ area₁
+    → (count : ℕ) {before mid after : Hits} → Collected before (alone_on batch on (get_or slots 0 [])) mid
     → (r : ℕ) → r ≡ count + 1 + count_in_halves batch left right (take (length slots - 1) (drop 1 slots))
-    → Collects part (hits_in_halves batch left right (take (length slots - 1) (drop 1 slots))) found₁ area₁ found₂ area₂
-    → (r ≡ count + count_on batch on slots) × Collects part (hits_on batch on slots) found area found₂ area₂
-tree_visit batch part on left right [] z b n m lefts rights count alone r e halves = absurd (omega arith)
-tree_visit [] part on left right (s ∷ rest) z b n m lefts rights count alone r e halves = absurd (omega arith)
-tree_visit (header ∷ queries) part on left right (s ∷ rest) z b n m lefts rights count alone r e halves =
+    → Collected mid (hits_in_halves batch left right (take (length slots - 1) (drop 1 slots))) after
+    → (r ≡ count + count_on batch on slots) × Collected before (hits_on batch on slots) after
+tree_visit batch on left right [] z b n m lefts rights count alone r e halves = absurd (omega arith)
+tree_visit [] on left right (s ∷ rest) z b n m lefts rights count alone r e halves = absurd (omega arith)
+tree_visit (header ∷ queries) on left right (s ∷ rest) z b n m lefts rights count alone r e halves =
     let whole : take (length (s ∷ rest) - 1) (drop 1 (s ∷ rest)) ≡ rest = part_rest 1 (s ∷ rest) in (
       omega (arith, e, ap (count_in_halves (header ∷ queries) left right) whole, first_count header queries on left right s rest lefts rights (omega (arith, b)) n m),
-      collects_both (hits_on (header ∷ queries) on (s ∷ rest))
+      collected_both (hits_on (header ∷ queries) on (s ∷ rest))
           (λ j. first-hits (header ∷ queries) on left right s rest lefts rights j ∙ ap (λ (xs : List Row). alone_on (header ∷ queries) on s j ++ hits_in_halves (header ∷ queries) left right xs j) (sym whole))
           alone halves,
     )
 
 -- and without slots there is nothing to do
-pub tree_none : (batch : List Row) (part on : ℕ) (slots : List Row) → length slots ≡ 0 → (count : ℕ) (found : List ℕ) (area : List Entry)
-    → (count ≡ count + count_on batch on slots) × Collects part (hits_on batch on slots) found area found area
-tree_none batch part on slots none count found area = let t = turn_skipped batch part on slots (inl none) count found area in (t.counts, t.hits)
+pub tree_none : (batch : List Row) (on : ℕ) (slots : List Row) → length slots ≡ 0 → (count : ℕ) (to : Hits)
+    → (count ≡ count + count_on batch on slots) × Collected to (hits_on batch on slots) to
+tree_none batch on slots none count to = let v = visited_skipped batch on slots (inl none) count to in (v.counts, v.hits)
 
 -- one query alone: its single search's count and hits are the set's
-pub tree_alone : (batch : List Row) (part on j : ℕ) (slots : List Row) → length batch ≡ 17 → Single on j → j < 16
+pub tree_alone : (batch : List Row) (on j : ℕ) (slots : List Row) → length batch ≡ 17 → Single on j → j < 16
     → (count : ℕ) {r : ℕ} → r ≡ count + (range_asked (asked_at batch j) slots).count
-    → {found : List ℕ} {area : List Entry} {found' : List ℕ} {area' : List Entry} → Collects part (only j (range_asked (asked_at batch j) slots).hits) found area found' area'
-    → (r ≡ count + count_on batch on slots) × Collects part (hits_on batch on slots) found area found' area'
+    → {before after : Hits} → Collected before (only j (range_asked (asked_at batch j) slots).hits) after
+    → (r ≡ count + count_on batch on slots) × Collected before (hits_on batch on slots) after
 unfolding count_on only
-tree_alone [] part on j slots b one few count e c = absurd (omega arith)
-tree_alone (header ∷ queries) part on j slots b one few count e {found} {area} c = (
+tree_alone [] on j slots b one few count e c = absurd (omega arith)
+tree_alone (header ∷ queries) on j slots b one few count e c = (
   e ∙ ap (λ (n : ℕ). count + n) counts,
-  record {
-    same = c.same;
-    numbers = λ i. c.numbers i ∙ ap (λ (xs : List Entry). get_or found i 0 + length xs) (same i);
-    parts = λ i. c.parts i ∙ ap (sets (part_at part i area) (get_or found i 0)) (same i);
-  },
+  collected_alike (hits_on (header ∷ queries) on slots) (λ i. sym (same i)) c,
 )
   where
     counts : (range_asked (asked_at (header ∷ queries) j) slots).count ≡ length (reached_by_some (distance_asked (header ∷ queries)) (chosen (is_on on) queries) slots)

@@ -8,6 +8,7 @@ use Rattle.search_rules.specs.Range.{Entry, to_query, enters_left, enters_right}
 use Rattle.search_asked.specs.Asked.{distance_asked, query_asked, reports_asked, radius_asked}
 use Rattle.tree_range.specs.Collected.{met_alone, range_asked}
 use Rattle.batch_rules.specs.Batch.{reached_by_some}
+use Rattle.tree_range_batch.specs.declared.Hits.{Hits}
 
 -- bit j of a set
 unfoldable pub is_on : ℕ → ℕ → Bool
@@ -88,3 +89,17 @@ pub record Collects (size : ℕ) (hits : ℕ → List Entry) (found : List ℕ) 
   pub same : length found' ≡ length found
   pub numbers : (j : ℕ) → get_or found' j 0 ≡ get_or found j 0 + length (hits j)
   pub parts : (j : ℕ) → part_at size j area' ≡ sets (part_at size j area) (get_or found j 0) (hits j)
+
+-- query j has its part in the area and room for so many hits more in its number, and so has each query of a set
+abbrev pub Room : ℕ → ℕ → Hits → Type 0
+Room j more to = (j < 16) × (suc j * to.part ≤ length to.area.now) × Fewer more to.found.now
+
+abbrev pub Rooms : ℕ → ℕ → Hits → Type 0
+Rooms on more to = Parts to.part on to.area.now × Fewer more to.found.now
+
+-- the hits go to their parts, which are cut as they were; area and numbers are those that were lent
+pub record Collected (before : Hits) (hits : ℕ → List Entry) (after : Hits) : Type 0 where
+  pub collects : Collects before.part hits before.found.now before.area.now after.found.now after.area.now
+  pub part : after.part ≡ before.part
+  pub size : length after.area.now ≡ length before.area.now
+  pub names : (after.area.ghost_name ≡ before.area.ghost_name) × (after.found.ghost_name ≡ before.found.ghost_name)

@@ -13,18 +13,18 @@ use Rattle.tree_nearest.proofs.TakingIn.{taken_far, taken_unreported, taken_repo
 use Rattle.tree_nearest.proofs.Steps.{one_reported}
 use Rattle.tree_nearest.proofs.take_in.Goals as goal
 
-pub returns-then-bound-d : goal.returns-then-bound-d
-returns-then-bound-d c =
+pub returns-then-near-d : goal.returns-then-near-d
+returns-then-near-d c =
     let a = c.args in
-    taken_far (may_report a.query.now) c.requires.1.held a.near.count a.row.now a.d c.if-bound-d.true c.requires.0
+    taken_far (may_report a.query.now) c.requires.1.held a.near.count a.row.now a.d c.if-near-d.true c.requires.0
 
 pub returns-then-not-may_report : goal.returns-then-not-may_report
 returns-then-not-may_report c =
     let a = c.args in
     taken_unreported (may_report a.query.now) c.requires.1.held a.near.count a.row.now a.d (sym c.may_report.ensures ∙ c.if-not-may_report.true)
 
-pub keep_entry-next-requires : goal.keep_entry-next-requires
-keep_entry-next-requires c =
+pub keep_entry-bound-requires : goal.keep_entry-bound-requires
+keep_entry-bound-requires c =
     let a = c.args in
     -- an item that is kept may be reported
     let reported : may_report a.query.now a.row.now ≡ true = sym c.may_report.ensures ∙ c.if-not-may_report.false in
@@ -38,6 +38,6 @@ returns c =
     let reported : may_report a.query.now a.row.now ≡ true = sym c.may_report.ensures ∙ c.if-not-may_report.false in
     let new : Entry = c.tag_of.result ∷ a.d ∷ [] in
     let kept = subst
-    (λ (n : ℕ). (c.keep_entry-next.result ≡ bound_of n (keep n (new ∷ kept_of n a.area.now a.near.bound))) × (c.keep_entry-next.new.area ≡ in_front (keep n (new ∷ kept_of n a.area.now a.near.bound)) a.area.now))
-    c.threshold_of-k.ensures (c.keep_entry-next.ensures.bound, c.keep_entry-next.ensures.area) in
+    (λ (n : ℕ). (c.keep_entry-bound.result ≡ bound_of n (keep n (new ∷ kept_of n a.area.now a.near.bound))) × (c.keep_entry-bound.new.area ≡ in_front (keep n (new ∷ kept_of n a.area.now a.near.bound)) a.area.now))
+    c.threshold_of-k.ensures (c.keep_entry-bound.ensures.bound, c.keep_entry-bound.ensures.area) in
     taken_reported (may_report a.query.now) c.requires.1.held a.near.count a.row.now a.d reported new (ap (λ (n : ℕ). n ∷ a.d ∷ []) c.tag_of.ensures) _ _ kept.0 kept.1

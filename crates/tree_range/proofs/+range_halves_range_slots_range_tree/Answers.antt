@@ -2,7 +2,8 @@
 -- nothing. Seven slots or fewer are the leaf's.
 use mathlib.Core.Path.{◌≡◌, refl, sym, ap, ◌∙◌}
 use mathlib.Core.List.{List, []}
-use borrow.Author.Tests.{le-leb, lt-leb}
+use borrow.Author.Tests.{tests, le-leb, lt-leb}
+use borrow.Author.Rules.{rules}
 use lib.Dec.{leb}
 use Rattle.tree_rules.proofs.Parts.{left_size_lem, part_rest}
 use Rattle.metric_rules.specs.Row.{Row}
@@ -126,9 +127,10 @@ range_slots-returns t c =
     c.range_halves.result c.range_halves.new.area c.range_halves.ensures.reply c.range_halves.ensures.area
     in record { reply = all.0; area = all.1 }
 
-pub range_tree-returns-then-slots-eq0 : goal.range_tree-returns-then-slots-eq0
-range_tree-returns-then-slots-eq0 t c =
+pub range_tree-returns-then-is_empty : goal.range_tree-returns-then-is_empty
+range_tree-returns-then-is_empty t c =
     let a = c.args in
+    let none : length a.slots.now ≡ 0 = search (rules, tests) in
     let all =
-    leaves_as a.found a.area.now (sym (tree_empty (distance_asked a.asked.now) (query_asked a.asked.now) (reports_asked a.asked.now) (radius_asked a.asked.now) a.slots.now c.if-slots-eq0.true)) (leaves_nothing a.found a.area.now refl refl)
+    leaves_as a.found a.area.now (sym (tree_empty (distance_asked a.asked.now) (query_asked a.asked.now) (reports_asked a.asked.now) (radius_asked a.asked.now) a.slots.now none)) (leaves_nothing a.found a.area.now refl refl)
     in record { reply = all.0; area = all.1 }

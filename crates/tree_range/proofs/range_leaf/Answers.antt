@@ -1,23 +1,10 @@
 -- `tree_range::range_leaf` meets its contract: slots that are passed over have no hit, and others are visited by their distances.
-use Prim.Native.Nat.{ℕ, ◌≤◌}
 use native.Mathlib.Omega.{arith}
-use mathlib.Core.Path.{◌≡◌, sym}
-use lib.ListN.{length, take, length-take}
 use Rattle.search_rules.proofs.RangeLaws.{range_count_le}
 use Rattle.search_asked.specs.Asked.{distance_asked, query_asked, reports_asked}
-use Rattle.metric_rules.specs.Row.{Row}
-use mathlib.Core.List.{List}
-use Rattle.tree_leaf.specs.Leaf.{distances_asked}
 use Rattle.tree_leaf.proofs.Known.{known_asked}
 use Rattle.tree_range.proofs.Leaves.{leaf_passed}
 use Rattle.tree_range.proofs.range_leaf.Goals as goal
-
--- the distances worked out are as many as the slots
-as_many : (asked slots : List Row) (ds : List ℕ) → take (length slots) ds ≡ distances_asked asked slots → length (take (length slots) ds) ≡ length slots
-as_many asked slots ds e = (known_asked asked slots (take (length slots) ds) e).each
-
-enough : (asked slots : List Row) (ds : List ℕ) → take (length slots) ds ≡ distances_asked asked slots → length slots ≤ length ds
-enough asked slots ds e = omega (arith, as_many asked slots ds e, length-take (length slots) ds)
 
 pub passed_over-passed-requires : goal.passed_over-passed-requires
 passed_over-passed-requires c =
@@ -36,15 +23,3 @@ returns-then-radius-least c =
     leaf_passed a.asked.now a.slots.now a.found a.area.now c.threshold_of-radius.result c.distances_of-least.result c.passed_over-passed.result c.threshold_of-radius.ensures c.if-radius-least.true c.distances_of-least.ensures.least
     (c.passed_over-passed.ensures (distance_asked a.asked.now) (query_asked a.asked.now) (reports_asked a.asked.now) c.distances_of-least.ensures.each) in
     record { reply = passed.0; area = passed.1 }
-
-pub slice_bounds-ds-end : goal.slice_bounds-ds-end
-slice_bounds-ds-end c = enough c.args.asked.now c.args.slots.now _ c.distances_of-least.ensures.each
-
-pub slice_bounds-passed_over-end : goal.slice_bounds-passed_over-end
-slice_bounds-passed_over-end c = sym (as_many c.args.asked.now c.args.slots.now _ c.distances_of-least.ensures.each)
-
-pub slice_bounds-ds-end-2 : goal.slice_bounds-ds-end-2
-slice_bounds-ds-end-2 c = enough c.args.asked.now c.args.slots.now _ c.distances_of-least.ensures.each
-
-pub slice_bounds-range_seven-end : goal.slice_bounds-range_seven-end
-slice_bounds-range_seven-end c = sym (as_many c.args.asked.now c.args.slots.now _ c.distances_of-least.ensures.each)

@@ -65,15 +65,3 @@ returns-else-m-d c =
     (at_map (to_asked a.asked.now) a.slots.now a.ds.now c.requires.2 0 c.requires.0) c.threshold_of-m.ensures c.threshold_of-radius.ensures
     (half_skipped a.asked.now _ (right_part_lem a.slots.now) c.if-d-m.met c.if-d-m.area _ _ (lt-leb _ _ c.if-m-d.false) refl refl)
     in record { reply = all.0; area = all.1 }
-
-pub bounds-ds-0 : goal.bounds-ds-0
-bounds-ds-0 c = omega (arith, (known_asked c.args.asked.now c.args.slots.now c.args.ds.now c.requires.2).each, c.requires.0)
-
-pub slice_bounds-range_three-end-then-d-m : goal.slice_bounds-range_three-end-then-d-m
-slice_bounds-range_three-end-then-d-m c = omega (arith, (known_asked c.args.asked.now c.args.slots.now c.args.ds.now c.requires.2).each, c.if-n-lt4.false)
-
-pub slice_bounds-range_three-count-then-m-d-2 : goal.slice_bounds-range_three-count-then-m-d-2
-slice_bounds-range_three-count-then-m-d-2 c = omega (arith, (known_asked c.args.asked.now c.args.slots.now c.args.ds.now c.requires.2).each, c.if-n-lt4.false)
-
-pub slice_bounds-range_three-start-then-m-d-2 : goal.slice_bounds-range_three-start-then-m-d-2
-slice_bounds-range_three-start-then-m-d-2 c = omega (arith, (known_asked c.args.asked.now c.args.slots.now c.args.ds.now c.requires.2).each, c.if-n-lt4.false)

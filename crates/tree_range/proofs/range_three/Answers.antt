@@ -12,9 +12,6 @@ use Rattle.tree_range.proofs.Leaves.{room-left, leaf-visit}
 use Rattle.tree_range.proofs.range_three.Goals as goal
 use Rattle.tree_range.proofs.range_three.Goals.{then-n-d, else-n-d}
 
-pub bounds-ds-0 : goal.bounds-ds-0
-bounds-ds-0 c = omega (arith, (known_asked c.args.asked.now c.args.slots.now c.args.ds.now c.requires.2).each, c.requires.0)
-
 -- from the halves' tests back: the first slot's visit, the radius, the threshold, and the start
 pub meet-met-requires-then-n-d : goal.meet-met-requires-then-n-d
 meet-met-requires-then-n-d c =
@@ -92,15 +89,3 @@ returns-else-n-m c =
     (one_skipped a.asked.now _ (right_part_lem a.slots.now) 2 (length a.slots.now) (λ few. omega (arith, right_part_size a.slots.now, few, c.requires.0)) c.if-n-m.false)
     (leaves_nothing c.if-n-d.met c.if-n-d.area refl refl))
     in record { reply = all.0; area = all.1 }
-
-pub bounds-slots-1 : goal.bounds-slots-1
-bounds-slots-1 c = (two_tests 1 (length c.args.slots.now) _ c.if-n-d.true).0
-
-pub bounds-ds-1 : goal.bounds-ds-1
-bounds-ds-1 c = omega (arith, (known_asked c.args.asked.now c.args.slots.now c.args.ds.now c.requires.2).each, (two_tests 1 (length c.args.slots.now) _ c.if-n-d.true).0)
-
-pub bounds-slots-2 : goal.bounds-slots-2
-bounds-slots-2 c = (two_tests 2 (length c.args.slots.now) _ c.if-n-m.true).0
-
-pub bounds-ds-2 : goal.bounds-ds-2
-bounds-ds-2 c = omega (arith, (known_asked c.args.asked.now c.args.slots.now c.args.ds.now c.requires.2).each, (two_tests 2 (length c.args.slots.now) _ c.if-n-m.true).0)

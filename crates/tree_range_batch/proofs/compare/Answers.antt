@@ -11,7 +11,7 @@ use Rattle.search_rules.specs.Range.{to_query, enters_left, enters_right}
 use Rattle.search_asked.specs.Asked.{distance_asked, query_asked, radius_asked}
 use Rattle.tree_range.specs.Collected.{met_alone}
 use Rattle.tree_range_batch.specs.Together.{bit_if, asked_at, goes_left_at, goes_right_at, only, hits_alone}
-use Rattle.tree_range_batch.proofs.Parts.{collects_alike, only_hits}
+use Rattle.tree_range_batch.proofs.Parts.{collected_alike, only_hits}
 use Rattle.tree_range_batch.proofs.compare.Goals as goal
 
 pub returns : goal.returns
@@ -30,7 +30,7 @@ returns c =
         c.bit_if.ensures ∙ (λ i. bit_if (leb (d i) (m i + r i)) a.bit),
         c.bit_if-2.ensures ∙ (λ i. bit_if (leb (m i) (d i + r i)) a.bit),
       );
-      hits = collects_alike (only a.j (hits_alone a.batch.now a.row a.j))
+      hits = collected_alike (only a.j (hits_alone a.batch.now a.row a.j))
           (only_hits a.j _ _ (sym (λ i. (met_alone (may_report (get_or a.batch.now (add-one a.j i) [])) a.row (d i) (threshold_of (get_or a.batch.now (add-one a.j i) []))).hits)))
           c.meet_query.ensures;
     }

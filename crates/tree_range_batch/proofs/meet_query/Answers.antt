@@ -11,7 +11,7 @@ use Rattle.tree_range.proofs.Collecting.{missed_hits, alone_hits}
 use mathlib.Core.List.{[], ◌∷◌}
 use Rattle.search_rules.specs.Range.{entry}
 use Rattle.tree_range_batch.specs.Together.{only}
-use Rattle.tree_range_batch.proofs.Parts.{collects_none, collects_alike, only_hits, only_none}
+use Rattle.tree_range_batch.proofs.Parts.{collected_none, collected_alike, only_hits, only_none}
 use Rattle.tree_range_batch.proofs.meet_query.Goals as goal
 
 -- what the code tests is what makes a hit
@@ -27,9 +27,9 @@ returns-then-may_report-d c =
     let radius = threshold_of a.query.now in
     let is = sym (tested _ _ a.query.now a.row a.d c.may_report.ensures c.threshold_of.ensures) ∙ c.if-may_report-d.true in
     let hits = alone_hits reports a.row a.d radius (and_first (reports a.row) (leb a.d radius) is) (leb-true a.d radius (and_second (reports a.row) (leb a.d radius) is)) in
-    collects_alike (only a.j (met_alone reports a.row a.d radius).hits)
+    collected_alike (only a.j (met_alone reports a.row a.d radius).hits)
     (only_hits a.j _ _ (hits ∙ ap (λ (n : ℕ). entry n a.d ∷ []) (sym c.tag_of.ensures)))
-    c.put_hit.ensures
+    c.put.ensures
 
 pub returns-else-may_report-d : goal.returns-else-may_report-d
 returns-else-may_report-d c =
@@ -38,5 +38,5 @@ returns-else-may_report-d c =
     missed_hits (may_report a.query.now) a.row a.d (threshold_of a.query.now)
     (sym (tested _ _ a.query.now a.row a.d c.may_report.ensures c.threshold_of.ensures) ∙ c.if-may_report-d.false)
     in
-    collects_none a.part (only a.j (met_alone (may_report a.query.now) a.row a.d (threshold_of a.query.now)).hits) a.found.now a.area.now
+    collected_none (only a.j (met_alone (may_report a.query.now) a.row a.d (threshold_of a.query.now)).hits) a.hits.now
     (λ i. only_hits a.j [] _ missed i ∙ only_none a.j i)
