@@ -1,43 +1,51 @@
 // Add: the refusals in their order, and the accepted call.
 #![tactic(auto)]
 
-ghost use Rattle.std.specs.Prelude.{◌≡◌};
+ghost use Rattle.std.specs.Prelude.{◌≡◌, IfOk};
+ghost use Rattle.refusals.specs.Number.{refusal_in};
+ghost use Rattle.table_rules.specs.Table.{order_of};
 ghost use Rattle.table_rules.specs.Add.{add_refusal, add_reply, table_after_add, work_after_add};
-ghost use Rattle.table_checks.specs.Answers.{checked};
 
 use metric_rules::{Profile, Row};
-use table_checks::{Checked, change_check};
+use refusals::Refusal;
+use table_checks::change_check;
 use table_insert::insert;
 use table_look_up::is_live_tag;
-use table_rules::{ALREADY_LIVE, Added, BAD_DAY, BAD_MEASURE, BAD_TAG, FULL};
-use table_views::live_total;
+use table_order::Order;
+use table_rules::Added;
 use validity::{valid_day, valid_measures, valid_tag};
 
-// The first refusal that applies, in the call's order, or the table's order.
-fn add_check(table: &[Row], work: &[Row], tag: u64, profile: Profile, day: u32) -> Checked
-    ensures { result ≡ checked (add_refusal table.now work.now tag profile day) table.now }
+// The table's order, or the first refusal that applies, in the call's order. An item's tag, profile and day go on as C's
+// call has them.
+#[tactic(auto, unfolding(table_rules::specs::Add::add_refusal))]
+fn add_check(
+    table: &[Row],
+    work: &[Row],
+    tag: u64,
+    profile: Profile,
+    day: u32,
+) -> Result<Order, Refusal>
+    ensures refusal { refusal_in result ≡ add_refusal table.now work.now tag profile day }
+    ensures order { IfOk result (λ order. order.t ≡ order_of table.now) }
 {
-    let first = change_check(table, work.len());
-    let Checked::Passes(order) = first else {
-        return first;
-    };
+    let table = change_check(table, work.len())?;
     if !valid_tag(tag) {
-        return Checked::Refused(BAD_TAG);
+        return Err(Refusal::BadTag);
     }
     if !valid_measures(profile) {
-        return Checked::Refused(BAD_MEASURE);
+        return Err(Refusal::BadMeasure);
     }
     if !valid_day(day) {
-        return Checked::Refused(BAD_DAY);
+        return Err(Refusal::BadDay);
     }
-    if is_live_tag(table, order, tag) {
-        return Checked::Refused(ALREADY_LIVE);
+    if is_live_tag(table, tag) {
+        return Err(Refusal::AlreadyLive);
     }
-    let most = order.work_rows() as u64;
-    if most <= live_total(table, order) {
-        return Checked::Refused(FULL);
+    let most = table.order.work_rows() as u64;
+    if most <= table.live_total() {
+        return Err(Refusal::Full);
     }
-    Checked::Passes(order)
+    Ok(table.order)
 }
 
 // An item is put in, for every table, work area, tag, profile and day.
@@ -47,11 +55,11 @@ pub fn add(table: &mut [Row], work: &mut [Row], tag: u64, profile: Profile, day:
     ensures work { work.new ≡ work_after_add table.old work.old tag profile day }
 {
     match add_check(table, work, tag, profile, day) {
-        Checked::Refused(refusal) => Added {
-            refusal,
+        Err(refusal) => Added {
+            refusal: u32::from(refusal),
             bucket: 0,
             distances: 0,
         },
-        Checked::Passes(order) => insert(table, work, order, tag, profile, day),
+        Ok(order) => insert(table, work, order, tag, profile, day),
     }
 }

@@ -14,11 +14,9 @@ use Rattle.table_rules.specs.Geometry.{room, table_rows, work_rows}
 use Rattle.table_rules.specs.Table.{Table, order_of, table_space, live_slots, put_bucket, emptied, cleared}
 use Rattle.table_rules.specs.Rebuild.{live_items, rebuilt}
 use Rattle.table_rules.specs.Remove.{united}
-use Rattle.table_rules.proofs.Puts.{emptied_only}
 use Rattle.table_rules.proofs.Fill.{rooms_grow}
 use Rattle.tree_rules.proofs.Stores.{sets_more, sets_front}
-use Rattle.table_buckets.specs.OfOrder.{OfOrder, BuiltFits}
-use Rattle.table_buckets.proofs.Places.{lent_only}
+use Rattle.table_buckets.specs.OfOrder.{BuiltFits}
 use Rattle.table_rebuild.proofs.Filling.{cleared_stored, rebuilt_by}
 
 -- the n rows that a work area begins with are the live items of the buckets listed
@@ -66,9 +64,6 @@ module _ {t : Table} {order : ℕ} {ks : List ℕ} {to : ℕ} {work : List Row} 
   pub few : length (live_items t ks) ≤ work_rows order
   unfolding work_rows
   few = le_trans fits.room_for (rooms_grow fits.reached)
-
-  pub lent_emptied : OfOrder (emptied ks t) order
-  lent_emptied = lent_only fits.built_fits.lent (emptied_only ks t fits.inside long)
 
   module _ {n : ℕ} {used : List Row} (gathered : Gathered t ks work n used) where
     pub rows_taken : take n used ≡ live_items t ks

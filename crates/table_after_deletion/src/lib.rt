@@ -12,35 +12,42 @@ ghost use Rattle.table_buckets.specs.OfOrder.{BuiltFits};
 ghost use Rattle.table_after_deletion.specs.Lost.{Lost};
 
 use metric_rules::Row;
-use table_buckets::{empty_bucket, gather_bucket};
+use table_buckets::{Buckets, Gathered};
 use table_order::Order;
 use table_rebuild::{build_bucket, clear};
-use table_views::{in_use, live_of};
 
 // D ← Unbuild(B_k) ∪ Unbuild(B_other), the live items of bucket k first; both become null, and B_target ← Build(D).
-fn unite(table: &mut [Row], order: Order, k: u32, other: u32, target: u32, work: &mut [Row]) -> u32
-    requires { BuiltFits table.old order.t × (k ≤ order.t) × (other ≤ order.t) × (target ≤ order.t) × (length (live_items table.old (k ∷ other ∷ [])) ≤ room target) × (work_rows order.t ≤ length work.old) }
-    ensures table { table.new ≡ (united table.old (k ∷ other ∷ []) target).table }
-    ensures work { work.new ≡ cleared zero_row (work_rows order.t) work.old }
-    ensures counted { result ≡ (united table.old (k ∷ other ∷ []) target).distances }
+fn unite(buckets: &mut Buckets, k: u32, other: u32, target: u32, work: &mut [Row]) -> u32
+    requires { (k ≤ buckets.old.order.t) × (other ≤ buckets.old.order.t) × (target ≤ buckets.old.order.t)
+        × (length (live_items buckets.old.rows.now (k ∷ other ∷ [])) ≤ room target)
+        × (work_rows buckets.old.order.t ≤ length work.old) }
+    ensures same_area { buckets.new.rows.ghost_name ≡ buckets.old.rows.ghost_name }
+    ensures rows { buckets.new.rows.now ≡ (united buckets.old.rows.now (k ∷ other ∷ []) target).table }
+    ensures work { work.new ≡ cleared zero_row (work_rows buckets.old.order.t) work.old }
+    ensures counted { result ≡ (united buckets.old.rows.now (k ∷ other ∷ []) target).distances }
 {
-    let first = gather_bucket(table, order, k, work, 0);
-    let n = gather_bucket(table, order, other, work, first);
-    empty_bucket(table, order, k);
-    empty_bucket(table, order, other);
-    build_bucket(table, order, target, work, n)
+    let mut gathered = Gathered { work, n: 0 };
+    buckets.gather(k, &mut gathered);
+    buckets.gather(other, &mut gathered);
+    buckets.empty(k);
+    buckets.empty(other);
+    build_bucket(buckets, target, gathered)
 }
 
 // D ← Unbuild(B_k); B_k becomes null, and B_target ← Build(D).
-fn move_down(table: &mut [Row], order: Order, k: u32, target: u32, work: &mut [Row]) -> u32
-    requires { BuiltFits table.old order.t × (k ≤ order.t) × (target ≤ order.t) × (length (live_items table.old (k ∷ [])) ≤ room target) × (work_rows order.t ≤ length work.old) }
-    ensures table { table.new ≡ (moved table.old k target).table }
-    ensures work { work.new ≡ cleared zero_row (work_rows order.t) work.old }
-    ensures counted { result ≡ (moved table.old k target).distances }
+fn move_down(buckets: &mut Buckets, k: u32, target: u32, work: &mut [Row]) -> u32
+    requires { (k ≤ buckets.old.order.t) × (target ≤ buckets.old.order.t)
+        × (length (live_items buckets.old.rows.now (k ∷ [])) ≤ room target)
+        × (work_rows buckets.old.order.t ≤ length work.old) }
+    ensures same_area { buckets.new.rows.ghost_name ≡ buckets.old.rows.ghost_name }
+    ensures rows { buckets.new.rows.now ≡ (moved buckets.old.rows.now k target).table }
+    ensures work { work.new ≡ cleared zero_row (work_rows buckets.old.order.t) work.old }
+    ensures counted { result ≡ (moved buckets.old.rows.now k target).distances }
 {
-    let n = gather_bucket(table, order, k, work, 0);
-    empty_bucket(table, order, k);
-    build_bucket(table, order, target, work, n)
+    let mut moving = Gathered { work, n: 0 };
+    buckets.gather(k, &mut moving);
+    buckets.empty(k);
+    build_bucket(buckets, target, moving)
 }
 
 // Lines 8 to 26. Line 7 marked an item of B_k dead and took none out, so |B_k| is the live size, which fell by one.
@@ -52,10 +59,11 @@ pub fn after_deletion(table: &mut [Row], order: Order, k: u32, work: &mut [Row])
     ensures work { work.new ≡ cleared zero_row (work_rows order.t) work.old }
     ensures counted { result ≡ (after_deletion table.old k).distances }
 {
-    let live = live_of(table, k) as usize;
+    let mut buckets = Buckets { rows: table, order };
+    let live = buckets.live(k) as usize;
     // By the rules alone: none left, which k = 0 or 1 come to. B_k becomes null.
     if live == 0 {
-        empty_bucket(table, order, k);
+        buckets.empty(k);
         clear(work, order, 0);
         return 0;
     }
@@ -65,18 +73,18 @@ pub fn after_deletion(table: &mut [Row], order: Order, k: u32, work: &mut [Row])
         return 0;
     }
     // Lines 10 and 11: here |B_k| = 2^(k-2) and k ≥ 2.
-    if in_use(table, k - 1) {
+    if buckets.in_use(k - 1) {
         // Lines 12 to 15: |B_{k-1}| > 2^(k-2).
-        if Order::room(k - 2) < live_of(table, k - 1) as usize {
-            return unite(table, order, k, k - 1, k, work);
+        if Order::room(k - 2) < buckets.live(k - 1) as usize {
+            return unite(&mut buckets, k, k - 1, k, work);
         }
         // Lines 12 and 16 to 18.
-        return unite(table, order, k, k - 1, k - 1, work);
+        return unite(&mut buckets, k, k - 1, k - 1, work);
     }
     // Lines 19 to 22.
-    if in_use(table, k - 2) {
-        return unite(table, order, k, k - 2, k - 1, work);
+    if buckets.in_use(k - 2) {
+        return unite(&mut buckets, k, k - 2, k - 1, work);
     }
     // Lines 23 to 25: the move.
-    move_down(table, order, k, k - 2, work)
+    move_down(&mut buckets, k, k - 2, work)
 }

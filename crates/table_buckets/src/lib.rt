@@ -5,17 +5,18 @@ ghost use Rattle.std.specs.Prelude.{◌≡◌, [], ◌+◌, ◌≤◌, ◌<◌, 
 ghost use Rattle.std.proofs.lemmas.List.Edits.{sets};
 ghost use Rattle.lists.specs.Lists.{select};
 ghost use Rattle.metric_rules.specs.Row.{is_live};
-ghost use Rattle.table_rules.specs.Geometry.{room, sizes_row};
-ghost use Rattle.table_rules.specs.Table.{built_of, live_slots, pair_row, put_sizes, put_bucket};
-ghost use Rattle.table_buckets.specs.OfOrder.{OfOrder};
+ghost use Rattle.table_rules.specs.Geometry.{sizes_row};
+ghost use Rattle.table_rules.specs.Table.{in_use, live_of, live_slots, pair_row, put_sizes, put_bucket};
+ghost use Rattle.table_buckets.specs.OfOrder.{BuiltFits};
 
 use metric_rules::{ROW_WIDTH, Row};
 use row_store::zero_rows;
 use rows::is_live;
 use table_order::Order;
-use table_views::{BUILT_AT, LIVE_AT, built_of};
+use table_views::{BUILT_AT, LIVE_AT, built_of, in_use, live_of};
 
 // A sizes row: two words and zeros.
+#[tactic(auto, unfolding(table_rules::specs::Table::pair_row, metric_rules::specs::Row::zero_row))]
 fn pair_row(built: u32, live: u32) -> Row
     ensures { result ≡ pair_row built live }
 {
@@ -26,6 +27,7 @@ fn pair_row(built: u32, live: u32) -> Row
 }
 
 // The sizes of bucket k, their row written whole.
+#[tactic(auto, unfolding(table_rules::specs::Table::put_sizes))]
 pub fn put_sizes(table: &mut [Row], k: u32, built: u32, live: u32)
     requires { sizes_row k < length table.old }
     ensures { table.new ≡ put_sizes k built live table.old }
@@ -33,43 +35,80 @@ pub fn put_sizes(table: &mut [Row], k: u32, built: u32, live: u32)
     table[Order::sizes_row(k)] = pair_row(built, live);
 }
 
-// Bucket k becomes empty: its whole room is zeroed, whatever stood there past the built slots.
-pub fn empty_bucket(table: &mut [Row], order: Order, k: u32)
-    requires { OfOrder table.old order.t × (k ≤ order.t) }
-    ensures { table.new ≡ put_bucket k [] 0 table.old }
-{
-    let first = order.first_slot(k);
-    let end = first + Order::room(k);
-    zero_rows(&mut table[first..end]);
-    put_sizes(table, k, 0, 0);
+// Rows gathered at the front of a work area: its first n.
+#[derive(Drop)]
+pub struct Gathered<'a> {
+    pub work: &'a mut [Row],
+    pub n: usize,
 }
 
-// The live ones of a bucket's slots, in slot order, behind the first n rows of the work area. The reply is the number
-// of rows there now.
-fn gather_live(work: &mut [Row], n: usize, slots: &[Row]) -> usize
-    requires { n + length (select is_live slots.now) ≤ length work.old }
-    ensures { (result ≡ n + length (select is_live slots.now)) × (work.new ≡ sets work.old n (select is_live slots.now)) }
+// The live ones of a bucket's slots, in slot order, behind the rows gathered before.
+fn gather_live(gathered: &mut Gathered, slots: &[Row])
+    requires { gathered.old.n + length (select is_live slots.now) ≤ length gathered.old.work.now }
+    ensures same_area { gathered.new.work.ghost_name ≡ gathered.old.work.ghost_name }
+    ensures n { gathered.new.n ≡ gathered.old.n + length (select is_live slots.now) }
+    ensures work { gathered.new.work.now ≡ sets gathered.old.work.now gathered.old.n (select is_live slots.now) }
 {
-    let mut end = n;
-    let mut i = 0;
-    while i < slots.len() {
-        let row = slots[i];
-        if is_live(row) {
-            work[end] = row;
-            end += 1;
+    for row in slots {
+        if is_live(*row) {
+            gathered.work[gathered.n] = *row;
+            gathered.n += 1;
         }
-        i += 1;
     }
-    end
 }
 
-// The live items of bucket k, in slot order, behind the first n rows of the work area. The reply is the number of rows
-// there now.
-pub fn gather_bucket(table: &[Row], order: Order, k: u32, work: &mut [Row], n: usize) -> usize
-    requires { OfOrder table.now order.t × (k ≤ order.t) × (built_of table.now k ≤ room k) × (n + length (live_slots table.now k) ≤ length work.old) }
-    ensures { (result ≡ n + length (live_slots table.now k)) × (work.new ≡ sets work.old n (live_slots table.now k)) }
-{
-    let first = order.first_slot(k);
-    let end = first + built_of(table, k) as usize;
-    gather_live(work, n, &table[first..end])
+// The buckets of a table lent for a change. Its order is known, its rows are as many as the order needs, and the slots
+// that each bucket's build filled lie in its room.
+#[derive(Drop)]
+pub struct Buckets<'a> {
+    pub rows: &'a mut [Row],
+    pub order: Order,
+    ghost built_fits: { BuiltFits rows.now order.t },
+}
+
+impl<'a> Buckets<'a> {
+    // Whether bucket k is in use.
+    pub fn in_use(&self, k: u32) -> bool
+        requires { k ≤ self.now.order.t }
+        ensures { result ≡ in_use self.now.rows.now k }
+    {
+        in_use(self.rows, k)
+    }
+
+    // The live items of bucket k.
+    pub fn live(&self, k: u32) -> u32
+        requires { k ≤ self.now.order.t }
+        ensures { result ≡ live_of self.now.rows.now k }
+    {
+        live_of(self.rows, k)
+    }
+
+    // Bucket k becomes empty: its whole room is zeroed, whatever stood there past the built slots.
+    pub fn empty(&mut self, k: u32)
+        requires { k ≤ self.old.order.t }
+        ensures same_area { self.new.rows.ghost_name ≡ self.old.rows.ghost_name }
+        ensures same_order { self.new.order.t ≡ self.old.order.t }
+        ensures rows { self.new.rows.now ≡ put_bucket k [] 0 self.old.rows.now }
+    {
+        let first = self.order.first_slot(k);
+        let end = first + Order::room(k);
+        // The table is whole again once both are written, so both are written through one loan of its rows.
+        let table = &mut *self.rows;
+        zero_rows(&mut table[first..end]);
+        put_sizes(table, k, 0, 0);
+    }
+
+    // The live items of bucket k, in slot order, behind the rows gathered before.
+    pub fn gather(&self, k: u32, gathered: &mut Gathered)
+        requires { (k ≤ self.now.order.t)
+            × (gathered.old.n + length (live_slots self.now.rows.now k) ≤ length gathered.old.work.now) }
+        ensures same_area { gathered.new.work.ghost_name ≡ gathered.old.work.ghost_name }
+        ensures n { gathered.new.n ≡ gathered.old.n + length (live_slots self.now.rows.now k) }
+        ensures work { gathered.new.work.now
+            ≡ sets gathered.old.work.now gathered.old.n (live_slots self.now.rows.now k) }
+    {
+        let first = self.order.first_slot(k);
+        let end = first + built_of(self.rows, k) as usize;
+        gather_live(gathered, &self.rows[first..end])
+    }
 }

@@ -1,4 +1,4 @@
--- Laws of the code's own steps: a list weighed tag by tag, its refusals in their order, and its dues written and summed.
+-- Laws of a rate, of a list weighed tag by tag, and of its dues held and written.
+pub mod Rating
 pub mod Weighing
-pub mod Refusing
-pub mod Summing
+pub mod Holding

@@ -2,30 +2,28 @@
 // tag is looked up once.
 #![tactic(auto)]
 
-ghost use Rattle.std.specs.Prelude.{◌≡◌, true, ◌&&◌, ◌≤◌, leb, length, set};
+ghost use Rattle.std.specs.Prelude.{◌≡◌, ◌&&◌, ◌≤◌, leb, length, set, is_some, IfOk, IfSome};
 ghost use Rattle.std.proofs.Math.Option.{some};
 ghost use Rattle.std.proofs.lemmas.List.Edits.{sets};
 ghost use Rattle.lists.specs.Lists.{every, total};
-ghost use Rattle.table_rules.specs.Refusals.{no_room, not_live, unless};
-ghost use Rattle.table_rules.specs.Table.{order_of};
-ghost use Rattle.table_rules.specs.Passed.{Passed};
+ghost use Rattle.refusals.specs.Number.{refusal_in};
+ghost use Rattle.table_rules.specs.Refusals.{not_live, unless};
 ghost use Rattle.dues_rules.specs.Board.{board, rate_by, dues_by};
-ghost use Rattle.dues_rules.specs.Listed.{no_dues, most_listed, weight_at, weights_at, is_found, is_weight, pays, dues_of};
-ghost use Rattle.dues_rules.specs.Listed.{dues_reply, dues_after};
+ghost use Rattle.dues_rules.specs.Listed.{no_dues, most_listed, weight_at, weights_at, is_found, is_weight, pays};
+ghost use Rattle.dues_rules.specs.Listed.{dues_of, dues_refusal, dues_reply, dues_after};
 
-use dues_rules::{Dues, NO_DUES};
+use dues_rules::Dues;
 use metric_rules::Row;
+use refusals::Refusal;
 use rows::profile_of;
 use table_checks::{Checked, read_check};
-use table_look_up::{Spot, find};
-use table_order::Order;
-use table_rules::{NO_ROOM, NOT_LIVE};
-use table_views::slots_of;
+use table_look_up::find;
 
 // The most tags of a list, and so the room for what each pays.
 const MOST_LISTED: usize = 4096;
 
 // The cents a kilo of the first band of the board that a weight is within.
+#[tactic(auto, using(crate::proofs::Rating::rates))]
 fn rate_of(weight: u32) -> u64
     ensures { result ≡ rate_by board weight }
 {
@@ -45,54 +43,39 @@ fn cents(weight: u32) -> u32
     ((weight as u64 * rate_of(weight) + 50) / 100) as u32
 }
 
-// Of a weight as it was found: that it is not below 0, and what it pays.
+// Of a weight as it was found: that it is not below 0, and then what it pays.
 fn is_weight(weight: i32) -> bool
     ensures { result ≡ is_weight (some weight) }
 {
     0 <= weight
 }
 
-fn paid(weight: i32) -> u32
-    ensures { result ≡ pays (some weight) }
+fn paid(weight: i32) -> Option<u32>
+    ensures weight { is_some result ≡ is_weight (some weight) }
+    ensures cents { IfSome result (λ cents. cents ≡ pays (some weight)) }
 {
-    if weight < 0 {
-        return 0;
-    }
-    cents(weight as u32)
-}
-
-// What is found of a listed tag: whether an item is live by it, whether its weight is not below 0, and what it pays.
-#[derive(Clone, Copy)]
-struct ListedTag {
-    live: bool,
-    weighs: bool,
-    cents: u32,
-}
-
-fn found_at(table: &[Row], order: Order, tag: u64) -> ListedTag
-    requires { (order.t ≡ order_of table.now) × Passed table.now }
-    ensures { result ≡ record { live = is_found (weight_at table.now tag); weighs = is_weight (weight_at table.now tag); cents = pays (weight_at table.now tag) } }
-{
-    match find(table, order, tag) {
-        Spot::Nowhere => ListedTag {
-            live: false,
-            weighs: false,
-            cents: 0,
-        },
-        Spot::At { bucket, slot } => {
-            let slots = slots_of(table, order, bucket);
-            let profile = profile_of(slots[slot]);
-            let weight = profile.measures[0];
-            ListedTag {
-                live: true,
-                weighs: is_weight(weight),
-                cents: paid(weight),
-            }
-        }
+    if is_weight(weight) {
+        Some(cents(weight as u32))
+    } else {
+        None
     }
 }
 
-// A number put in its place, where the area reaches that far.
+// What the item that is live by a tag pays, by its weight.
+#[tactic(auto, unfolding(dues_rules::specs::Listed::weight_at, dues_rules::specs::Listed::is_found))]
+fn owed(table: Checked<'_>, tag: u64) -> Result<Option<u32>, Refusal>
+    ensures refusal { refusal_in result ≡ unless (is_found (weight_at table.entry.rows.now tag)) not_live 0 }
+    ensures weight { IfOk result (λ owed. is_some owed ≡ is_weight (weight_at table.entry.rows.now tag)) }
+    ensures cents { IfOk result (λ owed. IfSome owed (λ cents. cents ≡ pays (weight_at table.entry.rows.now tag))) }
+{
+    let spot = find(table, tag).ok_or(Refusal::NotLive)?;
+    let slots = table.slots(spot.bucket);
+    let profile = profile_of(slots[spot.slot]);
+    Ok(paid(profile.measures[0]))
+}
+
+// A number put in its place, where the area reaches that far. By `get_mut` the proof does not close: of a slice that
+// tells the length alone.
 fn put(area: &mut [u32], i: usize, number: u32)
     ensures { area.new ≡ set area.old i number }
 {
@@ -101,72 +84,53 @@ fn put(area: &mut [u32], i: usize, number: u32)
     }
 }
 
-// What the items of a list have in common: all are live, and their weights and their number are such that they pay.
-#[derive(Clone, Copy)]
-struct Tested {
-    live: bool,
-    pays: bool,
-}
-
-// What each listed tag pays, from the first number on, each tag looked up once. A tag that is not live ends it.
-fn weigh(table: &[Row], order: Order, tags: &[u64], held: &mut [u32]) -> Tested
-    requires { (order.t ≡ order_of table.now) × Passed table.now }
-    ensures live { result.live ≡ every is_found (weights_at table.now tags.now) }
-    ensures pays { result.live ≡ true → result.pays ≡ (leb (length (weights_at table.now tags.now)) most_listed && every is_weight (weights_at table.now tags.now)) }
-    ensures held { result.live ≡ true → held.new ≡ sets held.old 0 (dues_of (weights_at table.now tags.now)) }
+// What each listed tag pays, from the first number on, each tag looked up once. A tag that is not live ends it; a
+// weight that pays no dues does not, as 21 is told before 39.
+fn weigh(table: Checked<'_>, tags: &[u64], held: &mut [u32]) -> Result<(), Refusal>
+    ensures refusal { let weights = weights_at table.entry.rows.now tags.now in
+        refusal_in result
+        ≡ unless (every is_found weights) not_live
+        (unless (leb (length weights) most_listed && every is_weight weights) no_dues 0) }
+    ensures held { IfOk result (λ u. held.new ≡ sets held.old 0 (dues_of (weights_at table.entry.rows.now tags.now))) }
 {
     let mut pays = tags.len() <= MOST_LISTED;
-    let mut i = 0;
-    while i < tags.len() {
-        let found = found_at(table, order, tags[i]);
-        if !found.live {
-            return Tested { live: false, pays };
+    for (i, tag) in tags.iter().enumerate() {
+        let owed = owed(table, *tag)?;
+        match owed {
+            Some(cents) => put(held, i, cents),
+            None => pays = false,
         }
-        pays = pays & found.weighs;
-        put(held, i, found.cents);
-        i += 1;
     }
-    Tested { live: true, pays }
+    if !pays {
+        return Err(Refusal::NoDues);
+    }
+    Ok(())
 }
 
-// The refusals of a list in their order: 21, 39, 6.
-fn list_refusal(tested: Tested, fits: bool) -> u32
-    ensures { result ≡ unless tested.live not_live (unless tested.pays no_dues (unless fits no_room 0)) }
+// What each listed tag pays is held, or what stops the call: after the table's 21, 39, 6.
+#[tactic(auto, unfolding(dues_rules::specs::Listed::dues_refusal, dues_rules::specs::Listed::weights_refusal))]
+fn hold(table: &[Row], tags: &[u64], dues: &[u32], held: &mut [u32]) -> Result<(), Refusal>
+    ensures refusal { refusal_in result ≡ dues_refusal table.now tags.now dues.now }
+    ensures held { IfOk result (λ u. held.new ≡ sets held.old 0 (dues_of (weights_at table.now tags.now))) }
+    ensures room { IfOk result (λ u. (length tags.now ≤ most_listed) × (length tags.now ≤ length dues.now)) }
 {
-    if !tested.live {
-        return NOT_LIVE;
+    let table = read_check(table)?;
+    weigh(table, tags, held)?;
+    if dues.len() < tags.len() {
+        return Err(Refusal::NoRoom);
     }
-    if !tested.pays {
-        return NO_DUES;
-    }
-    if !fits {
-        return NO_ROOM;
-    }
-    0
+    Ok(())
 }
 
 // The dues as they were held, written from the first number of the area on. The reply is their sum.
 fn pay(held: &[u32], dues: &mut [u32]) -> u64
-    requires { (length held.now ≤ length dues.old) × (length held.now ≤ most_listed) }
+    requires room { length held.now ≤ length dues.old }
+    requires few { length held.now ≤ most_listed }
     ensures sum { result ≡ total held.now }
     ensures area { dues.new ≡ sets dues.old 0 held.now }
 {
-    let mut sum: u64 = 0;
-    let mut i = 0;
-    while i < held.len() {
-        let cents = held[i];
-        dues[i] = cents;
-        sum += cents as u64;
-        i += 1;
-    }
-    sum
-}
-
-// A refusal returns its number and a total of 0.
-fn refused(refusal: u32) -> Dues
-    ensures { result ≡ record { refusal = refusal; total = 0 } }
-{
-    Dues { refusal, total: 0 }
+    dues[..held.len()].copy_from_slice(held);
+    held.iter().map(|cents| u64::from(*cents)).sum()
 }
 
 // The dues of a list: every table, every list of tags and every dues area, of any length and content.
@@ -174,17 +138,15 @@ pub fn dues(table: &[Row], tags: &[u64], dues: &mut [u32]) -> Dues
     ensures reply { result ≡ dues_reply table.now tags.now dues.old }
     ensures area { dues.new ≡ dues_after table.now tags.now dues.old }
 {
-    let order = match read_check(table) {
-        Checked::Refused(refusal) => return refused(refusal),
-        Checked::Passes(order) => order,
-    };
     let mut held = [0u32; MOST_LISTED];
-    let tested = weigh(table, order, tags, &mut held[..]);
-    let refusal = list_refusal(tested, tags.len() <= dues.len());
-    if refusal != 0 {
-        return refused(refusal);
+    match hold(table, tags, dues, &mut held[..]) {
+        Err(refusal) => Dues {
+            refusal: u32::from(refusal),
+            total: 0,
+        },
+        Ok(()) => Dues {
+            refusal: 0,
+            total: pay(&held[..tags.len()], dues),
+        },
     }
-    let listed = tags.len();
-    let total = pay(&held[..listed], dues);
-    Dues { refusal: 0, total }
 }

@@ -1,2 +1,2 @@
--- Laws of fresh's refusal and of the table that it leaves.
+-- Laws of the table that fresh leaves.
 pub mod Setting

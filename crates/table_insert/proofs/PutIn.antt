@@ -6,7 +6,7 @@ use mathlib.Core.Path.{◌≡◌, sym, ◌∙◌, ap, ap₂, subst⁻¹}
 use mathlib.Core.List.{List}
 use lib.ListN.{length, take, set}
 use lib.Seq.{sets}
-use Rattle.lists.specs.Lists.{count_from, All}
+use Rattle.lists.specs.Lists.{count_from}
 use Rattle.metric_rules.specs.declared.Profile.{Profile}
 use Rattle.metric_rules.specs.Row.{Row, new_row, zero_row}
 use Rattle.metric_rules.specs.Distance.{distance}
@@ -16,13 +16,11 @@ use Rattle.table_rules.specs.Table.{Table, order_of, table_space, put_bucket, em
 use Rattle.table_rules.specs.Rebuild.{live_items, rebuilt}
 use Rattle.table_rules.specs.Add.{add_refusal, lowest_empty, gathered, add_bucket, add_target, added}
 use Rattle.table_rules.proofs.Passing.{bucket_within}
-use Rattle.table_rules.proofs.Puts.{emptied_only}
 use Rattle.table_rules.proofs.Adding.{Target, gathered_buckets}
 use Rattle.table_rules.proofs.Fill.{rooms_grow, room_most, Changeable, changeable, add_accepted, add_fits}
 use Rattle.tree_rules.proofs.Stores.{sets_front}
 use Rattle.table_rebuild.proofs.Filling.{cleared_stored, rebuilt_by}
-use Rattle.table_buckets.proofs.Places.{lent_only}
-use Rattle.table_buckets.specs.OfOrder.{OfOrder, BuiltFits}
+use Rattle.table_buckets.specs.OfOrder.{BuiltFits}
 
 pub record Accepted (t : Table) (work : List Row) (tag : ℕ) (p : Profile) (day : ℕ) : Type 0 where
   pub none : add_refusal t work tag p day ≡ 0
@@ -53,11 +51,6 @@ module _ {t : Table} {work : List Row} {tag : ℕ} {p : Profile} {day : ℕ} (ac
   pub some_gathered : 1 ≤ length (gathered t tag p day)
   unfolding gathered
   some_gathered = omega arith
-
-  pub lent_emptied : (order : ℕ) → order ≡ order_of t → {k : ℕ} → k ≡ lowest_empty t → OfOrder (emptied (count_from 0 k) t) order
-  lent_emptied order e {k} l =
-      lent_only (built_fits order e).lent
-      (emptied_only (count_from 0 k) t (subst⁻¹ (λ (j : ℕ). All (λ i. i ≤ order_of t) (count_from 0 j)) l (gathered_buckets t)) changes.passed.framed.long)
 
   module _ {k n : ℕ} (lowest : k ≡ lowest_empty t) (number : n ≡ 1 + length (live_items t (count_from 0 k))) where
     pub number-gathered : n ≡ length (gathered t tag p day)

@@ -1,5 +1,5 @@
 // An accepted add: Algorithm 1's Insert with line 2 of Algorithm 2 in place of its line 9 (RULES 1.3). B_k is bucket k,
-// null an empty one; D are the rows gathered in the work area, n their number.
+// null an empty one; D are the rows gathered in the work area.
 #![tactic(auto)]
 
 ghost use Rattle.std.specs.Prelude.{◌≡◌, ◌+◌, ◌≤◌, ◌<◌, length};
@@ -10,56 +10,52 @@ ghost use Rattle.table_rules.specs.Geometry.{most_order, room, work_rows};
 ghost use Rattle.table_rules.specs.Table.{order_of, emptied, cleared};
 ghost use Rattle.table_rules.specs.Rebuild.{live_items};
 ghost use Rattle.table_rules.specs.Add.{add_refusal, lowest_empty, add_bucket, add_target, added};
-ghost use Rattle.table_buckets.specs.OfOrder.{OfOrder, BuiltFits};
 
 use metric_rules::{Profile, Row};
 use row_store::new_row;
-use table_buckets::{empty_bucket, gather_bucket};
+use table_buckets::{Buckets, Gathered};
 use table_order::Order;
 use table_rebuild::build_bucket;
 use table_rules::Added;
-use table_views::in_use;
 
-// Line 5: the lowest empty bucket, or the one after the last if none is.
-fn lowest_empty(table: &[Row], order: Order) -> u32
-    requires { OfOrder table.now order.t }
-    ensures { result ≡ lowest_empty table.now }
+// Line 5: the lowest empty bucket, or the one after the last if none is: no Option, as the rules' `lowest_empty` has
+// T + 1 then, and lines 6 to 8 go through all buckets by the same number.
+fn lowest_empty(buckets: &Buckets) -> u32
+    ensures { result ≡ lowest_empty buckets.now.rows.now }
 {
-    let last = order.t;
-    let mut k: u32 = 0;
-    while k <= last {
-        if !in_use(table, k) {
+    let all = buckets.order.buckets();
+    for k in 0..all {
+        if !buckets.in_use(k) {
             return k;
         }
-        k += 1;
     }
-    k
+    all
 }
 
-// Lines 6 and 7, D ← D ∪ Unbuild(B_i): the live items of buckets 0 to k - 1, in slot order, behind the first n rows of
-// the work area. The reply is the number of rows there now.
-fn gather_below(table: &[Row], order: Order, k: u32, work: &mut [Row], n: usize) -> usize
-    requires { BuiltFits table.now order.t × (k ≤ order.t + 1) × (n + length (live_items table.now (count_from 0 k)) ≤ length work.old) }
-    ensures { (result ≡ n + length (live_items table.now (count_from 0 k))) × (work.new ≡ sets work.old n (live_items table.now (count_from 0 k))) }
+// Lines 6 and 7, D ← D ∪ Unbuild(B_i): the live items of buckets 0 to k - 1, in slot order, behind the rows gathered
+// before.
+fn gather_below(buckets: &Buckets, k: u32, gathered: &mut Gathered)
+    requires { (k ≤ buckets.now.order.t + 1)
+        × (gathered.old.n + length (live_items buckets.now.rows.now (count_from 0 k)) ≤ length gathered.old.work.now) }
+    ensures same_area { gathered.new.work.ghost_name ≡ gathered.old.work.ghost_name }
+    ensures n { gathered.new.n ≡ gathered.old.n + length (live_items buckets.now.rows.now (count_from 0 k)) }
+    ensures work { gathered.new.work.now
+        ≡ sets gathered.old.work.now gathered.old.n (live_items buckets.now.rows.now (count_from 0 k)) }
 {
-    let mut end = n;
-    let mut i: u32 = 0;
-    while i < k {
-        end = gather_bucket(table, order, i, work, end);
-        i += 1;
+    for i in 0..k {
+        buckets.gather(i, gathered);
     }
-    end
 }
 
 // Lines 6 and 8: buckets 0 to k - 1 become empty.
-fn empty_below(table: &mut [Row], order: Order, k: u32)
-    requires { OfOrder table.old order.t × (k ≤ order.t + 1) }
-    ensures { table.new ≡ emptied (count_from 0 k) table.old }
+fn empty_below(buckets: &mut Buckets, k: u32)
+    requires { k ≤ buckets.old.order.t + 1 }
+    ensures same_area { buckets.new.rows.ghost_name ≡ buckets.old.rows.ghost_name }
+    ensures same_order { buckets.new.order.t ≡ buckets.old.order.t }
+    ensures rows { buckets.new.rows.now ≡ emptied (count_from 0 k) buckets.old.rows.now }
 {
-    let mut i: u32 = 0;
-    while i < k {
-        empty_bucket(table, order, i);
-        i += 1;
+    for i in 0..k {
+        buckets.empty(i);
     }
 }
 
@@ -90,13 +86,15 @@ pub fn insert(
     // Line 4.
     work[0] = new_row(tag, profile, day);
     // Line 5.
-    let k = lowest_empty(table, order);
+    let mut buckets = Buckets { rows: table, order };
+    let k = lowest_empty(&buckets);
     // Lines 6 and 7, for every i, then 6 and 8.
-    let n = gather_below(table, order, k, work, 1);
-    empty_below(table, order, k);
+    let mut gathered = Gathered { work, n: 1 };
+    gather_below(&buckets, k, &mut gathered);
+    empty_below(&mut buckets, k);
     // Line 2 of Algorithm 2, in place of line 9.
-    let target = add_bucket(k, n);
-    let distances = build_bucket(table, order, target, work, n);
+    let target = add_bucket(k, gathered.n);
+    let distances = build_bucket(&mut buckets, target, gathered);
     Added {
         refusal: 0,
         bucket: target,

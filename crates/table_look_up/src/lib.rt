@@ -1,27 +1,26 @@
 // The finding of a live item by its tag, and look up.
 #![tactic(auto)]
 
-ghost use Rattle.std.specs.Prelude.{◌≡◌, ◌&&◌, ℕ, eqb};
+ghost use Rattle.std.specs.Prelude.{◌≡◌, ◌<◌, ◌≤◌, ◌&&◌, eqb, length, IfOk, IfSome, position};
 ghost use Rattle.metric_rules.specs.Row.{tag_of, is_live};
+ghost use Rattle.refusals.specs.Number.{number_of as refusal_number, refusal_in};
 ghost use Rattle.table_rules.specs.Refusals.{not_live, unless};
-ghost use Rattle.table_rules.specs.Table.{order_of};
-ghost use Rattle.table_rules.specs.Passed.{Passed};
-ghost use Rattle.table_rules.specs.LookUp.{place_from, find, is_live_tag, not_found, look_up_reply};
-ghost use Rattle.table_look_up.specs.Spots.{slot_place, number_of, place_of};
+ghost use Rattle.table_rules.specs.Table.{slots_of};
+ghost use Rattle.table_rules.specs.LookUp.{find, is_live_tag, not_found, look_up_refusal, look_up_reply};
+ghost use Rattle.table_look_up.specs.Spots.{number_of, place_of};
 
 use metric_rules::{Profile, Row};
+use refusals::Refusal;
 use rows::{day_of, is_live, profile_of, tag_of};
 use table_checks::{Checked, read_check};
-use table_order::Order;
-use table_rules::{BAD_TAG, LookedUp, NOT_LIVE};
-use table_views::slots_of;
+use table_rules::LookedUp;
 use validity::valid_tag;
 
 // Where a live item stands.
 #[derive(Clone, Copy)]
-pub enum Spot {
-    At { bucket: u32, slot: usize },
-    Nowhere,
+pub struct Spot {
+    pub bucket: u32,
+    pub slot: usize,
 }
 
 fn is_tagged(row: Row, tag: u64) -> bool
@@ -30,54 +29,64 @@ fn is_tagged(row: Row, tag: u64) -> bool
     is_live(row) & (tag_of(row) == tag)
 }
 
-// The first live slot with the tag, or the number of slots where there is none.
-fn slot_with(slots: &[Row], tag: u64) -> usize
-    ensures { (k : ℕ) → slot_place k slots.now result ≡ place_from tag k 0 slots.now }
+// The first live slot with the tag.
+fn slot_with(slots: &[Row], tag: u64) -> Option<usize>
+    ensures { result ≡ position (λ row. is_live row && eqb (tag_of row) tag) slots.now }
 {
-    let mut i = 0;
-    while i < slots.len() {
-        if is_tagged(slots[i], tag) {
-            return i;
+    slots.iter().position(|slot| is_tagged(*slot, tag))
+}
+
+// The lowest bucket first, then the lowest slot.
+pub fn find(table: Checked<'_>, tag: u64) -> Option<Spot>
+    ensures place { place_of table.entry.rows.now result ≡ find table.entry.rows.now tag }
+    ensures number { number_of result ≡ unless (is_live_tag table.entry.rows.now tag) not_live 0 }
+    ensures inside { IfSome result
+        (λ spot. (spot.bucket ≤ table.entry.order.t)
+        × (spot.slot < length (slots_of table.entry.rows.now spot.bucket))) }
+{
+    for k in 0..table.order.buckets() {
+        if let Some(slot) = slot_with(table.slots(k), tag) {
+            return Some(Spot { bucket: k, slot });
         }
-        i += 1;
     }
-    i
+    None
 }
 
-// The lowest bucket first, then the lowest slot. The table has passed its tests.
-pub fn find(table: &[Row], order: Order, tag: u64) -> Spot
-    requires { (order.t ≡ order_of table.now) × Passed table.now }
-    ensures place { place_of table.now result ≡ find table.now tag }
-    ensures number { number_of result ≡ unless (is_live_tag table.now tag) not_live 0 }
+#[tactic(auto, unfolding(table_rules::specs::LookUp::is_live_tag))]
+pub fn is_live_tag(table: Checked<'_>, tag: u64) -> bool
+    ensures { result ≡ is_live_tag table.entry.rows.now tag }
 {
-    let t = order.t;
-    let mut k = 0;
-    while k <= t {
-        let slots = slots_of(table, order, k);
-        let i = slot_with(slots, tag);
-        if i < slots.len() {
-            return Spot::At { bucket: k, slot: i };
-        }
-        k += 1;
-    }
-    Spot::Nowhere
+    find(table, tag).is_some()
 }
 
-pub fn is_live_tag(table: &[Row], order: Order, tag: u64) -> bool
-    requires { (order.t ≡ order_of table.now) × Passed table.now }
-    ensures { result ≡ is_live_tag table.now tag }
+// The reply of a look up that finds the tag, or what stops it.
+#[tactic(auto, unfolding(table_rules::specs::LookUp::look_up_refusal, table_rules::specs::LookUp::look_up_reply))]
+fn look(table: &[Row], tag: u64) -> Result<LookedUp, Refusal>
+    ensures refusal { refusal_in result ≡ look_up_refusal table.now tag }
+    ensures reply { IfOk result (λ reply. reply ≡ look_up_reply table.now tag) }
 {
-    match find(table, order, tag) {
-        Spot::At { bucket: _, slot: _ } => true,
-        Spot::Nowhere => false,
+    let table = read_check(table)?;
+    if !valid_tag(tag) {
+        return Err(Refusal::BadTag);
     }
+    let spot = find(table, tag).ok_or(Refusal::NotLive)?;
+    let slots = table.slots(spot.bucket);
+    let row = slots[spot.slot];
+    Ok(LookedUp {
+        refusal: 0,
+        bucket: spot.bucket,
+        profile: profile_of(row),
+        day: day_of(row),
+    })
 }
 
-fn not_found(refusal: u32) -> LookedUp
-    ensures { result ≡ not_found refusal }
+// The reply of a refused call, zeros besides.
+#[tactic(auto, unfolding(table_rules::specs::LookUp::not_found, table_rules::specs::LookUp::no_profile))]
+fn not_found(refusal: Refusal) -> LookedUp
+    ensures { result ≡ not_found (refusal_number refusal) }
 {
     LookedUp {
-        refusal,
+        refusal: u32::from(refusal),
         bucket: 0,
         profile: Profile {
             measures: [0i32; 4],
@@ -87,27 +96,12 @@ fn not_found(refusal: u32) -> LookedUp
     }
 }
 
+#[tactic(auto, using(refusals::proofs::Refused::some_number), unfolding(table_rules::specs::LookUp::look_up_reply))]
 pub fn look_up(table: &[Row], tag: u64) -> LookedUp
     ensures { result ≡ look_up_reply table.now tag }
 {
-    let order = match read_check(table) {
-        Checked::Refused(refusal) => return not_found(refusal),
-        Checked::Passes(order) => order,
-    };
-    if !valid_tag(tag) {
-        return not_found(BAD_TAG);
-    }
-    match find(table, order, tag) {
-        Spot::Nowhere => not_found(NOT_LIVE),
-        Spot::At { bucket, slot } => {
-            let slots = slots_of(table, order, bucket);
-            let row = slots[slot];
-            LookedUp {
-                refusal: 0,
-                bucket,
-                profile: profile_of(row),
-                day: day_of(row),
-            }
-        }
+    match look(table, tag) {
+        Err(refusal) => not_found(refusal),
+        Ok(reply) => reply,
     }
 }

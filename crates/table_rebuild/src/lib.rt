@@ -7,24 +7,25 @@ ghost use Rattle.metric_rules.specs.Distance.{distance, space_of};
 ghost use Rattle.tree_rules.specs.Layout.{layout, cost};
 ghost use Rattle.table_rules.specs.Geometry.{most_order, room, work_rows};
 ghost use Rattle.table_rules.specs.Table.{table_space, put_bucket, cleared};
-ghost use Rattle.table_buckets.specs.OfOrder.{OfOrder};
 
 use metric_rules::Row;
 use row_store::zero_rows;
-use table_buckets::put_sizes;
+use table_buckets::{Buckets, Gathered, put_sizes};
 use table_order::Order;
 use table_views::HEADER_ROW;
 use tree_build::build;
 
-// The first n rows of the work area are built in a bucket's room, with zeros in the rest of it. They are left zero.
-// The reply is the number of distances worked out.
-fn fill(slots: &mut [Row], work: &mut [Row], n: usize, header: &Row) -> u64
-    requires { (n ≤ length slots.old) × (n ≤ length work.old) × (n ≤ room most_order) }
-    ensures slots { slots.new ≡ layout (distance (space_of header.now)) (take n work.old) ++ replicate (length slots.old - n) zero_row }
-    ensures work { work.new ≡ replicate n zero_row ++ drop n work.old }
-    ensures counted { result ≡ cost n }
+// Gathered rows are built in a bucket's room, with zeros in the rest of it. They are left zero. The reply is the number
+// of distances worked out.
+fn fill(slots: &mut [Row], rows: &mut [Row], header: &Row) -> u64
+    requires { (length rows.old ≤ length slots.old) × (length rows.old ≤ room most_order) }
+    ensures slots { slots.new ≡ layout (distance (space_of header.now)) rows.old
+        ++ replicate (length slots.old - length rows.old) zero_row }
+    ensures rows { rows.new ≡ replicate (length rows.old) zero_row }
+    ensures counted { result ≡ cost (length rows.old) }
 {
-    let count = build(&mut slots[..n], &mut work[..n], header);
+    let n = rows.len();
+    let count = build(&mut slots[..n], rows, header);
     zero_rows(&mut slots[n..]);
     count
 }
@@ -38,19 +39,25 @@ pub fn clear(work: &mut [Row], order: Order, n: usize)
     zero_rows(&mut work[n..end]);
 }
 
-// Bucket k is built of the first n rows of the work area, all of them live, and the work area is left zero. At most
-// 2^12 items are built, and so few distances fit 32 bits.
-pub fn build_bucket(table: &mut [Row], order: Order, k: u32, work: &mut [Row], n: usize) -> u32
-    requires { OfOrder table.old order.t × (k ≤ order.t) × (n ≤ room k) × (work_rows order.t ≤ length work.old) }
-    ensures table { table.new ≡ put_bucket k (layout (distance (table_space table.old)) (take n work.old)) n table.old }
-    ensures work { work.new ≡ cleared zero_row (work_rows order.t) work.old }
-    ensures counted { result ≡ cost n }
+// Bucket k is built of the rows gathered, all of them live, and the work area is left zero. At most 2^12 items are
+// built, and so few distances fit 32 bits.
+pub fn build_bucket(buckets: &mut Buckets, k: u32, gathered: Gathered) -> u32
+    requires { (k ≤ buckets.old.order.t) × (gathered.n ≤ room k)
+        × (work_rows buckets.old.order.t ≤ length gathered.work.now) }
+    ensures same_area { buckets.new.rows.ghost_name ≡ buckets.old.rows.ghost_name }
+    ensures rows { buckets.new.rows.now ≡ put_bucket k
+        (layout (distance (table_space buckets.old.rows.now)) (take gathered.entry.n gathered.entry.work.now))
+        gathered.entry.n buckets.old.rows.now }
+    ensures work { gathered.exit.0.now ≡ cleared zero_row (work_rows buckets.old.order.t) gathered.entry.work.now }
+    ensures counted { result ≡ cost gathered.entry.n }
 {
-    let first = order.first_slot(k);
+    let Gathered { work, n } = gathered;
+    let first = buckets.order.first_slot(k);
     let end = first + Order::room(k);
+    let table = &mut *buckets.rows;
     let header = table[HEADER_ROW];
-    let count = fill(&mut table[first..end], work, n, &header);
+    let count = fill(&mut table[first..end], &mut work[..n], &header);
     put_sizes(table, k, n as u32, n as u32);
-    clear(work, order, n);
+    clear(work, buckets.order, n);
     count as u32
 }

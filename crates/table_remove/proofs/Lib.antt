@@ -1,3 +1,3 @@
--- Laws of the item found, and of the refusals.
+-- Laws of the item found and marked.
 pub mod Leaving
-pub mod Refusing
+pub mod Marking

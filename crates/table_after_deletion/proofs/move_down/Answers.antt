@@ -1,50 +1,57 @@
 -- `table_after_deletion::move_down` meets its contract: the rebuild of one bucket.
 use native.Mathlib.Omega.{arith}
-use mathlib.Core.Path.{◌∙◌, ap, subst⁻¹}
-use mathlib.Core.List.{List, [], ◌∷◌}
+use Prim.Native.Nat.{ℕ}
+use mathlib.Core.Path.{◌≡◌, ◌∙◌, ap}
+use mathlib.Core.List.{[], ◌∷◌}
 use lib.ListN.{length}
-use Rattle.metric_rules.specs.Row.{Row}
-use Rattle.table_rules.specs.Table.{emptied}
+use lib.Seq.{length-sets}
+use Rattle.std.proofs.Common.{rules}
+use Rattle.metric_rules.specs.Row.{zero_row}
+use Rattle.table_rules.specs.Geometry.{work_rows}
+use Rattle.table_rules.specs.Table.{live_slots, emptied, cleared}
 use Rattle.table_rules.specs.Remove.{moved}
-use Rattle.table_buckets.specs.OfOrder.{OfOrder}
-use Rattle.table_buckets.proofs.Places.{lent_put}
-use Rattle.table_after_deletion.proofs.Uniting.{Gathered, Fits, items_one, one_gathered, few, work_cleared, table-united, cost-united}
+use Rattle.table_after_deletion.proofs.Uniting.{Fits, items_one, one_gathered, few, work_cleared, table-united, cost-united}
 use Rattle.table_after_deletion.proofs.move_down.Goals as goal
 use Rattle.table_after_deletion.proofs.move_down.Goals.{Start}
 
-fit : (c : Start) → Fits c.args.table.now c.args.order.t (c.args.k ∷ []) c.args.target c.args.work.now
+fit : (c : Start) → Fits c.args.buckets.now.rows.now c.args.buckets.now.order.t (c.args.k ∷ []) c.args.target c.args.work.now
 fit c =
     record {
-      built_fits = c.requires.0;
-      inside = (omega (arith, c.requires.1, c.requires.0.lent.known), tt);
-      reached = c.requires.2;
-      room_for = c.requires.3;
-      roomy = c.requires.4;
+      built_fits = c.args.buckets.now.built_fits;
+      inside = (omega (arith, c.requires.0, c.args.buckets.now.built_fits.lent.known), tt);
+      reached = c.requires.1;
+      room_for = c.requires.2;
+      roomy = c.requires.3;
     }
 
-pub gather_bucket-n-requires : goal.gather_bucket-n-requires
-gather_bucket-n-requires c =
-    let s = c in
-    (s.requires.0.lent, s.requires.1, s.requires.0.built s.args.k s.requires.1, omega (arith, few (fit (goal.at.gather_bucket-n-requires c).Start), ap length (items_one s.args.table.now s.args.k), s.requires.4))
+pub gather-requires : goal.gather-requires
+gather-requires c = (
+  c.requires.0,
+  omega (arith, few (fit (goal.at.gather-requires c).Start), ap length (items_one c.args.buckets.now.rows.now c.args.k), c.requires.3),
+)
 
 pub build_bucket-requires : goal.build_bucket-requires
 build_bucket-requires c =
-    let s = c in
-    let g = c.gather_bucket-n in
-    let made : Gathered s.args.table.now (s.args.k ∷ []) s.args.work.now g.result g.new.work =
-    one_gathered s.args.table.now s.args.k s.args.work.now g.result g.new.work g.ensures.0 g.ensures.1 in (
-      subst⁻¹ (λ (u : List Row). OfOrder u s.args.order.t) c.empty_bucket.ensures (lent_put s.requires.0.lent s.args.k s.requires.1 [] 0 (omega arith)),
-      s.requires.2,
-      omega (arith, made.number, s.requires.3),
-      omega (arith, g.auto.work, s.requires.4),
+    let g = c.gather in
+    let made = one_gathered c.args.buckets.now.rows.now c.args.k c.args.work.now g.new.gathered.n g.new.gathered.work.now g.ensures.n g.ensures.work in
+    let room : length g.new.gathered.work.now ≡ length c.args.work.now =
+    ap length g.ensures.work ∙ length-sets c.args.work.now 0 (live_slots c.args.buckets.now.rows.now c.args.k) in (
+      omega (arith, c.requires.1, c.empty.ensures.same_order),
+      omega (arith, made.number, c.requires.2),
+      omega (arith, room, c.requires.3, ap work_rows c.empty.ensures.same_order),
     )
 
 pub returns : goal.returns
 unfolding moved emptied
 returns c =
-    let s = c in
-    let g = c.gather_bucket-n in
+    let g = c.gather in
     let b = c.build_bucket.ensures in
-    let made : Gathered s.args.table.now (s.args.k ∷ []) s.args.work.now g.result g.new.work =
-    one_gathered s.args.table.now s.args.k s.args.work.now g.result g.new.work g.ensures.0 g.ensures.1 in
-    record { table = table-united (fit (goal.at.returns c).Start) made c.empty_bucket.ensures b.table; work = b.work ∙ work_cleared (fit (goal.at.returns c).Start) made; counted = cost-united (fit (goal.at.returns c).Start) made b.counted }
+    let f = fit (goal.at.returns c).Start in
+    let made = one_gathered c.args.buckets.now.rows.now c.args.k c.args.work.now g.new.gathered.n g.new.gathered.work.now g.ensures.n g.ensures.work in
+    let cleared = b.work ∙ ap (λ (o : ℕ). cleared zero_row (work_rows o) g.new.gathered.work.now) c.empty.ensures.same_order ∙ work_cleared f made in
+    record {
+      same_area = b.same_area ∙ c.empty.ensures.same_area;
+      rows = table-united f made c.empty.ensures.rows b.rows;
+      work = search (rules, cleared);
+      counted = cost-united f made b.counted;
+    }

@@ -1,85 +1,91 @@
 -- `table_after_deletion::unite` meets its contract: what two gatherings store and two emptyings leave are what a rebuild of both buckets takes.
 use native.Mathlib.Omega.{arith}
+use Prim.Native.Nat.{ℕ}
 use Prim.Native.Nat.{◌+◌}
-use mathlib.Core.Path.{◌≡◌, ◌∙◌, ap, subst⁻¹}
-use mathlib.Core.List.{List, [], ◌∷◌}
+use mathlib.Core.Path.{◌≡◌, ◌∙◌, ap}
+use mathlib.Core.List.{[], ◌∷◌}
 use lib.ListN.{length, length-append}
-use Rattle.metric_rules.specs.Row.{Row}
-use Rattle.table_rules.specs.Table.{live_slots, put_bucket, emptied}
+use lib.Seq.{length-sets}
+use Rattle.std.proofs.Common.{rules}
+use Rattle.metric_rules.specs.Row.{zero_row}
+use Rattle.table_rules.specs.Geometry.{work_rows}
+use Rattle.table_rules.specs.Table.{live_slots, put_bucket, emptied, cleared}
 use Rattle.table_rules.specs.Rebuild.{live_items}
-use Rattle.table_buckets.specs.OfOrder.{OfOrder}
-use Rattle.table_buckets.proofs.Places.{lent_put}
-use Rattle.table_after_deletion.proofs.Uniting.{Gathered, Fits, items_two, two_gathered, few, lent_emptied, work_cleared, table-united, cost-united}
+use Rattle.table_after_deletion.proofs.Uniting.{Gathered, Fits, items_two, two_gathered, few, work_cleared, table-united, cost-united}
 use Rattle.table_after_deletion.proofs.unite.Goals as goal
-use Rattle.table_after_deletion.proofs.unite.Goals.{After-gather_bucket-n, Start}
+use Rattle.table_after_deletion.proofs.unite.Goals.{After-gather-2, After-empty-2, Start}
 
-fit : (c : Start) → Fits c.args.table.now c.args.order.t (c.args.k ∷ c.args.other ∷ []) c.args.target c.args.work.now
+fit : (c : Start) → Fits c.args.buckets.now.rows.now c.args.buckets.now.order.t (c.args.k ∷ c.args.other ∷ []) c.args.target c.args.work.now
 fit c =
     record {
-      built_fits = c.requires.0;
-      inside = (omega (arith, c.requires.1, c.requires.0.lent.known), (omega (arith, c.requires.2, c.requires.0.lent.known), tt));
-      reached = c.requires.3;
-      room_for = c.requires.4;
-      roomy = c.requires.5;
+      built_fits = c.args.buckets.now.built_fits;
+      inside = (omega (arith, c.requires.0, c.args.buckets.now.built_fits.lent.known), (omega (arith, c.requires.1, c.args.buckets.now.built_fits.lent.known), tt));
+      reached = c.requires.2;
+      room_for = c.requires.3;
+      roomy = c.requires.4;
     }
 
 -- the items of both buckets together
 both :
-    (c : Start) → length (live_items c.args.table.now (c.args.k ∷ c.args.other ∷ []))
-    ≡ length (live_slots c.args.table.now c.args.k) + length (live_slots c.args.table.now c.args.other)
+    (c : Start) → length (live_items c.args.buckets.now.rows.now (c.args.k ∷ c.args.other ∷ []))
+    ≡ length (live_slots c.args.buckets.now.rows.now c.args.k) + length (live_slots c.args.buckets.now.rows.now c.args.other)
 both c =
-    ap length (items_two c.args.table.now c.args.k c.args.other)
-    ∙ length-append (live_slots c.args.table.now c.args.k) (live_slots c.args.table.now c.args.other)
+    ap length (items_two c.args.buckets.now.rows.now c.args.k c.args.other)
+    ∙ length-append (live_slots c.args.buckets.now.rows.now c.args.k) (live_slots c.args.buckets.now.rows.now c.args.other)
 
-made : (c : After-gather_bucket-n) → let a = c.args in
-    let g = c.gather_bucket-n in Gathered a.table.now (a.k ∷ a.other ∷ []) a.work.now g.result g.new.work
+made : (c : After-gather-2) → let a = c.args in
+    let g = c.gather-2 in Gathered a.buckets.now.rows.now (a.k ∷ a.other ∷ []) a.work.now g.new.gathered.n g.new.gathered.work.now
 made c =
     let a = c.args in
-    let f = c.gather_bucket-first in
-    let g = c.gather_bucket-n in
-    two_gathered a.table.now a.k a.other a.work.now f.result g.result f.new.work g.new.work
-    f.ensures.1 g.ensures.1 f.ensures.0 g.ensures.0
+    let f = c.gather in
+    let g = c.gather-2 in
+    two_gathered a.buckets.now.rows.now a.k a.other a.work.now f.new.gathered.n g.new.gathered.n f.new.gathered.work.now g.new.gathered.work.now
+    f.ensures.work g.ensures.work f.ensures.n g.ensures.n
 
-pub gather_bucket-first-requires : goal.gather_bucket-first-requires
-gather_bucket-first-requires c =
-    let s = c in (
-      s.requires.0.lent,
-      omega (arith, s.requires.1, s.requires.2),
-      s.requires.0.built _ (omega (arith, s.requires.1, s.requires.2)),
-      omega (arith, few (fit (goal.at.gather_bucket-first-requires c).Start), both (goal.at.gather_bucket-first-requires c).Start, s.requires.5),
+pub gather-requires : goal.gather-requires
+gather-requires c = (
+  c.requires.0,
+  omega (arith, few (fit (goal.at.gather-requires c).Start), both (goal.at.gather-requires c).Start, c.requires.4),
+)
+
+pub gather-requires-2 : goal.gather-requires-2
+gather-requires-2 c =
+    let g = c.gather in
+    let room : length g.new.gathered.work.now ≡ length c.args.work.now =
+    ap length g.ensures.work ∙ length-sets c.args.work.now 0 (live_slots c.args.buckets.now.rows.now c.args.k) in (
+      c.requires.1,
+      omega (arith, few (fit (goal.at.gather-requires-2 c).Start), both (goal.at.gather-requires-2 c).Start, c.requires.4, g.ensures.n, room),
     )
 
-pub gather_bucket-n-requires : goal.gather_bucket-n-requires
-gather_bucket-n-requires c =
-    let s = c in
-    let g = c.gather_bucket-first in (
-      s.requires.0.lent,
-      omega (arith, s.requires.1, s.requires.2),
-      s.requires.0.built _ (omega (arith, s.requires.1, s.requires.2)),
-      omega (arith, few (fit (goal.at.gather_bucket-n-requires c).Start), both (goal.at.gather_bucket-n-requires c).Start, s.requires.5, g.ensures.0, g.auto.work),
-    )
+pub empty-requires-2 : goal.empty-requires-2
+empty-requires-2 c = omega (arith, c.requires.1, c.empty.ensures.same_order)
 
-pub empty_bucket-requires-2 : goal.empty_bucket-requires-2
-empty_bucket-requires-2 c =
-    let s = c in
-    (subst⁻¹ (λ (u : List Row). OfOrder u s.args.order.t) c.empty_bucket.ensures (lent_put s.requires.0.lent s.args.k s.requires.1 [] 0 (omega arith)), s.requires.2)
+-- both emptied buckets keep the order
+same : (c : After-empty-2) → c.empty-2.new.self.order.t ≡ c.args.buckets.now.order.t
+same c = c.empty-2.ensures.same_order ∙ c.empty.ensures.same_order
 
 pub build_bucket-requires : goal.build_bucket-requires
 unfolding emptied
 build_bucket-requires c =
-    let empty = c in
-    let at = c in
-    let s = c in (
-      subst⁻¹ (λ (u : List Row). OfOrder u s.args.order.t) (empty.empty_bucket-2.ensures ∙ ap (put_bucket s.args.other [] 0) empty.empty_bucket.ensures) (lent_emptied (fit (goal.at.build_bucket-requires c).Start)),
-      s.requires.3,
-      omega (arith, (made (goal.at.build_bucket-requires c).After-gather_bucket-n).number, s.requires.4),
-      omega (arith, at.gather_bucket-n.auto.work, at.gather_bucket-first.auto.work, s.requires.5),
+    let order = same (goal.at.build_bucket-requires c).After-empty-2 in
+    let m = made (goal.at.build_bucket-requires c).After-gather-2 in
+    let room : length c.gather-2.new.gathered.work.now ≡ length c.args.work.now =
+    ap length m.stored ∙ length-sets c.args.work.now 0 (live_items c.args.buckets.now.rows.now (c.args.k ∷ c.args.other ∷ [])) in (
+      omega (arith, c.requires.2, order),
+      omega (arith, m.number, c.requires.3),
+      omega (arith, room, c.requires.4, ap work_rows order),
     )
 
 pub returns : goal.returns
 unfolding emptied
 returns c =
-    let empty = c in
-    let at = c in
-    let s = c in
-    let b = c.build_bucket.ensures in record { table = table-united (fit (goal.at.returns c).Start) (made (goal.at.returns c).After-gather_bucket-n) (empty.empty_bucket-2.ensures ∙ ap (put_bucket s.args.other [] 0) empty.empty_bucket.ensures) b.table; work = b.work ∙ work_cleared (fit (goal.at.returns c).Start) (made (goal.at.returns c).After-gather_bucket-n); counted = cost-united (fit (goal.at.returns c).Start) (made (goal.at.returns c).After-gather_bucket-n) b.counted }
+    let b = c.build_bucket.ensures in
+    let f = fit (goal.at.returns c).Start in
+    let m = made (goal.at.returns c).After-gather-2 in
+    let cleared = b.work ∙ ap (λ (o : ℕ). cleared zero_row (work_rows o) c.gather-2.new.gathered.work.now) (same (goal.at.returns c).After-empty-2) ∙ work_cleared f m in
+    record {
+      same_area = b.same_area ∙ c.empty-2.ensures.same_area ∙ c.empty.ensures.same_area;
+      rows = table-united f m (c.empty-2.ensures.rows ∙ ap (put_bucket c.args.other [] 0) c.empty.ensures.rows) b.rows;
+      work = search (rules, cleared);
+      counted = cost-united f m b.counted;
+    }

@@ -1,46 +1,38 @@
--- `table_dues::pay` meets its contract: the dues written so far, one by one.
-use native.Mathlib.Omega.{arith}
-use Rattle.table_dues.proofs.Summing.{none_paid, one_paid, all_paid}
+-- `table_dues::pay` meets its contract: as many dues as a list may have, each of 32 bits, and their sum fits.
+use Rattle.std.proofs.Common.{arith, rules, tests}
+use Rattle.std.proofs.lemmas.Iterator.{YieldsList-from_slice, YieldsList-from_map}
+use Rattle.std.proofs.lemmas.Iterator.Adapters.{at_most_from_yields_List, fits_from_length}
+use Rattle.std.proofs.lemmas.Iterator.Consumers.{sum_by_from_yields_List}
+use Rattle.std.proofs.lemmas.List.Sums.{sum_by-cons}
+use Rattle.std.specs.List.{sum_by}
+use Prim.Native.Nat.{ℕ, ◌+◌}
+use mathlib.Core.Path.{◌≡◌, refl, sym, ap, ◌∙◌}
+use mathlib.Core.List.{List, [], ◌∷◌, ◌++◌}
+use lib.ListN.{drop, length}
+use lib.Seq.{sets-eq}
+use Rattle.lists.specs.Lists.{total}
 use Rattle.table_dues.proofs.pay.Goals as goal
 
-pub loop-i-init : goal.loop-i-init
-loop-i-init c = none_paid _ _
+summed : (ns : List ℕ) → sum_by (λ n. n) ns ≡ total ns
+unfolding total
+summed [] = refl
+summed (n ∷ ns) = sum_by-cons (λ m. m) n ns ∙ ap (λ (m : ℕ). n + m) (summed ns)
 
-pub offset_bounds-held-i : goal.offset_bounds-held-i
-offset_bounds-held-i c = omega arith
+pub sum-requires-clause-fits : goal.sum-requires-clause-fits
+sum-requires-clause-fits c =
+    fits_from_length _ _ 4096 _ (at_most_from_yields_List (YieldsList-from_slice c.args.held.now cc) c.requires.few) c.map.ensures.closure (omega arith)
+    (λ x r q k. search (rules, tests))
 
-pub bounds-held-i : goal.bounds-held-i
-bounds-held-i c = omega arith
+pub returns-clause-sum : goal.returns-clause-sum
+returns-clause-sum c =
+    sum_by_from_yields_List (λ n. n) c.args.held.now c.map.result c.sum.result c.sum.ensures.ran
+    (YieldsList-from_map _ (λ n. n) (YieldsList-from_slice c.args.held.now cc) c.map.ensures.closure (λ x r q k. search rules))
+    ∙ summed c.args.held.now
 
-pub offset_bounds-dues-i : goal.offset_bounds-dues-i
-offset_bounds-dues-i c = omega arith
-
-pub bounds-dues-i : goal.bounds-dues-i
-bounds-dues-i c = omega arith
-
-pub overflow_cast-sum : goal.overflow_cast-sum
-overflow_cast-sum c = omega (arith, c.shared_slice_known-1.given c.loop-i.i)
-
-pub overflow_add-sum : goal.overflow_add-sum
-overflow_add-sum c =
-    let l = c.loop-i in
-    omega (arith, c.shared_slice_known-1.given l.i, l.invariant.few, c.requires.1)
-
-pub overflow_add-i : goal.overflow_add-i
-overflow_add-i c = omega arith
-
-pub loop-i-smaller : goal.loop-i-smaller
-loop-i-smaller c = omega arith
-
-pub loop-i-preserved : goal.loop-i-preserved
-loop-i-preserved c =
-    let l = c.loop-i in
-    one_paid l.invariant (omega arith) (c.shared_slice_known-1.given l.i).fits
-
-pub shape_of-dues : goal.shape_of-dues
-shape_of-dues c = c.loop-i.invariant.long
-
-pub returns : goal.returns
-returns c =
-    let it = all_paid c.loop-i.invariant (omega arith) in
-    record { sum = it.0; area = it.1 }
+pub returns-clause-area : goal.returns-clause-area
+returns-clause-area c =
+    let held = c.args.held.now in
+    let dues = c.args.dues.now in
+    let n : 0 + length held ≡ length held = omega arith in
+    ap (λ (ns : List ℕ). ns ++ drop (length held) dues) c.copy_from_slice.ensures.after
+    ∙ sym (sets-eq held dues 0 (omega (arith, c.requires.room)) ∙ ap (λ (k : ℕ). held ++ drop k dues) n)

@@ -1,54 +1,35 @@
 -- `table_dues::weigh` meets its contract: the list weighed so far, tag by tag.
-use native.Mathlib.Omega.{arith}
-use borrow.Author.Tests.{not-true, not-false}
-use mathlib.Core.Path.{sym, ap, ◌∙◌}
-use mathlib.Core.Bool.{false≢true}
-use borrow.Author.Rules.{rules}
-use Rattle.table_dues.specs.declared.ListedTag.{ListedTag}
-use Rattle.table_dues.proofs.Weighing.{none_weighed, not_live, one_more, all_weighed}
+use Rattle.std.proofs.Common.{arith}
+use Rattle.std.proofs.lemmas.Grind.{common_steps}
+use Rattle.std.proofs.lemmas.Result.{err_from_is_err_and}
+use mathlib.Core.Path.{◌∙◌}
+use Rattle.refusals.proofs.Refused.{some_number}
+use Rattle.table_dues.proofs.Weighing.{none_weighed, stops, one_paid, none_paid, all_weighed}
 use Rattle.table_dues.proofs.weigh.Goals as goal
+use Rattle.table_dues.proofs.weigh.Goals.{in-Some, in-None}
 
 pub loop-i-init : goal.loop-i-init
 loop-i-init c = none_weighed _ _ _
 
-pub offset_bounds-tags-i : goal.offset_bounds-tags-i
-offset_bounds-tags-i c = omega arith
-
-pub bounds-tags-i : goal.bounds-tags-i
-bounds-tags-i c = omega arith
-
-pub found_at-found-requires : goal.found_at-found-requires
-found_at-found-requires c = c.requires
-
-pub shape_of-held-then-not-found : goal.shape_of-held-then-not-found
-shape_of-held-then-not-found c = c.loop-i.invariant.long
-
-pub returns-then-not-found : goal.returns-then-not-found
-returns-then-not-found c =
-    let h = c.found_at-found in record { live = not_live c.loop-i.invariant (omega arith) (sym (not-true c.found_at-found.result.live c.if-not-found.true) ∙ ap (λ (r : ListedTag). r.live) h.ensures); pays = (λ e. absurd (false≢true e)); held = (λ e. absurd (false≢true e)) }
-
-pub put-requires : goal.put-requires
-put-requires c = search rules
-
-pub overflow_add-i : goal.overflow_add-i
-overflow_add-i c = omega arith
-
-pub loop-i-smaller : goal.loop-i-smaller
-loop-i-smaller c = omega arith
+pub returns-in_err-owed-clause-refusal : goal.returns-in_err-owed-clause-refusal
+returns-in_err-owed-clause-refusal c =
+    let p = err_from_is_err_and c.from_residual.result c.from_residual.ensures.1 in
+    rw (p.1, p.2) (stops c.loop-i.invariant (omega arith) _ (some_number _) c.in_err-owed.ensures.refusal)
 
 pub loop-i-preserved : goal.loop-i-preserved
 loop-i-preserved c =
-    let h = c.found_at-found in
-    one_more c.loop-i.invariant (omega arith)
-    (sym (not-false c.found_at-found.result.live c.if-not-found.false) ∙ ap (λ (r : ListedTag). r.live) h.ensures)
-    (ap (λ (r : ListedTag). r.weighs) h.ensures)
-    (ap (λ (r : ListedTag). r.cents) h.ensures)
-    c.put.ensures
+    let o = c.in_ok-owed.ensures in
+    elim c.match-owed.branch [
+      | in-Some b ↦
+          let e = rw b.in-Some.is at o in
+          one_paid c.loop-i.invariant (omega arith) o.refusal e.weight e.cents (b.held-is ∙ b.put.ensures) b.pays-is
+      | in-None b ↦ let e = rw b.in-None.is at o in none_paid c.loop-i.invariant (omega arith) o.refusal e.weight b.pays-is
+    ]
 
-pub shape_of-held : goal.shape_of-held
-shape_of-held c = c.loop-i.invariant.long
+pub returns-then-not-pays-clause-refusal : goal.returns-then-not-pays-clause-refusal
+returns-then-not-pays-clause-refusal c = let end = all_weighed c.loop-i.invariant (omega arith) in grind (arith, common_steps, end.0, end.1)
 
 pub returns : goal.returns
 returns c =
     let end = all_weighed c.loop-i.invariant (omega arith) in
-    record { live = end.0; pays = (λ e. end.1); held = (λ e. end.2) }
+    record { refusal = grind (arith, common_steps, end.0, end.1); held = grind (arith, common_steps, end.2) }

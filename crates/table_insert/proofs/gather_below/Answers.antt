@@ -4,7 +4,7 @@ use Prim.Native.Nat.{ℕ, ◌+◌, ◌≤◌}
 use mathlib.Core.Path.{◌≡◌, refl, sym, ◌∙◌, ap}
 use mathlib.Core.List.{List, ◌++◌, flatten}
 use lib.ListN.{length, length-append}
-use lib.Seq.{sets}
+use lib.Seq.{sets, length-sets}
 use Rattle.lists.specs.Lists.{count_from}
 use Rattle.metric_rules.specs.Row.{Row}
 use Rattle.table_rules.specs.Table.{live_slots}
@@ -15,48 +15,42 @@ use Rattle.table_insert.proofs.gather_below.Goals as goal
 
 pub loop-i-init : goal.loop-i-init
 unfolding live_items flatten count_from
-loop-i-init c = (omega arith, omega arith, refl, refl)
+loop-i-init c = (omega arith, refl, refl)
 
-pub gather_bucket-end-requires : goal.gather_bucket-end-requires
-gather_bucket-end-requires c =
-    let s = c in
+pub gather-requires : goal.gather-requires
+gather-requires c =
     let l = c.loop-i in
-    let t : List Row = s.args.table.now in
-    let inside : l.i ≤ s.args.order.t = omega arith in
-    (s.requires.0.lent, inside, s.requires.0.built l.i inside, omega (arith, items_within t l.i s.args.k (omega arith)))
-
-pub overflow_add-i : goal.overflow_add-i
-overflow_add-i c = omega arith
-
-pub loop-i-smaller : goal.loop-i-smaller
-loop-i-smaller c = omega arith
+    let before = c.args.gathered.now in
+    let t : List Row = c.args.buckets.now.rows.now in
+    let inside : l.i ≤ c.args.buckets.now.order.t = omega arith in
+    let room : length l.gathered.work.now ≡ length before.work.now =
+    ap length l.invariant.1 ∙ length-sets before.work.now before.n (live_items t (count_from 0 l.i)) in
+    (inside, omega (arith, room, items_within t l.i c.args.k (omega arith)))
 
 pub loop-i-preserved : goal.loop-i-preserved
 loop-i-preserved c =
-    let s = c in
     let l = c.loop-i in
-    let g = c.gather_bucket-end in
-    let t : List Row = s.args.table.now in
+    let g = c.gather in
+    let before = c.args.gathered.now in
+    let t : List Row = c.args.buckets.now.rows.now in
     let here : List Row = live_slots t l.i in
-    let before : List Row = live_items t (count_from 0 l.i) in
-    let e : live_items t (count_from 0 (l.i + 1)) ≡ before ++ here = items_next t l.i in (
-      omega arith,
-      omega (arith, g.ensures.0, l.invariant.1, ap length e, length-append before here),
-      g.auto.work ∙ l.invariant.2,
-      g.ensures.1
-          ∙ ap (λ (w : List Row). sets w l.end here) l.invariant.3
-          ∙ sets_more s.args.work.now s.args.n l.end before here l.invariant.1
-          ∙ ap (sets s.args.work.now s.args.n) (sym e),
+    let below : List Row = live_items t (count_from 0 l.i) in
+    let e : live_items t (count_from 0 (l.i + 1)) ≡ below ++ here = items_next t l.i in (
+      omega (arith, g.ensures.n, l.invariant.0, ap length e, length-append below here),
+      g.ensures.work
+          ∙ ap (λ (w : List Row). sets w l.gathered.n here) l.invariant.1
+          ∙ sets_more before.work.now before.n l.gathered.n below here l.invariant.0
+          ∙ ap (sets before.work.now before.n) (sym e),
+      g.ensures.same_area ∙ l.invariant.2,
     )
-
-pub shape_of-work : goal.shape_of-work
-shape_of-work c = c.loop-i.invariant.2
 
 pub returns : goal.returns
 returns c =
-    let s = c in
     let l = c.loop-i in
-    let e : l.i ≡ s.args.k = omega arith in (
-      l.invariant.1 ∙ ap (λ (i : ℕ). s.args.n + length (live_items s.args.table.now (count_from 0 i))) e,
-      l.invariant.3 ∙ ap (λ (i : ℕ). sets s.args.work.now s.args.n (live_items s.args.table.now (count_from 0 i))) e,
-    )
+    let before = c.args.gathered.now in
+    let e : l.i ≡ c.args.k = omega arith in
+    record {
+      same_area = l.invariant.2;
+      n = l.invariant.0 ∙ ap (λ (i : ℕ). before.n + length (live_items c.args.buckets.now.rows.now (count_from 0 i))) e;
+      work = l.invariant.1 ∙ ap (λ (i : ℕ). sets before.work.now before.n (live_items c.args.buckets.now.rows.now (count_from 0 i))) e;
+    }

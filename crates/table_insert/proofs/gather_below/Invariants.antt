@@ -1,4 +1,4 @@
-use Prim.Native.Nat.{◌+◌, ◌-◌, ◌≤◌}
+use Prim.Native.Nat.{◌+◌}
 use mathlib.Core.Path.{◌≡◌}
 use lib.ListN.{length}
 use lib.Seq.{sets}
@@ -8,7 +8,6 @@ use Rattle.table_insert.proofs.gather_below.Given as goal
 
 abbrev pub invariant-loop-i : goal.invariant-loop-i
 invariant-loop-i l =
-    (l.i ≤ l.k) × (l.end ≡ l.n + length (live_items l.table (count_from 0 l.i))) × (length l.work ≡ length l.initial.work) × (l.work ≡ sets l.initial.work l.n (live_items l.table (count_from 0 l.i)))
-
-abbrev pub decreases-loop-i : goal.decreases-loop-i
-decreases-loop-i l = l.k - l.i
+    (l.gathered.n ≡ l.initial.gathered.n + length (live_items l.buckets.rows.now (count_from 0 l.i)))
+    × (l.gathered.work.now ≡ sets l.initial.gathered.work.now l.initial.gathered.n (live_items l.buckets.rows.now (count_from 0 l.i)))
+    × (l.gathered.work.ghost_name ≡ l.initial.gathered.work.ghost_name)

@@ -3,38 +3,31 @@ use native.Mathlib.Omega.{arith}
 use mathlib.Core.Bool.{true, false}
 use mathlib.Core.Path.{◌≡◌, sym, ◌∙◌}
 use Rattle.table_rules.specs.Table.{in_use}
-use Rattle.table_buckets.proofs.Places.{sizes_inside}
 use Rattle.table_insert.proofs.Below.{empty_here, empty_later, none_empty, from_lowest}
 use Rattle.table_insert.proofs.lowest_empty.Goals as goal
 
-pub loop-k-init : goal.loop-k-init
-loop-k-init c = (omega arith, from_lowest c.args.table.now c.args.order.t c.requires.known)
+pub buckets-all-requires : goal.buckets-all-requires
+buckets-all-requires c = omega (arith, c.args.buckets.now.built_fits.lent.most)
 
-pub in_use-requires : goal.in_use-requires
-in_use-requires c = sizes_inside c.requires c.loop-k.k (omega arith)
+pub loop-k-init : goal.loop-k-init
+loop-k-init c = from_lowest c.args.buckets.now.rows.now c.args.buckets.now.order.t c.args.buckets.now.built_fits.lent.known
 
 pub returns-then-not-in_use : goal.returns-then-not-in_use
 returns-then-not-in_use c =
     let s = c in
     let l = c.loop-k in
-    let e : in_use s.args.table.now l.k ≡ false = sym c.in_use.ensures ∙ c.if-not-in_use.true in
-    sym (empty_here s.args.table.now s.args.order.t l.k (omega arith) e) ∙ l.invariant.1
-
-pub overflow_add-k : goal.overflow_add-k
-overflow_add-k c = omega (arith, c.requires.most)
-
-pub loop-k-smaller : goal.loop-k-smaller
-loop-k-smaller c = omega arith
+    let e : in_use s.args.buckets.now.rows.now l.k ≡ false = sym c.in_use.ensures ∙ c.if-not-in_use.true in
+    sym (empty_here s.args.buckets.now.rows.now s.args.buckets.now.order.t l.k (omega arith) e) ∙ l.invariant
 
 pub loop-k-preserved : goal.loop-k-preserved
 loop-k-preserved c =
     let s = c in
     let l = c.loop-k in
-    let e : in_use s.args.table.now l.k ≡ true = sym c.in_use.ensures ∙ c.if-not-in_use.false in
-    (omega arith, sym (empty_later s.args.table.now s.args.order.t l.k (omega arith) e) ∙ l.invariant.1)
+    let e : in_use s.args.buckets.now.rows.now l.k ≡ true = sym c.in_use.ensures ∙ c.if-not-in_use.false in
+    sym (empty_later s.args.buckets.now.rows.now s.args.buckets.now.order.t l.k (omega arith) e) ∙ l.invariant
 
 pub returns : goal.returns
 returns c =
-    let s = c in
     let l = c.loop-k in
-    sym (none_empty s.args.table.now s.args.order.t l.k (omega arith)) ∙ l.invariant.1
+    let all : c.buckets-all.result ≡ l.k = omega arith in
+    all ∙ sym (none_empty c.args.buckets.now.rows.now c.args.buckets.now.order.t l.k (omega arith)) ∙ l.invariant

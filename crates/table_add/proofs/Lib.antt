@@ -1,2 +1,0 @@
--- Laws of the refusals of an add.
-pub mod Refusing
