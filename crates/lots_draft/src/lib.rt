@@ -1,8 +1,9 @@
 // The drafting of a table's live items by one radius, over entries of their places by tag. An entry's second word is
-// the number of its lot, 0 where it has none yet.
+// the number of its lot, 0 where it has none yet: the entries are two words of the lent work area, with no room for an
+// Option.
 #![tactic(auto)]
 
-ghost use Rattle.std.specs.Prelude.{◌≡◌, ◌+◌, ◌-◌, ◌≤◌, ◌<◌, max, length, replicate};
+ghost use Rattle.std.specs.Prelude.{◌≡◌, ◌+◌, ◌-◌, ◌≤◌, ◌<◌, length, replicate};
 ghost use mathlib.Core.List.{map, ◌++◌, Permᴰ};
 ghost use Rattle.lists.specs.Lists.{All, select};
 ghost use Rattle.metric_rules.specs.Distance.{space_of};
@@ -28,91 +29,72 @@ pub struct Draft {
     pub largest: usize,
 }
 
-// Whether an entry has no lot yet and its item is within the radius of the leader.
-fn joins(table: &[Row], header: &Row, leader: Row, e: Entry, radius: u32) -> bool
-    requires { place_of e < length table.now }
-    ensures { result ≡ joins table.now (space_of header.now) radius leader e }
-{
-    if e[1] != 0 {
-        return false;
-    }
-    let at = e[0] as usize;
-    distance_between(header, leader, table[at]) <= radius
+// What a drafting goes by: a table's rows, the header row, and a radius.
+#[derive(Clone, Copy)]
+struct Drafting<'a> {
+    table: &'a [Row],
+    header: &'a Row,
+    radius: u32,
 }
 
-// Every entry that joins the leader gets the lot's number. The reply is how many do.
-fn follow(
-    table: &[Row],
-    header: &Row,
-    leader: Row,
-    entries: &mut [Entry],
-    radius: u32,
-    lot: u64,
-) -> usize
-    requires { All (Placed table.now) entries.old }
-    ensures { let t = table.now in
-        let space = space_of header.now in
-        let before = entries.old in
-        let after = entries.new in
-        (result ≡ length (select (joins t space radius leader) before))
-        × (after ≡ map (followed t space radius leader lot) before) }
-{
-    let mut size = 0;
-    let mut i = 0;
-    while i < entries.len() {
-        let e = entries[i];
-        if joins(table, header, leader, e, radius) {
-            entries[i] = [e[0], lot];
-            size += 1;
+impl Drafting<'_> {
+    // Whether an entry has no lot yet and its item is within the radius of the leader.
+    fn joins(self, leader: Row, e: Entry) -> bool
+        requires { place_of e < length self.table.now }
+        ensures { let by = self.entry in
+            result ≡ joins by.table.now (space_of by.header.now) by.radius leader e }
+    {
+        if e[1] != 0 {
+            return false;
         }
-        i += 1;
+        let at = e[0] as usize;
+        distance_between(self.header, leader, self.table[at]) <= self.radius
     }
-    size
-}
 
-fn larger(a: usize, b: usize) -> usize
-    ensures { result ≡ max a b }
-{
-    if a < b { b } else { a }
-}
-
-// The first entry: without a lot it leads the next one, which those of the others that join it follow.
-fn lead_next(
-    table: &[Row],
-    header: &Row,
-    entries: &mut [Entry],
-    radius: u32,
-    drafted: Draft,
-) -> Draft
-    requires { (0 < length entries.old)
-        × All (Placed table.now) entries.old
-        × (drafted.lots + length entries.old ≤ room most_order) }
-    ensures { let t = table.now in
-        let space = space_of header.now in
-        let before = entries.old in
-        let after = entries.new in
-        (result ≡ draft_led t space radius drafted before)
-        × (after ≡ entries_led t space radius drafted before) }
-{
-    let first = entries[0];
-    if first[1] != 0 {
-        return drafted;
+    // Every entry that joins the leader gets the lot's number. The reply is how many do.
+    fn follow(self, leader: Row, entries: &mut [Entry], lot: u64) -> usize
+        requires { All (Placed self.table.now) entries.old }
+        ensures { let t = self.entry.table.now in
+            let space = space_of self.entry.header.now in
+            let radius = self.entry.radius in
+            let before = entries.old in
+            (result ≡ length (select (joins t space radius leader) before))
+            × (entries.new ≡ map (followed t space radius leader lot) before) }
+    {
+        let mut size = 0;
+        for e in entries.iter_mut() {
+            if self.joins(leader, *e) {
+                *e = [e[0], lot];
+                size += 1;
+            }
+        }
+        size
     }
-    let at = first[0] as usize;
-    let leader = table[at];
-    let lots = drafted.lots + 1;
-    let others = follow(
-        table,
-        header,
-        leader,
-        &mut entries[1..],
-        radius,
-        lots as u64,
-    );
-    entries[0] = [first[0], lots as u64];
-    Draft {
-        lots,
-        largest: larger(drafted.largest, 1 + others),
+
+    // The first entry: without a lot it leads the next one, which those of the others that join it follow.
+    fn lead_next(self, entries: &mut [Entry], drafted: Draft) -> Draft
+        requires { (0 < length entries.old)
+            × All (Placed self.table.now) entries.old
+            × (drafted.lots + length entries.old ≤ room most_order) }
+        ensures { let t = self.entry.table.now in
+            let space = space_of self.entry.header.now in
+            let radius = self.entry.radius in
+            (result ≡ draft_led t space radius drafted entries.old)
+            × (entries.new ≡ entries_led t space radius drafted entries.old) }
+    {
+        let first = entries[0];
+        if first[1] != 0 {
+            return drafted;
+        }
+        let at = first[0] as usize;
+        let leader = self.table[at];
+        let lots = drafted.lots + 1;
+        let others = self.follow(leader, &mut entries[1..], lots as u64);
+        entries[0] = [first[0], lots as u64];
+        Draft {
+            lots,
+            largest: drafted.largest.max(1 + others),
+        }
     }
 }
 
@@ -120,10 +102,8 @@ fn lead_next(
 fn clear_lots(entries: &mut [Entry])
     ensures { entries.new ≡ map without_lot entries.old }
 {
-    let mut i = 0;
-    while i < entries.len() {
-        entries[i] = [entries[i][0], 0];
-        i += 1;
+    for e in entries.iter_mut() {
+        *e = [e[0], 0];
     }
 }
 
@@ -139,14 +119,17 @@ pub fn draft_by(table: &[Row], header: &Row, entries: &mut [Entry], radius: u32)
         × (map place_of after ≡ places)) }
 {
     clear_lots(entries);
+    let by = Drafting {
+        table,
+        header,
+        radius,
+    };
     let mut drafted = Draft {
         lots: 0,
         largest: 0,
     };
-    let mut i = 0;
-    while i < entries.len() {
-        drafted = lead_next(table, header, &mut entries[i..], radius, drafted);
-        i += 1;
+    for i in 0..entries.len() {
+        drafted = by.lead_next(&mut entries[i..], drafted);
     }
     [drafted.lots as u32, drafted.largest as u32]
 }
@@ -156,12 +139,9 @@ fn name_lots(table: &[Row], entries: &[Entry], listing: &mut [Entry])
     requires { All (Placed table.now) entries.now × (length listing.old ≡ length entries.now) }
     ensures { listing.new ≡ map (tag_lot table.now) entries.now }
 {
-    let mut i = 0;
-    while i < entries.len() {
-        let e = entries[i];
+    for (i, e) in entries.iter().enumerate() {
         let at = e[0] as usize;
         listing[i] = [tag_of(table[at]), e[1]];
-        i += 1;
     }
 }
 

@@ -3,60 +3,58 @@
 
 ghost use Rattle.std.specs.Prelude.{◌≡◌, map, ◌+◌, ◌-◌, ◌≤◌, length, take};
 ghost use Rattle.std.proofs.lemmas.List.Edits.{sets};
-ghost use Rattle.table_rules.specs.Table.{order_of};
-ghost use Rattle.table_rules.specs.Passed.{Passed};
 ghost use Rattle.lots_gather.specs.Places.{live_places, all_places, places_by_tag, place_entry};
 
 use entry_sort::sort_entries;
 use metric_rules::Row;
 use rows::{is_live, tag_of};
 use search_rules::Entry;
-use table_order::Order;
-use table_views::built_of;
+use table_checks::Checked;
 
 // The live ones of the table's rows from `first` to before `end`, behind the first n entries. The reply is the number
-// of entries there now.
+// of entries there now. Of a live row image_test keeps its tag and place in one word, and table_buckets the row: the walk
+// is four lines, and what is kept differs.
 fn enter_live(table: &[Row], first: usize, end: usize, entries: &mut [Entry], n: usize) -> usize
-    requires { (first ≤ end) × (end ≤ length table.now) × (n + length (live_places table.now first (end - first)) ≤ length entries.old) }
-    ensures { (result ≡ n + length (live_places table.now first (end - first))) × (entries.new ≡ sets entries.old n (map (place_entry table.now) (live_places table.now first (end - first)))) }
+    requires { (first ≤ end)
+        × (end ≤ length table.now)
+        × (n + length (live_places table.now first (end - first)) ≤ length entries.old) }
+    ensures { let places = live_places table.now first (end - first) in
+        (result ≡ n + length places) × (entries.new ≡ sets entries.old n (map (place_entry table.now) places)) }
 {
     let mut found = n;
-    let mut at = first;
-    while at < end {
+    for at in first..end {
         let row = table[at];
         if is_live(row) {
             entries[found] = [at as u64, tag_of(row)];
             found += 1;
         }
-        at += 1;
     }
     found
 }
 
 // The live items of every bucket, from bucket 0 up, at the front of the entries. The reply is their number.
-fn enter_buckets(table: &[Row], order: Order, entries: &mut [Entry]) -> usize
-    requires { (order.t ≡ order_of table.now) × Passed table.now × (length (all_places table.now) ≤ length entries.old) }
-    ensures { (result ≡ length (all_places table.now)) × (entries.new ≡ sets entries.old 0 (map (place_entry table.now) (all_places table.now))) }
+fn enter_buckets(table: Checked<'_>, entries: &mut [Entry]) -> usize
+    requires { length (all_places table.rows.now) ≤ length entries.old }
+    ensures { let t = table.entry.rows.now in
+        (result ≡ length (all_places t)) × (entries.new ≡ sets entries.old 0 (map (place_entry t) (all_places t))) }
 {
-    let last = order.t;
     let mut found = 0;
-    let mut k: u32 = 0;
-    while k <= last {
-        let first = order.first_slot(k);
-        let end = first + built_of(table, k) as usize;
-        found = enter_live(table, first, end, entries, found);
-        k += 1;
+    for k in 0..table.order.buckets() {
+        let first = table.order.first_slot(k);
+        let end = first + table.built(k) as usize;
+        found = enter_live(table.rows, first, end, entries, found);
     }
     found
 }
 
 // The places of the live items by tag, equal tags by bucket, then slot, at the front of the entries. The reply is their
 // number.
-pub fn enter_by_tag(table: &[Row], order: Order, entries: &mut [Entry]) -> usize
-    requires { (order.t ≡ order_of table.now) × Passed table.now × (length (all_places table.now) ≤ length entries.old) }
-    ensures { (result ≡ length (places_by_tag table.now)) × (take result entries.new ≡ map (place_entry table.now) (places_by_tag table.now)) }
+pub fn enter_by_tag(table: Checked<'_>, entries: &mut [Entry]) -> usize
+    requires { length (all_places table.rows.now) ≤ length entries.old }
+    ensures { let t = table.entry.rows.now in
+        (result ≡ length (places_by_tag t)) × (take result entries.new ≡ map (place_entry t) (places_by_tag t)) }
 {
-    let n = enter_buckets(table, order, entries);
+    let n = enter_buckets(table, entries);
     sort_entries(&mut entries[..n]);
     n
 }

@@ -2,45 +2,42 @@
 // them listed.
 #![tactic(auto)]
 
-ghost use Rattle.std.specs.Prelude.{◌≡◌, map, ◌++◌, ◌-◌, ◌≤◌, ◌<◌, length, get_or, replicate};
+ghost use Rattle.std.specs.Prelude.{◌≡◌, map, ◌++◌, ◌-◌, ◌≤◌, ◌<◌, length, get_or, replicate, IfOk};
 ghost use Rattle.lists.specs.Lists.{All};
 ghost use Rattle.metric_rules.specs.Row.{tag_of};
-ghost use Rattle.metric_rules.specs.Distance.{space_of};
 ghost use Rattle.table_rules.specs.Geometry.{most_order, room, work_rows};
-ghost use Rattle.table_rules.specs.Table.{order_of, cleared};
-ghost use Rattle.table_rules.specs.Passed.{Passed};
+ghost use Rattle.table_rules.specs.Table.{order_of, table_space, cleared};
 ghost use Rattle.table_rules.specs.Search.{zero_entry};
 ghost use Rattle.lots_rules.specs.Lots.{listing_of};
 ghost use Rattle.lots_rules.specs.Drafting.{zero_summary, radii_pass, drafted_items, table_lots, table_summaries};
 ghost use Rattle.lots_rules.specs.Drafting.{table_listing, lots_refusal, summary_after_lots, listing_after_lots};
 ghost use Rattle.lots_rules.specs.Drafting.{work_after_lots};
-ghost use Rattle.table_checks.specs.Answers.{checked};
+ghost use Rattle.refusals.specs.Number.{refusal_in};
 ghost use Rattle.lots_draft.specs.Leading.{place_of, Placed};
 ghost use Rattle.table_lots.specs.Places.{place_summary, place_listing};
 
 use lots_draft::{draft_by, list_lots};
 use lots_gather::enter_by_tag;
-use lots_rules::{BAD_RADII, MOST_RADII, Summary};
+use lots_rules::{MOST_RADII, Summary};
 use metric_rules::Row;
+use refusals::Refusal;
 use search_reply::zero_entries;
 use search_rules::Entry;
 use table_checks::{Checked, change_check};
-use table_order::Order;
-use table_rules::NO_ROOM;
-use table_views::{HEADER_ROW, live_total};
+use table_views::HEADER_ROW;
 
 // Every entry of a summary becomes zero.
+#[tactic(auto, unfolding(lots_rules::specs::Drafting::zero_summary))]
 fn zero_summaries(area: &mut [Summary])
     ensures { area.new ≡ replicate (length area.old) zero_summary }
 {
-    let mut i = 0;
-    while i < area.len() {
-        area[i] = [0u32; 2];
-        i += 1;
+    for summary in area.iter_mut() {
+        *summary = [0u32; 2];
     }
 }
 
 // 1 to 32 radii, and a place in their list from 1 on.
+#[tactic(auto, unfolding(lots_rules::specs::Drafting::radii_pass, lots_rules::specs::Drafting::most_radii))]
 fn radii_pass(radii: &[u32], chosen: u32) -> bool
     ensures { result ≡ radii_pass radii.now chosen }
 {
@@ -49,51 +46,46 @@ fn radii_pass(radii: &[u32], chosen: u32) -> bool
 }
 
 // The first refusal that applies, in the call's order, or the table's order.
-fn lots_check(
-    table: &[Row],
+fn lots_check<'a>(
+    table: &'a [Row],
     work: &[Entry],
     radii: &[u32],
     summary: &[Summary],
     listing: &[Entry],
     chosen: u32,
-) -> Checked
-    ensures { let t = table.now in
-        let by = radii.now in
-        let refusal = lots_refusal t work.now summary.now listing.now by chosen in
-        result ≡ checked refusal t }
+) -> Result<Checked<'a>, Refusal>
+    ensures refusal { refusal_in result ≡ lots_refusal table.now work.now summary.now listing.now radii.now chosen }
+    ensures rows { IfOk result (λ checked. checked.rows.now ≡ table.now) }
 {
-    let first = change_check(table, work.len());
-    let Checked::Passes(order) = first else {
-        return first;
-    };
+    let checked = change_check(table, work.len())?;
     if !radii_pass(radii, chosen) {
-        return Checked::Refused(BAD_RADII);
+        return Err(Refusal::BadRadii);
     }
-    let items = live_total(table, order);
-    if (radii.len() <= summary.len()) & (items <= listing.len() as u64) {
-        Checked::Passes(order)
-    } else {
-        Checked::Refused(NO_ROOM)
+    let items = checked.live_total();
+    if !((radii.len() <= summary.len()) & (items <= listing.len() as u64)) {
+        return Err(Refusal::NoRoom);
     }
+    Ok(checked)
 }
 
 // The entries drafted by every radius in turn, each with its summary; the lots by the radius at place `at` are listed.
+// The lent areas stay arguments: each contract over a struct of them, lent on, would also have to say that it still holds
+// the same three, and by value it would call what they are left with exit.0 and exit.1.0.
 fn draft_each(
-    table: &[Row],
-    header: &Row,
+    table: Checked<'_>,
     entries: &mut [Entry],
     radii: &[u32],
     summary: &mut [Summary],
     listing: &mut [Entry],
     at: usize,
 )
-    requires { All (Placed table.now) entries.old
+    requires { All (Placed table.rows.now) entries.old
         × (length entries.old ≤ room most_order)
         × (length summary.old ≡ length radii.now)
         × (length entries.old ≤ length listing.old)
         × (at < length radii.now) }
-    ensures { let t = table.now in
-        let space = space_of header.now in
+    ensures { let t = table.entry.rows.now in
+        let space = table_space t in
         let es = entries.old in
         let places = map place_of es in
         let by = radii.now in
@@ -101,33 +93,31 @@ fn draft_each(
         (summary.new ≡ map (place_summary t space places) by)
         × (listing.new ≡ listed ++ replicate (length listing.old - length es) zero_entry) }
 {
-    let mut i = 0;
-    while i < radii.len() {
-        summary[i] = draft_by(table, header, entries, radii[i]);
+    let header = table.rows[HEADER_ROW];
+    for (i, radius) in radii.iter().enumerate() {
+        summary[i] = draft_by(table.rows, &header, entries, *radius);
         if i == at {
-            list_lots(table, entries, listing);
+            list_lots(table.rows, entries, listing);
         }
-        i += 1;
     }
 }
 
 // The same in a summary that may be longer: zeros follow to its end.
 fn draft_radii(
-    table: &[Row],
-    header: &Row,
+    table: Checked<'_>,
     entries: &mut [Entry],
     radii: &[u32],
     summary: &mut [Summary],
     listing: &mut [Entry],
     at: usize,
 )
-    requires { All (Placed table.now) entries.old
+    requires { All (Placed table.rows.now) entries.old
         × (length entries.old ≤ room most_order)
         × (length radii.now ≤ length summary.old)
         × (length entries.old ≤ length listing.old)
         × (at < length radii.now) }
-    ensures { let t = table.now in
-        let space = space_of header.now in
+    ensures { let t = table.entry.rows.now in
+        let space = table_space t in
         let es = entries.old in
         let places = map place_of es in
         let by = radii.now in
@@ -137,37 +127,26 @@ fn draft_radii(
         × (listing.new ≡ listed ++ replicate (length listing.old - length es) zero_entry) }
 {
     let count = radii.len();
-    draft_each(
-        table,
-        header,
-        entries,
-        radii,
-        &mut summary[..count],
-        listing,
-        at,
-    );
+    draft_each(table, entries, radii, &mut summary[..count], listing, at);
     zero_summaries(&mut summary[count..]);
 }
 
 // The live items by tag in the work area, drafted by every radius; the work area is zero after it.
 fn draft_items(
-    table: &[Row],
-    order: Order,
+    table: Checked<'_>,
     work: &mut [Entry],
     radii: &[u32],
     summary: &mut [Summary],
     listing: &mut [Entry],
     at: usize,
 )
-    requires { let items = length (drafted_items table.now) in
-        (order.t ≡ order_of table.now)
-        × Passed table.now
-        × (items ≤ length work.old)
+    requires { let items = length (drafted_items table.rows.now) in
+        (items ≤ length work.old)
         × (items ≤ room most_order)
         × (length radii.now ≤ length summary.old)
         × (items ≤ length listing.old)
         × (at < length radii.now) }
-    ensures { let t = table.now in
+    ensures { let t = table.entry.rows.now in
         let by = radii.now in
         let items = length (drafted_items t) in
         let told = table_summaries t by in
@@ -176,25 +155,22 @@ fn draft_items(
         × ((summary.new ≡ told ++ replicate (length summary.old - length by) zero_summary)
         × (listing.new ≡ listed ++ replicate (length listing.old - items) zero_entry)) }
 {
-    let header = table[HEADER_ROW];
-    let n = enter_by_tag(table, order, work);
-    draft_radii(table, &header, &mut work[..n], radii, summary, listing, at);
+    let n = enter_by_tag(table, work);
+    draft_radii(table, &mut work[..n], radii, summary, listing, at);
     zero_entries(work);
 }
 
 // An accepted drafting, in the first 2^T entries of the work area.
 fn draft_table(
-    table: &[Row],
-    order: Order,
+    table: Checked<'_>,
     work: &mut [Entry],
     radii: &[u32],
     summary: &mut [Summary],
     listing: &mut [Entry],
     chosen: u32,
 )
-    requires { (order.t ≡ order_of table.now)
-        × (lots_refusal table.now work.old summary.old listing.old radii.now chosen ≡ 0) }
-    ensures { let t = table.now in
+    requires { lots_refusal table.rows.now work.old summary.old listing.old radii.now chosen ≡ 0 }
+    ensures { let t = table.entry.rows.now in
         let by = radii.now in
         let items = length (drafted_items t) in
         let told = table_summaries t by in
@@ -203,10 +179,9 @@ fn draft_table(
         × ((summary.new ≡ told ++ replicate (length summary.old - length by) zero_summary)
         × (listing.new ≡ listed ++ replicate (length listing.old - items) zero_entry)) }
 {
-    let rows = order.work_rows();
+    let rows = table.order.work_rows();
     draft_items(
         table,
-        order,
         &mut work[..rows],
         radii,
         summary,
@@ -215,7 +190,8 @@ fn draft_table(
     );
 }
 
-// RULES 21, lots over a table: every value of every argument, a table and areas of any length and content.
+// RULES 21, lots over a table: every value of every argument, a table and areas of any length and content. The reply is
+// the refusal's number, 0 if accepted, as vpindex_lots replies it.
 pub fn lots(
     table: &[Row],
     work: &mut [Entry],
@@ -235,17 +211,16 @@ pub fn lots(
         × (listing.new ≡ listing_after_lots t work₀ summary₀ listing₀ by chosen))) }
 {
     match lots_check(table, work, radii, summary, listing, chosen) {
-        Checked::Passes(order) => {
-            draft_table(table, order, work, radii, summary, listing, chosen);
+        Ok(table) => {
+            draft_table(table, work, radii, summary, listing, chosen);
             0
         }
-        Checked::Refused(refusal) => {
-            if refusal == NO_ROOM {
+        Err(refusal) => {
+            if refusal == Refusal::NoRoom {
                 zero_summaries(summary);
                 zero_entries(listing);
-                return NO_ROOM;
             }
-            refusal
+            u32::from(refusal)
         }
     }
 }

@@ -1,9 +1,11 @@
 -- What a nearest call replies and leaves, test by test: a refusal its number, zeros and the area as it was; 6 where more is to be kept than the area
 -- holds; else the entries kept.
-use Prim.Native.Nat.{ℕ, suc, ◌-◌, ◌≤◌, ◌<◌, ◌^◌, min}
+use Prim.Native.Nat.{ℕ, zero, suc, ◌-◌, ◌≤◌, ◌<◌, ◌^◌, min}
 use native.Mathlib.Omega.{arith}
 use mathlib.Core.Path.{◌≡◌, refl, sym, ap, ap₂, subst, ◌∙◌}
-use mathlib.Core.Bool.{true, false}
+use mathlib.Core.Bool.{Bool, true, false}
+use lib.Dec.{eqb}
+use borrow.Author.Tests.{eqb-false}
 use mathlib.Core.List.{List, ◌++◌}
 use lib.ListN.{length, take, drop, replicate}
 use lib.Seq.{take-append_seam}
@@ -19,42 +21,66 @@ use Rattle.tree_nearest.specs.declared.Nearby.{Nearby}
 use Rattle.tree_nearest.specs.Nearby.{kept_under, Leaves}
 use Rattle.tree_nearest.proofs.Bounds.{under_bound}
 use Rattle.table_rules.specs.declared.Searched.{Searched}
-use Rattle.table_rules.specs.Refusals.{bad_measure, no_count, no_room}
+use Rattle.table_rules.specs.Refusals.{bad_measure, no_count, no_room, unless, when, or_else}
 use Rattle.table_rules.specs.Geometry.{room, header_row, buckets_of}
 use Rattle.table_rules.specs.Table.{Table, row_at, order_of}
 use Rattle.table_rules.specs.Checks.{read_refusal}
 use Rattle.table_rules.specs.Passed.{Passed}
-use Rattle.table_rules.specs.Search.{buckets_down, nearest_tally, nearest_answer, nearest_refusal, nearest_reply, result_after_nearest, zero_entry}
-use Rattle.table_rules.proofs.Replies.{not_short, refused_search, held_search, short_search, nearest-stopped, nearest-measure, nearest_none, nearest-fits}
+use Rattle.table_rules.specs.Search.{fit_refusal, buckets_down, nearest_tally, nearest_answer, nearest_refusal, nearest_reply, result_after_nearest, zero_entry}
+use Rattle.table_rules.proofs.Replies.{not_short, refused_search, held_search, short_search, nearest-fits}
 use Rattle.table_rules.proofs.Keeping.{nearest_size}
+use Rattle.table_rules.proofs.Chains.{or_zero, unless_zero, when_zero, or_not, unless_not}
+use Rattle.table_nearest.specs.Asking.{asking_refusal}
 use Rattle.table_nearest.specs.Tallies.{none_kept, reported_below, tally_below}
 use Rattle.table_nearest.proofs.Searching.{tally_all, Grown, grown_below}
+
+-- each test that a search passes before its slots are counted
+passes_all : (t : Table) (query : Profile) (k : ℕ) → 0 ≡ asking_refusal t query k → (read_refusal t ≡ 0) × (valid_measures query ≡ true) × (k ≡ 0 → ⊥)
+passes_all t query k passes =
+    let tests = or_zero (read_refusal t) _ (sym passes) in
+    let measures = unless_zero (valid_measures query) bad_measure _ (omega arith) tests.1 in
+    (tests.0, measures.0, eqb-false k 0 (when_zero (eqb k 0) no_count 0 (omega arith) measures.1).0)
+
+pub some_asked : (t : Table) (query : Profile) (k : ℕ) → 0 ≡ asking_refusal t query k → k ≡ 0 → ⊥
+some_asked t query k passes = (passes_all t query k passes).2
 
 module _ (t : Table) (area : List Entry) (query : Profile) (k firstDay : ℕ) where
   -- this reply and this area after the call are the definition's
   abbrev Right : Searched → List Entry → Type 0
   Right r last = (r ≡ nearest_reply t area query k firstDay) × (last ≡ result_after_nearest t area query k firstDay)
 
-  -- a refusal that is not 6
-  refused_by : (n : ℕ) → nearest_refusal t area query k firstDay ≡ n → (n ≡ 0 → ⊥) → (n ≡ no_room → ⊥) → Right (record { refusal = n; found = 0; distances = 0 }) area
-  unfolding nearest_reply result_after_nearest
-  refused_by n e some other = refused_search area (nearest_answer t query k firstDay) (nearest_refusal t area query k firstDay) n e some other
+  -- what stops the search before its slots are counted is its refusal, and it is not 6
+  stopped_by : (frame : ℕ) (measures none : Bool) (rest n : ℕ) → 0 < n → n ≡ or_else frame (unless measures bad_measure (when none no_count 0))
+      → or_else frame (unless measures bad_measure (when none no_count rest)) ≡ n
+  stopped_by zero true false rest n some e = absurd (omega arith)
+  stopped_by zero true true rest n some e = sym e
+  stopped_by zero false none rest n some e = sym e
+  stopped_by (suc frame) measures none rest n some e = sym e
 
-  pub refused_table : (n : ℕ) → n ≡ read_refusal t → (n ≡ 0 → ⊥) → Right (record { refusal = n; found = 0; distances = 0 }) area
-  refused_table n e some = refused_by n (nearest-stopped t area query k firstDay (λ z. some (e ∙ z)) ∙ sym e) some (λ six. not_short t (sym e ∙ six))
+  none_not_short : (none : Bool) → when none no_count 0 ≡ no_room → ⊥
+  none_not_short true e = absurd (omega arith)
+  none_not_short false e = absurd (omega arith)
 
-  pub refused_measure : read_refusal t ≡ 0 → valid_measures query ≡ false → Right (record { refusal = bad_measure; found = 0; distances = 0 }) area
-  refused_measure e v = refused_by bad_measure (nearest-measure t area query k firstDay e v) (λ z. omega arith) (λ z. omega arith)
+  pub refused_asking : (n : ℕ) → n ≡ asking_refusal t query k → 0 < n → Right (record { refusal = n; found = 0; distances = 0 }) area
+  unfolding nearest_refusal nearest_reply result_after_nearest
+  refused_asking n e some =
+      refused_search area (nearest_answer t query k firstDay) (nearest_refusal t area query k firstDay) n
+      (stopped_by (read_refusal t) (valid_measures query) (eqb k 0) _ n some e)
+      (λ z. omega arith)
+      (λ six. or_not (read_refusal t) _ no_room (not_short t) (unless_not (valid_measures query) bad_measure _ no_room (λ f z. omega arith) (none_not_short (eqb k 0))) (sym e ∙ six))
 
-  pub refused_none : read_refusal t ≡ 0 → valid_measures query ≡ true → k ≡ 0 → Right (record { refusal = no_count; found = 0; distances = 0 }) area
-  refused_none e v z = refused_by no_count (nearest_none t area query k firstDay e v z) (λ i. omega arith) (λ i. omega arith)
+  -- behind those tests the entries decide
+  fit_decides : 0 ≡ asking_refusal t query k → nearest_refusal t area query k firstDay ≡ fit_refusal area (nearest_answer t query k firstDay)
+  fit_decides passes =
+      let tests = passes_all t query k passes in
+      nearest-fits t area query k firstDay tests.0 tests.1 tests.2
 
   -- as many are kept as k and the slots that may be reported allow
   kept_size : length (nearest_tally t query k firstDay).kept ≡ min k (reported_below (may_report (query_row query k firstDay)) t (suc (order_of t)))
   unfolding nearest_answer reported_below buckets_down buckets_of
   kept_size = nearest_size t query k firstDay
 
-  module _ (passes : read_refusal t ≡ 0) (valid : valid_measures query ≡ true) (some : k ≡ 0 → ⊥) (order : ℕ) (is : order ≡ order_of t) (asked : List Row) (e : asked ≡ asked_of (row_at t header_row) query k firstDay) where
+  module _ (passes : 0 ≡ asking_refusal t query k) (order : ℕ) (is : order ≡ order_of t) (asked : List Row) (e : asked ≡ asked_of (row_at t header_row) query k firstDay) where
     size : length (nearest_tally t query k firstDay).kept ≡ min (k_asked asked) (reported_below (reports_asked asked) t (suc order))
     size =
         kept_size
@@ -64,7 +90,7 @@ module _ (t : Table) (area : List Entry) (query : Profile) (k firstDay : ℕ) wh
     -- more than the area holds
     pub refused_short : length area < min (k_asked asked) (reported_below (reports_asked asked) t (suc order)) → Right (record { refusal = no_room; found = 0; distances = 0 }) (replicate (length area) zero_entry)
     unfolding nearest_reply result_after_nearest nearest_answer
-    refused_short h = short_search area (nearest_answer t query k firstDay) (nearest_refusal t area query k firstDay) (nearest-fits t area query k firstDay passes valid some) (omega (arith, size))
+    refused_short h = short_search area (nearest_answer t query k firstDay) (nearest_refusal t area query k firstDay) (fit_decides passes) (omega (arith, size))
 
     -- what the buckets left, where the area holds it
     module _ (profile : IsProfile query) (p : Passed t) (fits : min (k_asked asked) (reported_below (reports_asked asked) t (suc order)) ≤ length area)
@@ -106,7 +132,7 @@ module _ (t : Table) (area : List Entry) (query : Profile) (k firstDay : ℕ) wh
       unfolding nearest_reply result_after_nearest nearest_answer tally
       answered found f same =
           let n : found ≡ length tally.kept = f ∙ kept-is in
-          let s = held_search area (nearest_answer t query k firstDay) (nearest_refusal t area query k firstDay) (nearest-fits t area query k firstDay passes valid some) (omega (arith, size)) in
+          let s = held_search area (nearest_answer t query k firstDay) (nearest_refusal t area query k firstDay) (fit_decides passes) (omega (arith, size)) in
           let rest : length mid - found ≡ length area - length tally.kept = omega (arith, same, n) in
           let front : take found mid ≡ tally.kept = ap₂ (λ (i : ℕ) (xs : List Entry). take i xs) n left.1 ∙ take-append_seam tally.kept (drop (length tally.kept) area) in (
             (λ i. record { refusal = 0; found = n i; distances = (left.0 i).count }) ∙ s.0,

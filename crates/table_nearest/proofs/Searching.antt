@@ -20,11 +20,10 @@ use Rattle.tree_nearest.specs.Nearby.{bound_of, kept_under, tally_of, Leaves, re
 use Rattle.tree_nearest.proofs.Bounds.{Near, bound_below, under_unbounded}
 use Rattle.tree_nearest.proofs.Steps.{Fit, Sound, short, sound-tree, leaves_as, leaves_same, ready_less, ready_fit, ready_few, ready-after, tally-after}
 use Rattle.tree_nearest.proofs.Steps.{leaves-then}
-use Rattle.table_rules.specs.Geometry.{room, buckets_of, header_row, first_slot}
-use Rattle.table_rules.specs.Table.{Table, row_at, order_of, table_space, built_of, slots_of}
+use Rattle.table_rules.specs.Geometry.{room, buckets_of, header_row}
+use Rattle.table_rules.specs.Table.{Table, row_at, order_of, table_space, slots_of}
 use Rattle.table_rules.specs.Search.{buckets_down, nearest_tally}
 use Rattle.table_rules.specs.Passed.{Passed}
-use Rattle.table_rules.proofs.Passing.{built_inside}
 use Rattle.table_rules.proofs.Down.{below, below_next, below_none, few_slots}
 use Rattle.table_nearest.specs.Tallies.{none_kept, most_slots, reported_below, bucket_tally, tally_below}
 
@@ -44,15 +43,6 @@ module _ (reports : Row → Bool) (t : Table) where
   pub reported_none : reported_below reports t 0 ≡ 0
   unfolding reported_below below total
   reported_none = ap (λ (bs : List ℕ). total (map (λ b. reported_in reports (slots_of t b)) bs)) below_none
-
--- a bucket's slots are inside the table
-pub slots_inside : (t : Table) → Passed t → (order b : ℕ) → order ≡ order_of t → b ≤ order → (order ≡ order_of t) × (order < 31) × (b ≤ order) × (first_slot order b + built_of t b ≤ length t)
-slots_inside t p order b e h = (
-  e,
-  omega (arith, e, p.framed.order),
-  h,
-  subst (λ (n : ℕ). first_slot n b + built_of t b ≤ length t) (sym e) (built_inside p b (omega (arith, e))),
-)
 
 -- a search can start with nothing kept
 none_ready : (k reported n : ℕ) (area : List Entry) → 0 < k → min k reported ≤ length area → n < 2 ^ 32 → Ready k reported n area (record { count = 0; bound = 2 ^ 32 })

@@ -2,24 +2,24 @@
 // standing in the area.
 #![tactic(auto)]
 
-ghost use Rattle.std.specs.Prelude.{◌≡◌, ◌≤◌, ◌<◌, min, suc, leb, length};
+ghost use Rattle.std.specs.Prelude.{◌≡◌, ◌≤◌, ◌<◌, min, suc, leb, length, IfOk};
 ghost use Rattle.metric_rules.specs.Row.{may_report};
 ghost use Rattle.search_asked.specs.Asked.{reports_asked, k_asked};
 ghost use Rattle.tree_nearest.specs.Nearby.{Leaves, reported_in, ReadyAsked, nearest_asked};
-ghost use Rattle.table_rules.specs.Table.{order_of};
-ghost use Rattle.table_rules.specs.Passed.{Passed};
 ghost use Rattle.table_rules.specs.Search.{nearest_reply, result_after_nearest};
+ghost use Rattle.refusals.specs.Number.{refusal_in};
+ghost use Rattle.table_nearest.specs.Asking.{asking_refusal};
 ghost use Rattle.table_nearest.specs.Tallies.{none_kept, reported_below, tally_below};
 
 use metric_rules::{Profile, Row};
+use refusals::Refusal;
 use rows::threshold_of;
 use search_asked::{Asked, asked_of, may_report};
 use search_reply::{accepted, refused, too_short};
 use search_rules::Entry;
 use table_checks::{Checked, read_check};
-use table_order::Order;
-use table_rules::{BAD_MEASURE, NO_COUNT, Searched};
-use table_views::{HEADER_ROW, slots_of};
+use table_rules::Searched;
+use table_views::HEADER_ROW;
 use tree_nearest::{Nearby, UNBOUNDED, kept_under};
 use tree_nearest_tally::visited;
 use validity::valid_measures;
@@ -28,41 +28,32 @@ use validity::valid_measures;
 fn count_reported(slots: &[Row], query: &Row) -> usize
     ensures { result ≡ reported_in (may_report query.now) slots.now }
 {
-    let mut found: usize = 0;
-    let mut i = 0;
-    while i < slots.len() {
-        if may_report(query, slots[i]) {
-            found += 1;
-        }
-        i += 1;
-    }
-    found
+    slots.iter().filter(|row| may_report(query, **row)).count()
 }
 
 // How many slots of all buckets it may report.
-fn count_all_reported(table: &[Row], order: Order, query: &Row) -> usize
-    requires { (order.t ≡ order_of table.now) × Passed table.now }
-    ensures { result ≡ reported_below (may_report query.now) table.now (suc order.t) }
+fn count_all_reported(table: Checked<'_>, query: &Row) -> usize
+    ensures { let t = table.entry in
+        result ≡ reported_below (may_report query.now) t.rows.now (suc t.order.t) }
 {
     let mut found: usize = 0;
-    let mut bucket = order.t + 1;
-    while 0 < bucket {
-        bucket -= 1;
-        found += count_reported(slots_of(table, order, bucket), query);
+    for bucket in (0..table.order.buckets()).rev() {
+        found += count_reported(table.slots(bucket), query);
     }
     found
 }
 
 // Whether so many entries hold the reply. Those of a shorter area than k are counted beforehand, so that a search has
 // room for all that it keeps.
-fn reply_fits(table: &[Row], order: Order, entries: usize, asked: &Asked) -> bool
-    requires { (order.t ≡ order_of table.now) × Passed table.now }
-    ensures { result ≡ leb (min (k_asked asked.now) (reported_below (reports_asked asked.now) table.now (suc order.t))) entries }
+fn reply_fits(table: Checked<'_>, entries: usize, asked: &Asked) -> bool
+    ensures { let t = table.entry in
+        let reported = reported_below (reports_asked asked.now) t.rows.now (suc t.order.t) in
+        result ≡ leb (min (k_asked asked.now) reported) entries }
 {
     if threshold_of(asked[1]) as usize <= entries {
         return true;
     }
-    count_all_reported(table, order, &asked[1]) <= entries
+    count_all_reported(table, &asked[1]) <= entries
 }
 
 // One bucket's slots, from what the buckets above it have kept, by way of the tally that is lent. An empty bucket is
@@ -78,20 +69,38 @@ fn nearest_bucket(near: Nearby, slots: &[Row], area: &mut [Entry], asked: &Asked
 }
 
 // All buckets, the highest first.
-fn nearest_buckets(table: &[Row], order: Order, area: &mut [Entry], asked: &Asked) -> Nearby
-    requires { (order.t ≡ order_of table.now) × Passed table.now × (0 < k_asked asked.now) × (min (k_asked asked.now) (reported_below (reports_asked asked.now) table.now (suc order.t)) ≤ length area.old) }
-    ensures { Leaves (k_asked asked.now) (tally_below asked.now table.now (suc order.t) none_kept) area.old area.new result }
+fn nearest_buckets(table: Checked<'_>, area: &mut [Entry], asked: &Asked) -> Nearby
+    requires some { 0 < k_asked asked.now }
+    requires room { let reported = reported_below (reports_asked asked.now) table.rows.now (suc table.order.t) in
+        min (k_asked asked.now) reported ≤ length area.old }
+    ensures { let t = table.entry in
+        let tally = tally_below asked.now t.rows.now (suc t.order.t) none_kept in
+        Leaves (k_asked asked.now) tally area.old area.new result }
 {
     let mut near = Nearby {
         count: 0,
         bound: UNBOUNDED,
     };
-    let mut bucket = order.t + 1;
-    while 0 < bucket {
-        bucket -= 1;
-        near = nearest_bucket(near, slots_of(table, order, bucket), area, asked);
+    for bucket in (0..table.order.buckets()).rev() {
+        near = nearest_bucket(near, table.slots(bucket), area, asked);
     }
     near
+}
+
+// What a nearest search goes on with: what the table's tests pass, measures that are valid, and an item asked for. A
+// query's profile, k and first day go on as C's call has them, until they are a row.
+fn nearest_check(table: &[Row], query: Profile, k: u32) -> Result<Checked<'_>, Refusal>
+    ensures refusal { refusal_in result ≡ asking_refusal table.now query k }
+    ensures rows { IfOk result (λ checked. checked.rows.now ≡ table.now) }
+{
+    let checked = read_check(table)?;
+    if !valid_measures(query) {
+        return Err(Refusal::BadMeasure);
+    }
+    if k == 0 {
+        return Err(Refusal::NoCount);
+    }
+    Ok(checked)
 }
 
 // RULES 11, nearest over a table: every value of every argument, a table and an area of any length and content.
@@ -99,20 +108,14 @@ pub fn nearest(table: &[Row], res: &mut [Entry], query: Profile, k: u32, first_d
     ensures reply { result ≡ nearest_reply table.now res.old query k first_day }
     ensures area { res.new ≡ result_after_nearest table.now res.old query k first_day }
 {
-    let order = match read_check(table) {
-        Checked::Refused(refusal) => return refused(refusal),
-        Checked::Passes(order) => order,
+    let table = match nearest_check(table, query, k) {
+        Err(refusal) => return refused(u32::from(refusal)),
+        Ok(table) => table,
     };
-    if !valid_measures(query) {
-        return refused(BAD_MEASURE);
-    }
-    if k == 0 {
-        return refused(NO_COUNT);
-    }
-    let asked = asked_of(table[HEADER_ROW], query, k, first_day);
-    if !reply_fits(table, order, res.len(), &asked) {
+    let asked = asked_of(table.rows[HEADER_ROW], query, k, first_day);
+    if !reply_fits(table, res.len(), &asked) {
         return too_short(res);
     }
-    let near = nearest_buckets(table, order, res, &asked);
+    let near = nearest_buckets(table, res, &asked);
     accepted(res, kept_under(near.bound, k), near.count)
 }

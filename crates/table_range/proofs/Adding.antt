@@ -21,7 +21,7 @@ use Rattle.table_rules.specs.Geometry.{buckets_of, header_row}
 use Rattle.table_rules.specs.Table.{Table, row_at, order_of, table_space, slots_of}
 use Rattle.table_rules.specs.Search.{buckets_down, range_met}
 use Rattle.table_rules.proofs.Down.{below, below_next, below_none}
-use Rattle.table_range.specs.Below.{met_below, none_found}
+use Rattle.table_range.specs.Below.{met_below}
 
 module _ (asked : List Row) (t : Table) where
   pub met_next : (n : ℕ) → met_below asked t (suc n) ≡ both (range_asked asked (slots_of t n)) (met_below asked t n)
@@ -36,14 +36,6 @@ module _ (asked : List Row) (t : Table) where
   pub record Adds (n : ℕ) (whole : Found) (wholeArea : List Entry) (found : Found) (area : List Entry) : Type 0 where
     pub numbers : found_after found (met_below asked t n) ≡ whole
     pub entries : collected area found (met_below asked t n) ≡ wholeArea
-
-  -- at first nothing is found
-  pub adds_all : (n m : ℕ) → n ≡ m → (area : List Entry) → Adds n (found_after none_found (met_below asked t m)) (collected area none_found (met_below asked t m)) none_found area
-  adds_all n m e area =
-      record {
-        numbers = ap (λ (i : ℕ). found_after none_found (met_below asked t i)) e;
-        entries = ap (λ (i : ℕ). collected area none_found (met_below asked t i)) e;
-      }
 
   -- bucket n is visited
   pub adds_next : {n : ℕ} {whole : Found} {wholeArea : List Entry} {found : Found} {area : List Entry} (m : ℕ) → m ≡ suc n → Adds m whole wholeArea found area

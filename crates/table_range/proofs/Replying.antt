@@ -1,10 +1,10 @@
 -- What a range call replies and leaves, test by test: a refusal its number, zeros and the area as it was; else the hits in order, or 6.
-use Prim.Native.Nat.{ℕ, ◌+◌, ◌-◌, ◌≤◌, ◌<◌}
+use Prim.Native.Nat.{ℕ, zero, suc, ◌+◌, ◌-◌, ◌≤◌, ◌<◌}
 use native.Mathlib.Omega.{arith}
 use native.Mathlib.Decide.{dec_le}
 use native.Mathlib.Nat.{lt_of_not-le}
 use mathlib.Core.Path.{◌≡◌, sym, ap, ap₂, subst, ◌∙◌}
-use mathlib.Core.Bool.{true, false}
+use mathlib.Core.Bool.{Bool, true, false}
 use mathlib.Core.List.{List, ◌++◌}
 use lib.ListN.{length, take, replicate}
 use Rattle.lists.specs.Lists.{All}
@@ -17,30 +17,33 @@ use Rattle.search_rules.specs.Range.{Entry, Pair, Met, entry_key, ordered}
 use Rattle.tree_range.specs.Collected.{found_after, collected}
 use Rattle.tree_range.proofs.Collecting.{collected_front, collected_length}
 use Rattle.table_rules.specs.declared.Searched.{Searched}
-use Rattle.table_rules.specs.Refusals.{bad_measure, no_room}
+use Rattle.table_rules.specs.Refusals.{bad_measure, no_room, unless, or_else}
 use Rattle.table_rules.specs.Table.{Table}
 use Rattle.table_rules.specs.Checks.{read_refusal}
 use Rattle.table_rules.specs.Search.{Answer, range_met, range_answer, range_reply, result_after_range, range_refusal, fit_refusal, zero_entry}
-use Rattle.table_rules.proofs.Replies.{not_short, refused_search, held_search, short_search, range-stopped, range-measure, range-fits}
+use Rattle.table_rules.proofs.Replies.{not_short, refused_search, held_search, short_search, range-fits}
+use Rattle.table_rules.proofs.Chains.{or_zero, unless_zero, or_not, unless_not}
+use Rattle.table_range.specs.Asking.{asking_refusal}
 use Rattle.table_range.specs.Below.{none_found}
 
 module _ (t : Table) (area : List Entry) (query : Profile) (radius firstDay : ℕ) where
-  -- a refusal that is not 6
-  refused_by : (n : ℕ) → range_refusal t area query radius firstDay ≡ n → (n ≡ 0 → ⊥) → (n ≡ no_room → ⊥)
-      → (record { refusal = n; found = 0; distances = 0 } ≡ range_reply t area query radius firstDay) × (area ≡ result_after_range t area query radius firstDay)
-  unfolding range_reply result_after_range
-  refused_by n e some other = refused_search area (range_answer t query radius firstDay) (range_refusal t area query radius firstDay) n e some other
+  -- what stops the search before its buckets are met is its refusal, and it is not 6
+  stopped_by : (frame : ℕ) (measures : Bool) (rest n : ℕ) → 0 < n → n ≡ or_else frame (unless measures bad_measure 0) → or_else frame (unless measures bad_measure rest) ≡ n
+  stopped_by zero true rest n some e = absurd (omega arith)
+  stopped_by zero false rest n some e = sym e
+  stopped_by (suc frame) measures rest n some e = sym e
 
-  pub refused_table : (n : ℕ) → n ≡ read_refusal t → (n ≡ 0 → ⊥)
+  pub refused_asking : (n : ℕ) → n ≡ asking_refusal t query → 0 < n
       → (record { refusal = n; found = 0; distances = 0 } ≡ range_reply t area query radius firstDay) × (area ≡ result_after_range t area query radius firstDay)
-  refused_table n e some = refused_by n (range-stopped t area query radius firstDay (λ z. some (e ∙ z)) ∙ sym e) some (λ six. not_short t (sym e ∙ six))
-
-  pub refused_measure : read_refusal t ≡ 0 → valid_measures query ≡ false
-      → (record { refusal = bad_measure; found = 0; distances = 0 } ≡ range_reply t area query radius firstDay) × (area ≡ result_after_range t area query radius firstDay)
-  refused_measure e v = refused_by bad_measure (range-measure t area query radius firstDay e v) (λ z. omega arith) (λ z. omega arith)
+  unfolding range_refusal range_reply result_after_range
+  refused_asking n e some =
+      refused_search area (range_answer t query radius firstDay) (range_refusal t area query radius firstDay) n
+      (stopped_by (read_refusal t) (valid_measures query) _ n some e)
+      (λ z. omega arith)
+      (λ six. or_not (read_refusal t) _ no_room (not_short t) (unless_not (valid_measures query) bad_measure 0 no_room (λ f z. omega arith) (λ z. omega arith)) (sym e ∙ six))
 
   -- what was met, and what `reply_with` says of it
-  module _ (passes : read_refusal t ≡ 0) (valid : valid_measures query ≡ true) (f : Found) (mid : List Entry) (met : Met) (is : met ≡ range_met t query radius firstDay) (pairs : All Pair met.hits)
+  module _ (passes : 0 ≡ asking_refusal t query) (f : Found) (mid : List Entry) (met : Met) (is : met ≡ range_met t query radius firstDay) (pairs : All Pair met.hits)
       (found : f ≡ found_after none_found met) (collects : mid ≡ collected area none_found met) where
     hits : f.hits ≡ length met.hits
     unfolding found_after
@@ -70,7 +73,9 @@ module _ (t : Table) (area : List Entry) (query : Profile) (radius firstDay : �
 
     refusal_is : range_refusal t area query radius firstDay ≡ fit_refusal area answer
     unfolding answer
-    refusal_is = range-fits t area query radius firstDay passes valid
+    refusal_is =
+        let tests = or_zero (read_refusal t) _ (sym passes) in
+        range-fits t area query radius firstDay tests.0 (unless_zero (valid_measures query) bad_measure 0 (omega arith) tests.1).0
 
     -- the front of the area holds the hits
     front : f.hits ≤ length area → take f.hits mid ≡ met.hits

@@ -2,7 +2,7 @@
 -- have still to meet make up the whole at any time.
 use Prim.Native.Nat.{ℕ, suc, ◌+◌, ◌-◌, ◌*◌, ◌≤◌}
 use native.Mathlib.Omega.{arith}
-use mathlib.Core.Path.{◌≡◌, refl, sym, ap, subst, ◌∙◌}
+use mathlib.Core.Path.{◌≡◌, refl, sym, ap, ◌∙◌}
 use mathlib.Core.Bool.{Bool, true, false}
 use mathlib.Core.List.{List, [], ◌++◌, map}
 use lib.ListN.{length}
@@ -63,18 +63,6 @@ module _ (batch : List Row) (on : ℕ) (t : Table) where
       pub fewer : Fewer (room most_order * k) found
       pub few : count + room most_order * k ≤ room most_order * suc most_order
       pub same : length area ≡ length area₀
-
-    -- at first nothing is found
-    pub adds_all : Fewer (room most_order * suc most_order) found₀ → top ≤ suc most_order → (k : ℕ) → k ≡ top → Adds k 0 found₀ area₀
-    unfolding room
-    adds_all f most k e =
-        record {
-          counts = omega (arith, ap (count_below batch on t) e);
-          hits = λ x a c. subst (λ (n : ℕ). Collects part (hits_below batch on t n) found₀ area₀ x a) e c;
-          fewer = fewer_less f (omega arith);
-          few = omega arith;
-          same = refl;
-        }
 
     -- bucket n is visited
     pub adds_next : {n count : ℕ} {found : List ℕ} {area : List Entry} (k : ℕ) → k ≡ suc n → Adds k count found area

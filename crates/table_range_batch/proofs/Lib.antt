@@ -1,5 +1,4 @@
 -- What a batch goes by, what its buckets add up to, its parts put in order, and its reply.
-mod Refusing
 mod Asking
 mod Adding
 mod Ordering

@@ -3,7 +3,7 @@ use Prim.Native.Nat.{ℕ, suc, ◌+◌, ◌-◌, ◌*◌, ◌≤◌, ◌<◌}
 use native.Mathlib.Omega.{arith}
 use native.Mathlib.Nat.{suc-mul, mul-le-mul_right, lt_of_not-le}
 use native.Mathlib.Decide.{dec_le}
-use mathlib.Core.Path.{◌≡◌, refl, sym, ap, ap₂, subst, ◌∙◌}
+use mathlib.Core.Path.{◌≡◌, sym, ap, ap₂, subst, ◌∙◌}
 use mathlib.Core.Bool.{true, false}
 use mathlib.Core.List.{List, [], ◌∷◌, ◌++◌, append_assoc}
 use lib.ListN.{length, take, drop, get_or, replicate, length-take, length-drop, length-append, length-replicate, take-append-drop}
@@ -83,9 +83,6 @@ pub record OrderedTo (size n : ℕ) (found : List ℕ) (area₀ : List Entry) (j
   pub done : (i : ℕ) → i < j → Ordered size found area₀ area i
   pub rest : (i : ℕ) → j ≤ i → part_at size i area ≡ part_at size i area₀
   pub same : length area ≡ length area₀
-
-pub ordered_none : (size n : ℕ) (found : List ℕ) (area : List Entry) → OrderedTo size n found area 0 area
-ordered_none size n found area = record { decides = refl; done = λ i h. absurd (omega (arith, h)); rest = λ i h. refl; same = refl }
 
 module _ {size n : ℕ} {found : List ℕ} {area₀ : List Entry} {j : ℕ} {area : List Entry} (o : OrderedTo size n found area₀ j area) (less : j < n) (long : n ≤ length found) where
   at : get_or (take n found) j 0 ≡ get_or found j 0

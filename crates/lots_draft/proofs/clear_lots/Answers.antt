@@ -13,21 +13,15 @@ cleared_at : (e x : Entry) → x ≡ e → get_or x 0 0 ∷ 0 ∷ [] ≡ without
 unfolding without_lot entry place_of
 cleared_at e x q = ap (λ (y : Entry). get_or y 0 0 ∷ 0 ∷ []) q
 
-pub loop-i-preserved : goal.loop-i-preserved
-loop-i-preserved c =
-    let l = c.loop-i in
+pub loop-e-preserved : goal.loop-e-preserved
+loop-e-preserved c =
+    let l = c.loop-e in
     let old = c.args.entries.now in
-    let h : l.i < length old = omega (arith, l.invariant.size) in
-    mapped_next without_lot old l.i l.entries l.invariant h _ (cleared_at (get_or old l.i []) _ (mapped_at without_lot old l.i l.entries l.invariant h))
+    let h : l.e-index < length old = omega (arith, l.invariant.size) in
+    mapped_next without_lot old l.e-index l.entries l.invariant h _ (cleared_at (get_or old l.e-index []) _ (mapped_at without_lot old l.e-index l.entries l.invariant h))
 
 pub returns : goal.returns
-returns c = mapped_all without_lot _ _ _ (omega (arith, c.loop-i.invariant.size)) c.loop-i.invariant
+returns c = mapped_all without_lot _ _ _ (omega (arith, c.loop-e.invariant.size)) c.loop-e.invariant
 
-pub loop-i-init : goal.loop-i-init
-loop-i-init c = mapped_none without_lot c.args.entries.now
-
-pub loop-i-smaller : goal.loop-i-smaller
-loop-i-smaller c = omega (arith, c.loop-i.invariant.size)
-
-pub shape_of-entries : goal.shape_of-entries
-shape_of-entries c = c.loop-i.invariant.size
+pub loop-e-init : goal.loop-e-init
+loop-e-init c = mapped_none without_lot c.args.entries.now

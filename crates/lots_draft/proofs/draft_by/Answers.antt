@@ -1,9 +1,9 @@
 -- `lots_draft::draft_by` meets its contract. The loop's invariant: what the first i entries have come to, and those behind them will, is the whole.
 use native.Mathlib.Omega.{arith}
-use Prim.Native.Nat.{ℕ, ◌+◌, ◌-◌, ◌≤◌}
-use mathlib.Core.Path.{◌≡◌, refl, sym, ap, ap₂, subst, ◌∙◌}
-use mathlib.Core.List.{List, [], ◌∷◌, ◌++◌, map, Permᴰ}
-use lib.ListN.{length, take, drop, length-map, length-append, length-take, length-drop}
+use Prim.Native.Nat.{ℕ, ◌+◌, ◌≤◌}
+use mathlib.Core.Path.{◌≡◌, sym, ap, ap₂, subst, ◌∙◌}
+use mathlib.Core.List.{List, [], ◌∷◌, map, Permᴰ}
+use lib.ListN.{length, length-map, length-take, length-drop}
 use Rattle.lists.specs.Lists.{All}
 use Rattle.lists.proofs.Lists.{all_drop}
 use Rattle.metric_rules.specs.Distance.{space_of}
@@ -22,7 +22,7 @@ loop-i-init c =
     let es = c.args.entries.now in
     let cleared = c.clear_lots.new.entries in
     let is = c.clear_lots.ensures in
-    (omega arith, refl, awaits_start _ _ _ _ es cleared (sym (ap (map place_of) is ∙ without_places es)) is)
+    awaits_start _ _ _ _ es cleared (sym (ap (map place_of) is ∙ without_places es)) is
 
 -- the places are still those that were handed over
 module _ (c : At-loop-i) where
@@ -39,7 +39,7 @@ module _ (c : At-loop-i) where
   size = sym (length-map cleared place_of) ∙ ap length same_places ∙ length-map given place_of
 
   placed : All (Placed c.args.table.now) c.loop-i.entries
-  placed = placed_kept c.args.table.now given c.loop-i.entries (awaits_places _ _ _ _ c.loop-i.entries c.loop-i.i c.loop-i.drafted c.loop-i.invariant.2 ∙ same_places) c.requires.0
+  placed = placed_kept c.args.table.now given c.loop-i.entries (awaits_places _ _ _ _ c.loop-i.entries c.loop-i.i c.loop-i.drafted c.loop-i.invariant ∙ same_places) c.requires.0
 
 pub lead_next-drafted-requires : goal.lead_next-drafted-requires
 lead_next-drafted-requires c =
@@ -49,11 +49,8 @@ lead_next-drafted-requires c =
     let part = part_rest l.i l.entries in (
       omega (arith, ap length part, rest),
       subst (All (Placed t)) (sym part) (all_drop (Placed t) l.i l.entries (placed (goal.at.lead_next-drafted-requires c).At-loop-i)),
-      omega (arith, ap length part, rest, l.invariant.2.few, length-take l.i l.entries, l.invariant.1, size (goal.at.lead_next-drafted-requires c).At-loop-i, c.requires.1),
+      omega (arith, ap length part, rest, l.invariant.few, length-take l.i l.entries, l.auto.entries, size (goal.at.lead_next-drafted-requires c).At-loop-i, c.requires.1),
     )
-
-put_length : (es last : List Entry) (i : ℕ) → i ≤ length es → length last ≡ length (take (length es - i) (drop i es)) → length (take i es ++ last) ≡ length es
-put_length es last i h e = omega (arith, length-append (take i es) last, length-take i es, e, ap length (part_rest i es), length-drop i es)
 
 pub loop-i-preserved : goal.loop-i-preserved
 loop-i-preserved c =
@@ -65,19 +62,15 @@ loop-i-preserved c =
     let call = c.lead_next-drafted in
     let last = call.new.entries in
     let back = put_rest l.i l.entries last in
-    let long : length (take l.i l.entries ++ last) ≡ length l.entries = put_length l.entries last l.i l.invariant.0 call.auto.entries in
-    let part = part_rest l.i l.entries in (
-      omega (arith, ap length back, long),
-      ap length back ∙ long ∙ l.invariant.1,
-      subst (λ (es : List Entry). AwaitsAt t space s.args.radius ps es (l.i + 1) call.result) (sym back)
-          (awaits_step t space s.args.radius ps l.entries l.i l.drafted (omega arith) l.invariant.2 call.result last
-          (call.ensures.0 ∙ ap (draft_led t space s.args.radius l.drafted) part)
-          (call.ensures.1 ∙ ap (entries_led t space s.args.radius l.drafted) part)),
-    )
+    let part = part_rest l.i l.entries in
+    subst (λ (es : List Entry). AwaitsAt t space s.args.radius ps es (l.i + 1) call.result) (sym back)
+    (awaits_step t space s.args.radius ps l.entries l.i l.drafted (omega (arith, l.auto.entries)) l.invariant call.result last
+    (call.ensures.0 ∙ ap (draft_led t space s.args.radius l.drafted) part)
+    (call.ensures.1 ∙ ap (entries_led t space s.args.radius l.drafted) part))
 
 few : (c : At-loop-i) → (c.loop-i.drafted.lots ≤ room most_order) × (c.loop-i.drafted.largest ≤ room most_order)
 few c =
-    let most = awaits_few _ _ _ _ c.loop-i.entries c.loop-i.i c.loop-i.drafted c.loop-i.invariant.2 in
+    let most = awaits_few _ _ _ _ c.loop-i.entries c.loop-i.i c.loop-i.drafted c.loop-i.invariant in
     let n = length-map (cleared c) place_of in
     (omega (arith, most.0, n, size c, c.requires.1), omega (arith, most.1, n, size c, c.requires.1))
 
@@ -89,19 +82,13 @@ returns c =
     let s = c in
     let t = s.args.table.now in
     let space = space_of s.args.header.now in
-    let end = awaits_end t space s.args.radius (map place_of (cleared (goal.at.returns c).At-loop-i)) l.entries l.i l.drafted (omega arith) l.invariant.2 in (
+    let end = awaits_end t space s.args.radius (map place_of (cleared (goal.at.returns c).At-loop-i)) l.entries l.i l.drafted (omega arith) l.invariant in (
       ap₂ (λ (n m : ℕ). n ∷ m ∷ []) end.0 end.1 ∙ ap (λ (ps : List ℕ). summary_of (place_lots t space s.args.radius ps)) same,
       (subst (λ (ps : List ℕ). Permᴰ l.entries (numbered (λ q. q) 1 (place_lots t space s.args.radius ps))) same end.2, end.3 ∙ same),
     )
-
-pub loop-i-smaller : goal.loop-i-smaller
-loop-i-smaller c = omega (arith, c.loop-i.invariant.1)
 
 pub overflow_cast-result : goal.overflow_cast-result
 overflow_cast-result c = omega (arith, (few (goal.at.overflow_cast-result c).At-loop-i).0, room_most most_order (omega arith))
 
 pub overflow_cast-result-2 : goal.overflow_cast-result-2
 overflow_cast-result-2 c = omega (arith, (few (goal.at.overflow_cast-result-2 c).At-loop-i).1, room_most most_order (omega arith))
-
-pub shape_of-entries : goal.shape_of-entries
-shape_of-entries c = c.loop-i.invariant.1 ∙ size (goal.at.shape_of-entries c).At-loop-i

@@ -1,9 +1,9 @@
 -- `lots_draft::name_lots` meets its contract: the first i entries of the listing are written, and the others stand as they did.
 use native.Mathlib.Omega.{arith}
 use Prim.Native.Nat.{ℕ, ◌<◌}
-use mathlib.Core.Path.{◌≡◌, refl, sym, ap, ◌∙◌}
+use mathlib.Core.Path.{◌≡◌, sym, ap, ◌∙◌}
 use mathlib.Core.List.{[], ◌∷◌, map}
-use lib.ListN.{length, get_or, length-map, length-set}
+use lib.ListN.{length, get_or, length-map}
 use Rattle.lists.proofs.Lists.{all_at}
 use Rattle.metric_rules.specs.Row.{tag_of}
 use Rattle.search_rules.specs.Range.{Entry, entry}
@@ -32,12 +32,9 @@ loop-i-preserved c =
     let es = s.args.entries.now in
     let old = s.args.listing.now in
     let h : l.i < length es = omega arith in
-    let x = c.tag_of.result ∷ get_or (get_or es l.i []) 1 0 ∷ [] in (
-      omega arith,
-      simp length-set l.invariant.1,
-      written_step old (map (tag_lot t) es) (length-map es (tag_lot t) ∙ sym s.requires.1) [] l.listing x l.i (omega (arith, s.requires.1)) l.invariant.2
-          (named_at t (get_or es l.i []) c.tag_of.result c.tag_of.ensures ∙ sym (get_or_mapped (tag_lot t) es l.i [] [] h)),
-    )
+    let x = c.tag_of.result ∷ get_or (get_or es l.i []) 1 0 ∷ [] in
+    written_step old (map (tag_lot t) es) (length-map es (tag_lot t) ∙ sym s.requires.1) [] l.listing x l.i (omega (arith, s.requires.1)) l.invariant
+    (named_at t (get_or es l.i []) c.tag_of.result c.tag_of.ensures ∙ sym (get_or_mapped (tag_lot t) es l.i [] [] h))
 
 pub returns : goal.returns
 returns c =
@@ -45,19 +42,10 @@ returns c =
     let s = c in
     let es = s.args.entries.now in
     let t = s.args.table.now in
-    l.invariant.2 ∙ written_all s.args.listing.now (map (tag_lot t) es) (length-map es (tag_lot t) ∙ sym s.requires.1) [] l.i (omega (arith, s.requires.1))
-
-pub loop-i-init : goal.loop-i-init
-loop-i-init c = (omega arith, refl, refl)
+    l.invariant ∙ written_all s.args.listing.now (map (tag_lot t) es) (length-map es (tag_lot t) ∙ sym s.requires.1) [] l.i (omega (arith, s.requires.1))
 
 pub offset_bounds-table-at : goal.offset_bounds-table-at
-offset_bounds-table-at c = omega (arith, inside c.before)
+offset_bounds-table-at c = omega (arith, inside (goal.at.offset_bounds-table-at c).In-loop-i)
 
 pub bounds-table-at : goal.bounds-table-at
-bounds-table-at c = inside c.before
-
-pub bounds-listing-i : goal.bounds-listing-i
-bounds-listing-i c = omega (arith, c.loop-i.invariant.1, c.requires.1)
-
-pub shape_of-listing : goal.shape_of-listing
-shape_of-listing c = c.loop-i.invariant.1
+bounds-table-at c = inside (goal.at.bounds-table-at c).In-loop-i

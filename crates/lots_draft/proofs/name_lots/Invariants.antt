@@ -1,14 +1,9 @@
-use Prim.Native.Nat.{◌-◌, ◌≤◌}
 use mathlib.Core.Path.{◌≡◌}
 use mathlib.Core.List.{map}
-use lib.ListN.{length}
 use Rattle.tree_rules.proofs.Parts.{written_to}
 use Rattle.lots_draft.specs.Leading.{tag_lot}
 use Rattle.lots_draft.proofs.name_lots.Given as goal
 
 abbrev pub invariant-loop-i : goal.invariant-loop-i
 invariant-loop-i l =
-    (l.i ≤ length l.entries) × (length l.listing ≡ length l.initial.listing) × (l.listing ≡ written_to l.initial.listing (map (tag_lot l.table) l.entries) l.i)
-
-abbrev pub decreases-loop-i : goal.decreases-loop-i
-decreases-loop-i l = length l.entries - l.i
+    l.listing ≡ written_to l.initial.listing (map (tag_lot l.table) l.entries) l.i

@@ -1,6 +1,6 @@
 use mathlib.Core.Path.{◌≡◌}
 use mathlib.Core.List.{List, map}
-use Prim.Native.Nat.{ℕ, ◌+◌, ◌-◌, ◌≤◌}
+use Prim.Native.Nat.{ℕ, ◌+◌, ◌-◌}
 use lib.ListN.{length}
 use lib.Seq.{sets}
 use Rattle.search_rules.specs.Range.{Entry}
@@ -12,12 +12,10 @@ use Rattle.lots_gather.proofs.enter_live.Given as goal
 abbrev pub entered : Table → ℕ → ℕ → List Entry
 entered t first at = map (place_entry t) (live_places t first (at - first))
 
-abbrev pub State : Table → ℕ → ℕ → List Entry → ℕ → List Entry → ℕ → ℕ → Type 0
-State t first end entries₀ n entries found at =
-    (first ≤ at) × (at ≤ end) × (found ≡ n + length (live_places t first (at - first))) × (length entries ≡ length entries₀) × (entries ≡ sets entries₀ n (entered t first at))
+pub record State (t : Table) (first : ℕ) (entries₀ : List Entry) (n : ℕ) (entries : List Entry) (found at : ℕ) : Type 0 where
+  pub number : found ≡ n + length (live_places t first (at - first))
+  pub same : length entries ≡ length entries₀
+  pub are : entries ≡ sets entries₀ n (entered t first at)
 
 abbrev pub invariant-loop-at : goal.invariant-loop-at
-invariant-loop-at l = State l.table l.first l.end l.initial.entries l.n l.entries l.found l.at
-
-abbrev pub decreases-loop-at : goal.decreases-loop-at
-decreases-loop-at l = l.end - l.at
+invariant-loop-at l = State l.table l.first l.initial.entries l.n l.entries l.found l.at

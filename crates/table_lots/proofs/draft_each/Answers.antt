@@ -5,9 +5,11 @@ use mathlib.Core.Path.{◌≡◌, refl, sym, ap, ap₂, subst, ◌∙◌}
 use mathlib.Core.List.{List, map, ◌++◌, Permᴰ}
 use lib.ListN.{length, get_or, replicate, length-map}
 use Rattle.lists.specs.Lists.{All}
-use Rattle.metric_rules.specs.Distance.{space_of}
+use Rattle.table_rules.specs.Geometry.{header_row}
+use Rattle.table_rules.specs.Table.{row_at, table_space}
 use Rattle.search_rules.specs.Range.{Entry}
 use Rattle.table_rules.specs.Search.{zero_entry}
+use Rattle.table_rules.proofs.Passing.{framed_rows}
 use Rattle.lots_rules.specs.Lots.{numbered}
 use Rattle.lots_draft.specs.Leading.{place_of, Placed, place_lots}
 use Rattle.lots_draft.proofs.Awaiting.{placed_kept}
@@ -18,11 +20,14 @@ use Rattle.table_lots.proofs.draft_each.Goals.{After-draft_by, Start, then-i-at,
 
 -- entries with the places that were handed over are inside the table, and as many
 module _ (s : Start) (es : List Entry) (same : map place_of es ≡ map place_of s.args.entries.now) where
-  placed : All (Placed s.args.table.now) es
-  placed = placed_kept s.args.table.now s.args.entries.now es same s.requires.0
+  placed : All (Placed s.args.table.rows.now) es
+  placed = placed_kept s.args.table.rows.now s.args.entries.now es same s.requires.0
 
   size : length es ≡ length s.args.entries.now
   size = sym (length-map es place_of) ∙ ap length same ∙ length-map s.args.entries.now place_of
+
+pub bounds-table-0 : goal.bounds-table-0
+bounds-table-0 c = framed_rows c.args.table.passed.framed
 
 pub draft_by-requires : goal.draft_by-requires
 draft_by-requires c =
@@ -41,14 +46,14 @@ list_lots-requires c =
     (placed (goal.at.list_lots-requires c).Start d.draft_by.new.entries (kept_places (goal.at.list_lots-requires c).After-draft_by), omega (arith, size (goal.at.list_lots-requires c).Start d.draft_by.new.entries (kept_places (goal.at.list_lots-requires c).After-draft_by), l.invariant.size, c.requires.3))
 
 pub loop-i-preserved : goal.loop-i-preserved
-unfolding place_summary
+unfolding place_summary table_space row_at header_row
 loop-i-preserved c =
     let d = c in
     let l = c.loop-i in
     let s = c in
     let a = s.args in
-    let t = a.table.now in
-    let space = space_of a.header.now in
+    let t = a.table.rows.now in
+    let space = table_space t in
     let ps = map place_of a.entries.now in
     let rest = length a.listing.now - length a.entries.now in
     let same = l.invariant.places in
@@ -82,12 +87,3 @@ loop-i-init c = drafted_none _ _ _ _ _ _ _ _ c.args.entries.now refl
 
 pub bounds-summary-i : goal.bounds-summary-i
 bounds-summary-i c = omega (arith, c.loop-i.invariant.summaries, c.requires.2)
-
-pub shape_of-entries : goal.shape_of-entries
-shape_of-entries c = size (goal.at.shape_of-entries c).Start c.loop-i.entries c.loop-i.invariant.places
-
-pub shape_of-summary : goal.shape_of-summary
-shape_of-summary c = c.loop-i.invariant.summaries
-
-pub shape_of-listing : goal.shape_of-listing
-shape_of-listing c = c.loop-i.invariant.size

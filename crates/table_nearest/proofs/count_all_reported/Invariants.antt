@@ -6,7 +6,8 @@ use Rattle.table_nearest.proofs.count_all_reported.Given as goal
 
 abbrev pub invariant-loop-bucket : goal.invariant-loop-bucket
 invariant-loop-bucket l =
-    (l.bucket ≤ l.order.t + 1) × (l.found + reported_below (may_report l.query) l.table l.bucket ≡ reported_below (may_report l.query) l.table (suc l.order.t)) × (l.found + 4096 * l.bucket ≤ 4096 * 13)
-
-abbrev pub decreases-loop-bucket : goal.decreases-loop-bucket
-decreases-loop-bucket l = l.bucket
+    let t = l.fn.table in
+    record {
+      counted : l.found + reported_below (may_report l.query) t.rows.now l.bucket ≡ reported_below (may_report l.query) t.rows.now (suc t.order.t);
+      few : l.found + 4096 * l.bucket ≤ 4096 * 13;
+    }

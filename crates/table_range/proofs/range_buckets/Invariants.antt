@@ -1,7 +1,5 @@
 use Prim.Native.Nat.{ℕ, suc, ◌+◌, ◌*◌, ◌≤◌}
-use mathlib.Core.Path.{◌≡◌}
 use mathlib.Core.List.{List}
-use lib.ListN.{length}
 use Rattle.metric_rules.specs.Row.{Row}
 use Rattle.tree_range.specs.declared.Found.{Found}
 use Rattle.search_rules.specs.Range.{Entry}
@@ -17,7 +15,9 @@ Whole asked table t area₀ k = Adds asked table k (found_after none_found (met_
 
 abbrev pub invariant-loop-k : goal.invariant-loop-k
 invariant-loop-k l =
-    (l.k ≤ l.order.t + 1) × Whole l.asked l.table l.order.t l.initial.area l.k l.found l.area × (l.found.hits + 4096 * l.k ≤ 4096 * 13) × (l.found.count + 4096 * l.k ≤ 4096 * 13) × (length l.area ≡ length l.initial.area)
-
-abbrev pub decreases-loop-k : goal.decreases-loop-k
-decreases-loop-k l = l.k
+    let t = l.fn.table in
+    record {
+      whole : Whole l.asked t.rows.now t.order.t l.initial.area l.k l.found l.area;
+      few_hits : l.found.hits + 4096 * l.k ≤ 4096 * 13;
+      few_visits : l.found.count + 4096 * l.k ≤ 4096 * 13;
+    }

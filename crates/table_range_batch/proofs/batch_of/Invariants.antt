@@ -1,7 +1,6 @@
-use Prim.Native.Nat.{◌-◌, ◌≤◌}
 use mathlib.Core.Path.{◌≡◌}
 use mathlib.Core.List.{map}
-use lib.ListN.{length, take}
+use lib.ListN.{take}
 use lib.Seq.{sets}
 use Rattle.lists.specs.Lists.{All}
 use Rattle.metric_rules.specs.Row.{profile_of, IsProfile}
@@ -10,7 +9,7 @@ use Rattle.table_range_batch.proofs.batch_of.Given as goal
 
 abbrev pub invariant-loop-i : goal.invariant-loop-i
 invariant-loop-i l =
-    (l.i ≤ length l.queries) × (l.batch ≡ sets l.initial.batch 1 (map asked_row (take l.i l.queries))) × All (λ query. IsProfile (profile_of query)) (take l.i l.queries)
-
-abbrev pub decreases-loop-i : goal.decreases-loop-i
-decreases-loop-i l = length l.queries - l.i
+    record {
+      asked : l.batch ≡ sets l.initial.batch 1 (map asked_row (take l.i l.queries));
+      profiles : All (λ query. IsProfile (profile_of query)) (take l.i l.queries);
+    }

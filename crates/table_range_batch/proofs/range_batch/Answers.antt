@@ -1,10 +1,11 @@
--- `table_range_batch::range_batch` meets its contract, test by test: a refusal leaves the area, and what the buckets met is what the single calls answer.
+-- `table_range_batch::range_batch` meets its contract: a refusal leaves the area, and what the buckets met is what the single
+-- calls answer.
 use borrow.Author.Tests.{ltb-true}
 use native.Mathlib.Omega.{arith}
-use native.Mathlib.Nat.{mul-le-mul_right}
+use native.Mathlib.Nat.{mul-div-le, mul-le-mul_right}
 use lib.Pow.{pow_mono}
 use Prim.Native.Nat.{ℕ, suc, ◌+◌, ◌/◌, ◌^◌, ◌≤◌, ◌<◌}
-use mathlib.Core.Path.{◌≡◌, refl, sym, ap, ap₂, ◌∙◌}
+use mathlib.Core.Path.{◌≡◌, refl, sym, ap, ap₂, subst, ◌∙◌}
 use mathlib.Core.List.{List, [], map}
 use lib.ListN.{length, get_or, replicate}
 use lib.Seq.{length-sets}
@@ -12,37 +13,42 @@ use Rattle.metric_rules.specs.Row.{Row}
 use Rattle.search_rules.specs.Range.{Entry}
 use Rattle.tree_range_batch.specs.Together.{Collects}
 use Rattle.tree_range_batch.proofs.Sets.{on_all}
-use Rattle.table_rules.specs.Geometry.{room, header_row, first_slot, table_rows}
+use Rattle.table_rules.specs.Geometry.{room, header_row}
 use Rattle.table_rules.specs.Table.{Table, row_at, order_of}
-use Rattle.table_rules.specs.Checks.{read_refusal}
-use Rattle.table_rules.specs.Passed.{Passed}
-use Rattle.table_checks.proofs.Told.{stops, goes_on}
-use Rattle.batch_rules.specs.Batch.{part_size, queries_refusal}
+use Rattle.table_rules.proofs.Passing.{framed_rows}
+use Rattle.batch_rules.specs.declared.Ranges.{Ranges}
+use Rattle.batch_rules.specs.Batch.{part_size, range_batch_reply, result_after_batch}
+use Rattle.refusals.proofs.Refused.{some_number}
+use Rattle.table_range_batch.specs.Asking.{asking_refusal}
 use Rattle.table_range_batch.specs.Below.{asked_row, batch_of, hits_below, count_below}
-use Rattle.table_range_batch.proofs.Replying.{zero_at, queries_number, refused_table, refused-queries, parts-fit, pairs, answered}
+use Rattle.table_range_batch.proofs.Replying.{zero_at, queries_number, refused_asking, pairs, answered}
 use Rattle.table_range_batch.proofs.range_batch.Goals as goal
+use Rattle.table_range_batch.proofs.range_batch.Goals.{In-Ok}
 
-pub returns-in-Refused : goal.returns-in-Refused
-returns-in-Refused c =
+pub returns-in-Err : goal.returns-in-Err
+returns-in-Err c =
     let a = c.args in
-    let n = c.in-Refused.refusal in
-    let told = stops (read_refusal a.table.now) a.table.now _ n c.in-Refused.ensures refl in
-    let stop = refused_table a.table.now a.res.now a.queries.now n told.0 told.1 in
+    let stop = refused_asking a.table.now a.res.now a.queries.now _ c.in-Err.ensures.refusal (some_number c.in-Err.refusal) in
     record { reply = c.refused.ensures ∙ stop.0; area = stop.1 }
 
-pub returns-then-refusal-ne0 : goal.returns-then-refusal-ne0
-returns-then-refusal-ne0 c =
-    let a = c.args in
-    let stop = refused-queries a.table.now a.res.now a.queries.now (goes_on c.args.table.now _ c.in-Passes.order c.in-Passes.ensures refl).0 c.queries_refusal-refusal.result c.queries_refusal-refusal.ensures c.if-refusal-ne0.true in
-    record { reply = c.refused-then-refusal-ne0.ensures ∙ stop.0; area = stop.1 }
+-- what passed is said of the table that was lent, and there are 1 to 16 queries
+passed : {t rows : Table} (queries : List Row) → 0 ≡ asking_refusal t queries → rows ≡ t → 0 ≡ asking_refusal rows queries
+passed queries e is = e ∙ ap (λ (rows : Table). asking_refusal rows queries) (sym is)
 
--- past both tests: the table passes, and there are 1 to 16 queries
-queried : (queries : List Row) (n : ℕ) → n ≡ queries_refusal queries → n ≡ 0 → queries_refusal queries ≡ 0
-queried queries n e z = sym e ∙ z
+number : (c : In-Ok) → (1 ≤ length c.args.queries.now) × (length c.args.queries.now ≤ 16)
+number c = queries_number c.args.table.now c.args.queries.now c.in-Ok.ensures.refusal
 
-some_rows : {t : Table} → Passed t → 0 < length t
-unfolding table_rows first_slot
-some_rows p = omega (arith, p.framed.long)
+pub nonzero_div-part : goal.nonzero_div-part
+nonzero_div-part c = (number (goal.at.nonzero_div-part c).In-Ok).0
+
+pub batch_of-batch-requires : goal.batch_of-batch-requires
+batch_of-batch-requires c = (number (goal.at.batch_of-batch-requires c).In-Ok).1
+
+pub all_of-requires : goal.all_of-requires
+all_of-requires c = (number (goal.at.all_of-requires c).In-Ok).1
+
+pub bounds-table-0 : goal.bounds-table-0
+bounds-table-0 c = framed_rows c.in-Ok.table.passed.framed
 
 -- what the buckets' visit goes by
 set_few : (all n : ℕ) → all + 1 ≡ 2 ^ n → n ≤ 16 → all < 2 ^ 16
@@ -55,24 +61,23 @@ batch_is : (t : Table) (queries batch : List Row) → batch ≡ batch_of (get_or
 unfolding row_at header_row
 batch_is t queries batch e = e
 
-batch_long : (t : Table) (queries batch : List Row) → batch ≡ batch_of (row_at t header_row) queries → length batch ≡ 17
+batch_long : (header : Row) (queries batch : List Row) → batch ≡ batch_of header queries → length batch ≡ 17
 unfolding batch_of
-batch_long t queries batch e = ap length e ∙ length-sets (replicate 17 (row_at t header_row)) 1 (map asked_row queries)
+batch_long header queries batch e = ap length e ∙ length-sets (replicate 17 header) 1 (map asked_row queries)
 
 pub buckets_together-count-requires : goal.buckets_together-count-requires
-unfolding part_size room
+unfolding room
 buckets_together-count-requires c =
     let a = c.args in
-    let n = length a.queries.now in (
-      (goes_on c.args.table.now _ c.in-Passes.order c.in-Passes.ensures refl).1.0,
-      (goes_on c.args.table.now _ c.in-Passes.order c.in-Passes.ensures refl).1.1,
-      set_few c.all_of.result n c.all_of.ensures (queries_number c.args.queries.now (queried c.args.queries.now _ c.queries_refusal-refusal.ensures c.if-refusal-ne0.false)).1,
-      set_some c.all_of.result n c.all_of.ensures (queries_number c.args.queries.now (queried c.args.queries.now _ c.queries_refusal-refusal.ensures c.if-refusal-ne0.false)).0,
+    let n = length a.queries.now in
+    let few = number (goal.at.buckets_together-count-requires c).In-Ok in (
+      set_few c.all_of.result n c.all_of.ensures few.1,
+      set_some c.all_of.result n c.all_of.ensures few.0,
       (λ j on.
           let less = ltb-true j n (sym (on_all n c.all_of.result c.all_of.ensures j) ∙ on) in
-          omega (arith, parts-fit a.table.now a.res.now a.queries.now (goes_on c.args.table.now _ c.in-Passes.order c.in-Passes.ensures refl).0 (queried c.args.queries.now _ c.queries_refusal-refusal.ensures c.if-refusal-ne0.false), mul-le-mul_right {m = suc j} {n = n} (length a.res.now / n) less)),
+          omega (arith, mul-div-le (length a.res.now) n, mul-le-mul_right {m = suc j} {n = n} (length a.res.now / n) less)),
       record { sixteen = refl; each = λ j. omega (arith, zero_at 16 j) },
-      batch_long a.table.now a.queries.now _ (batch_is c.args.table.now c.args.queries.now _ c.batch_of-batch.ensures.0),
+      batch_long _ a.queries.now _ c.batch_of-batch.ensures.0,
     )
 
 -- what the buckets' visit leaves
@@ -90,37 +95,38 @@ pub reply_in_parts-requires : goal.reply_in_parts-requires
 unfolding part_size
 reply_in_parts-requires c =
     let a = c.args in
-    let t = a.table.now in
-    let fit = parts-fit t a.res.now a.queries.now (goes_on c.args.table.now _ c.in-Passes.order c.in-Passes.ensures refl).0 (queried c.args.queries.now _ c.queries_refusal-refusal.ensures c.if-refusal-ne0.false) in (
-      (queries_number c.args.queries.now (queried c.args.queries.now _ c.queries_refusal-refusal.ensures c.if-refusal-ne0.false)).1,
-      omega (arith, fit, c.buckets_together-count.auto.area),
-      c.buckets_together-count.ensures.1.1,
-      pairs t a.res.now a.queries.now (goes_on c.args.table.now _ c.in-Passes.order c.in-Passes.ensures refl).0 (queried c.args.queries.now _ c.queries_refusal-refusal.ensures c.if-refusal-ne0.false) c.batch_of-batch.ensures.1 c.all_of.result c.all_of.ensures _ _ c.buckets_together-count.result
-          (hits_are c.args.table.now c.args.res.now c.args.queries.now _ (batch_is c.args.table.now c.args.queries.now _ c.batch_of-batch.ensures.0) _ (goes_on c.args.table.now _ c.in-Passes.order c.in-Passes.ensures refl).1.0 c.all_of.result c.buckets_together-count.ensures.1.0)
-          (count_is c.args.table.now c.args.queries.now _ (batch_is c.args.table.now c.args.queries.now _ c.batch_of-batch.ensures.0) _ (goes_on c.args.table.now _ c.in-Passes.order c.in-Passes.ensures refl).1.0 c.all_of.result c.buckets_together-count.result c.buckets_together-count.ensures.0.0),
-      c.buckets_together-count.ensures.0.1,
+    let s = c.in-Ok.table in
+    let met = c.buckets_together-count in
+    let batch = batch_is s.rows.now a.queries.now _ c.batch_of-batch.ensures.0 in (
+      (number (goal.at.reply_in_parts-requires c).In-Ok).1,
+      omega (arith, mul-div-le (length a.res.now) (length a.queries.now), met.auto.area),
+      met.ensures.1.1,
+      pairs s.rows.now a.res.now a.queries.now (passed a.queries.now c.in-Ok.ensures.refusal c.in-Ok.ensures.rows) c.batch_of-batch.ensures.1 c.all_of.result c.all_of.ensures _ _ met.result
+          (hits_are s.rows.now a.res.now a.queries.now _ batch s.order.t s.ordered c.all_of.result met.ensures.1.0)
+          (count_is s.rows.now a.queries.now _ batch s.order.t s.ordered c.all_of.result met.result met.ensures.0.0),
+      met.ensures.0.1,
     )
+
+-- the reply is that of the table that was lent
+of_table : {t rows : Table} (area last : List Entry) (queries : List Row) (r : Ranges) → rows ≡ t
+    → (r ≡ range_batch_reply rows area queries) × (last ≡ result_after_batch rows area queries)
+    → (r ≡ range_batch_reply t area queries) × (last ≡ result_after_batch t area queries)
+of_table area last queries r is right =
+    subst (λ (x : Table). (r ≡ range_batch_reply x area queries) × (last ≡ result_after_batch x area queries)) is right
 
 pub returns : goal.returns
 unfolding part_size
 returns c =
-    let reply = c.reply_in_parts in
     let a = c.args in
+    let s = c.in-Ok.table in
+    let met = c.buckets_together-count in
+    let batch = batch_is s.rows.now a.queries.now _ c.batch_of-batch.ensures.0 in
+    let reply = c.reply_in_parts in
     let all =
-    answered a.table.now a.res.now a.queries.now (goes_on c.args.table.now _ c.in-Passes.order c.in-Passes.ensures refl).0 (queried c.args.queries.now _ c.queries_refusal-refusal.ensures c.if-refusal-ne0.false) c.batch_of-batch.ensures.1 c.all_of.result c.all_of.ensures _ _ c.buckets_together-count.result
-    (hits_are c.args.table.now c.args.res.now c.args.queries.now _ (batch_is c.args.table.now c.args.queries.now _ c.batch_of-batch.ensures.0) _ (goes_on c.args.table.now _ c.in-Passes.order c.in-Passes.ensures refl).1.0 c.all_of.result c.buckets_together-count.ensures.1.0)
-    (count_is c.args.table.now c.args.queries.now _ (batch_is c.args.table.now c.args.queries.now _ c.batch_of-batch.ensures.0) _ (goes_on c.args.table.now _ c.in-Passes.order c.in-Passes.ensures refl).1.0 c.all_of.result c.buckets_together-count.result c.buckets_together-count.ensures.0.0)
-    c.buckets_together-count.auto.area reply.result reply.new.area reply.ensures.held reply.ensures.parts reply.ensures.short
-    in record { reply = all.0; area = all.1 }
-
-pub nonzero_div-part : goal.nonzero_div-part
-nonzero_div-part c = (queries_number c.args.queries.now (queried c.args.queries.now _ c.queries_refusal-refusal.ensures c.if-refusal-ne0.false)).0
-
-pub bounds-table-0 : goal.bounds-table-0
-bounds-table-0 c = some_rows (goes_on c.args.table.now _ c.in-Passes.order c.in-Passes.ensures refl).1.1
-
-pub batch_of-batch-requires : goal.batch_of-batch-requires
-batch_of-batch-requires c = (queries_number c.args.queries.now (queried c.args.queries.now _ c.queries_refusal-refusal.ensures c.if-refusal-ne0.false)).1
-
-pub all_of-requires : goal.all_of-requires
-all_of-requires c = (queries_number c.args.queries.now (queried c.args.queries.now _ c.queries_refusal-refusal.ensures c.if-refusal-ne0.false)).1
+    of_table a.res.now reply.new.area a.queries.now reply.result c.in-Ok.ensures.rows
+    (answered s.rows.now a.res.now a.queries.now (passed a.queries.now c.in-Ok.ensures.refusal c.in-Ok.ensures.rows) c.batch_of-batch.ensures.1 c.all_of.result c.all_of.ensures _ _ met.result
+    (hits_are s.rows.now a.res.now a.queries.now _ batch s.order.t s.ordered c.all_of.result met.ensures.1.0)
+    (count_is s.rows.now a.queries.now _ batch s.order.t s.ordered c.all_of.result met.result met.ensures.0.0)
+    met.auto.area reply.result reply.new.area reply.ensures.held reply.ensures.parts reply.ensures.short)
+    in
+    record { reply = all.0; area = all.1 }

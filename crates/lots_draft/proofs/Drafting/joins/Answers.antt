@@ -1,4 +1,4 @@
--- `lots_draft::joins` meets its contract, test by test.
+-- `lots_draft::Drafting::joins` meets its contract, test by test.
 use native.Mathlib.Omega.{arith}
 use mathlib.Core.Path.{◌≡◌, sym, ap, ◌∙◌}
 use mathlib.Core.Bool.{Bool, false, ◌&&◌}
@@ -14,8 +14,8 @@ use Rattle.table_rules.specs.Table.{Table, row_at}
 use Rattle.lots_rules.specs.Lots.{near}
 use Rattle.lots_rules.specs.Drafting.{between_rows}
 use Rattle.lots_draft.specs.Leading.{place_of, lot_of, undrafted, joins}
-use Rattle.lots_draft.proofs.joins.Goals as goal
-use Rattle.lots_draft.proofs.joins.Goals.{Else-e-ne0}
+use Rattle.lots_draft.proofs.Drafting.joins.Goals as goal
+use Rattle.lots_draft.proofs.Drafting.joins.Goals.{Else-e-ne0}
 
 -- an entry with a lot joins none, and one without goes by its distance
 module _ (t : Table) (space : Space) (radius : ℕ) (leader : Row) (e : Entry) where
@@ -33,21 +33,21 @@ pub returns-then-e-ne0 : goal.returns-then-e-ne0
 unfolding lot_of
 returns-then-e-ne0 c =
     let a = c.args in
-    lot_kept a.table.now (space_of a.header.now) a.radius a.leader a.e c.if-e-ne0.true
+    lot_kept a.self.table.now (space_of a.self.header.now) a.self.radius a.leader a.e c.if-e-ne0.true
 
-inside : (c : Else-e-ne0) → get_or c.args.e 0 0 < length c.args.table.now
+inside : (c : Else-e-ne0) → get_or c.args.e 0 0 < length c.args.self.table.now
 unfolding place_of
 inside c = c.requires
 
-pub offset_bounds-table-at : goal.offset_bounds-table-at
-offset_bounds-table-at c = omega (arith, inside c)
+pub offset_bounds-self-at : goal.offset_bounds-self-at
+offset_bounds-self-at c = omega (arith, inside c)
 
-pub bounds-table-at : goal.bounds-table-at
-bounds-table-at c = inside c
+pub bounds-self-at : goal.bounds-self-at
+bounds-self-at c = inside c
 
 pub returns : goal.returns
 unfolding lot_of place_of row_at
 returns c =
     let s = c in
     let a = s.args in
-    by_distance a.table.now (space_of a.header.now) a.radius a.leader a.e c.distance_between.result c.if-e-ne0.false c.distance_between.ensures
+    by_distance a.self.table.now (space_of a.self.header.now) a.self.radius a.leader a.e c.distance_between.result c.if-e-ne0.false c.distance_between.ensures

@@ -1,11 +1,11 @@
--- `lots_draft::follow` meets its contract: the loop maps the entries in place and counts those that join among the first i.
+-- `lots_draft::Drafting::follow` meets its contract: the loop maps the entries in place and counts those that join among the first i.
 use native.Mathlib.Omega.{arith}
 use mathlib.Core.Path.{◌≡◌, sym, ap, subst, ◌∙◌}
 use mathlib.Core.Bool.{Bool, true, false}
 use mathlib.Core.List.{List, [], ◌∷◌, map}
 use Prim.Native.Nat.{ℕ, ◌+◌, ◌≤◌, ◌<◌}
 use lib.ListN.{length, take, get_or, set, length-append, length-take}
-use lib.Seq.{take_all}
+use lib.Seq.{take_all, set-get_or}
 use Rattle.lists.specs.Lists.{select}
 use Rattle.lists.proofs.Lists.{all_at}
 use Rattle.metric_rules.specs.Row.{Row}
@@ -17,9 +17,9 @@ use Rattle.rows.proofs.Selected.{selected_next, passed_over}
 use Rattle.table_rules.specs.Table.{Table}
 use Rattle.lots_draft.specs.Leading.{place_of, Placed, joins, followed}
 use Rattle.lots_draft.proofs.Writing.{mapped_none, mapped_at, mapped_next, mapped-kept, mapped_all}
-use Rattle.lots_draft.proofs.follow.Invariants.{State}
-use Rattle.lots_draft.proofs.follow.Goals as goal
-use Rattle.lots_draft.proofs.follow.Goals.{In-loop-i, then-joins, else-joins}
+use Rattle.lots_draft.proofs.Drafting.follow.Invariants.{State}
+use Rattle.lots_draft.proofs.Drafting.follow.Goals as goal
+use Rattle.lots_draft.proofs.Drafting.follow.Goals.{In-loop-e, then-joins, else-joins}
 
 module _ (t : Table) (space : Space) (radius : ℕ) (leader : Row) (lot : ℕ) (old : List Entry) where
   abbrev test : Entry → Bool
@@ -69,49 +69,43 @@ module _ (t : Table) (space : Space) (radius : ℕ) (leader : Row) (lot : ℕ) (
           counted = s.counted ∙ ap length (sym (passed_over test old i [] h old-stays));
         }
 
-inside : (c : In-loop-i) → c.loop-i.i < length c.args.entries.now
-inside c = omega (arith, c.loop-i.invariant.mapped.size)
+inside : (c : In-loop-e) → c.loop-e.e-index < length c.args.entries.now
+inside c = omega (arith, c.loop-e.invariant.mapped.size)
 
 pub joins-requires : goal.joins-requires
 joins-requires c =
-    let l = c.loop-i in
+    let l = c.loop-e in
     let s = c in
     let a = s.args in
-    subst (Placed a.table.now) (sym (here a.table.now (space_of a.header.now) a.radius a.leader a.lot a.entries.now l.entries l.size l.i l.invariant (inside (goal.at.joins-requires c).In-loop-i)))
-    (all_at (Placed a.table.now) a.entries.now l.i (inside (goal.at.joins-requires c).In-loop-i) s.requires)
+    subst (Placed a.self.table.now) (sym (here a.self.table.now (space_of a.self.header.now) a.self.radius a.leader a.lot a.entries.now l.entries l.size l.e-index l.invariant (inside (goal.at.joins-requires c).In-loop-e)))
+    (all_at (Placed a.self.table.now) a.entries.now l.e-index (inside (goal.at.joins-requires c).In-loop-e) s.requires)
 
 pub overflow_add-size : goal.overflow_add-size
 overflow_add-size c =
-    let l = c.loop-i in
-    omega (arith, few _ _ _ _ _ _ l.entries l.size l.i l.invariant (inside (goal.at.overflow_add-size c).In-loop-i), inside (goal.at.overflow_add-size c).In-loop-i)
+    let l = c.loop-e in
+    omega (arith, few _ _ _ _ _ _ l.entries l.size l.e-index l.invariant (inside (goal.at.overflow_add-size c).In-loop-e), inside (goal.at.overflow_add-size c).In-loop-e)
 
-pub loop-i-preserved : goal.loop-i-preserved
-loop-i-preserved c =
-    let l = c.loop-i in
+pub loop-e-preserved : goal.loop-e-preserved
+loop-e-preserved c =
+    let l = c.loop-e in
     let a = c.args in
-    let t = a.table.now in
-    let space = space_of a.header.now in
+    let t = a.self.table.now in
+    let space = space_of a.self.header.now in
     let old = a.entries.now in
-    let h = inside (goal.at.loop-i-preserved c).In-loop-i in
+    let h = inside (goal.at.loop-e-preserved c).In-loop-e in
     elim c.if-joins.branch [
       | then-joins w ↦
-          as_state t space a.radius a.leader a.lot old c.if-joins.entries _ c.if-joins.size _ (l.i + 1) w.entries-is w.size-is
-          (joined t space a.radius a.leader a.lot old l.entries l.size l.i l.invariant h (sym c.joins.ensures ∙ w.if-joins.true))
+          as_state t space a.self.radius a.leader a.lot old c.if-joins.entries _ c.if-joins.size _ (l.e-index + 1) w.entries-is w.size-is
+          (joined t space a.self.radius a.leader a.lot old l.entries l.size l.e-index l.invariant h (sym c.joins.ensures ∙ w.if-joins.true))
       | else-joins w ↦
-          as_state t space a.radius a.leader a.lot old c.if-joins.entries _ c.if-joins.size _ (l.i + 1) w.entries-is w.size-is
-          (left t space a.radius a.leader a.lot old l.entries l.size l.i l.invariant h (sym c.joins.ensures ∙ w.if-joins.false))
+          as_state t space a.self.radius a.leader a.lot old c.if-joins.entries _ c.if-joins.size _ (l.e-index + 1) (w.entries-is ∙ set-get_or l.entries l.e-index []) w.size-is
+          (left t space a.self.radius a.leader a.lot old l.entries l.size l.e-index l.invariant h (sym c.joins.ensures ∙ w.if-joins.false))
     ]
 
 pub returns : goal.returns
 returns c =
-    let l = c.loop-i in
-    all_done _ _ _ _ _ _ l.entries l.size l.i (omega (arith, l.invariant.mapped.size)) l.invariant
+    let l = c.loop-e in
+    all_done _ _ _ _ _ _ l.entries l.size l.e-index (omega (arith, l.invariant.mapped.size)) l.invariant
 
-pub loop-i-init : goal.loop-i-init
-loop-i-init c = none_yet _ _ _ _ _ _
-
-pub loop-i-smaller : goal.loop-i-smaller
-loop-i-smaller c = omega (arith, inside (goal.at.loop-i-smaller c).In-loop-i)
-
-pub shape_of-entries : goal.shape_of-entries
-shape_of-entries c = c.loop-i.invariant.mapped.size
+pub loop-e-init : goal.loop-e-init
+loop-e-init c = none_yet _ _ _ _ _ _

@@ -1,4 +1,4 @@
--- `lots_draft::lead_next` meets its contract: an entry with a lot is passed over; one without leads, and those behind it follow.
+-- `lots_draft::Drafting::lead_next` meets its contract: an entry with a lot is passed over; one without leads, and those behind it follow.
 use borrow.Author.Rules.{rules}
 use borrow.Author.Tests.{eq-eqb, ne_eqb}
 use borrow.Rule.Slice.PartMut.{put_mid}
@@ -22,8 +22,8 @@ use Rattle.table_rules.proofs.Fill.{room_most}
 use Rattle.tree_rules.proofs.Parts.{part_rest, put_rest}
 use Rattle.lots_draft.specs.declared.Draft.{Draft}
 use Rattle.lots_draft.specs.Leading.{place_of, lot_of, Placed, undrafted, joins, followed, entries_led, draft_led}
-use Rattle.lots_draft.proofs.lead_next.Goals as goal
-use Rattle.lots_draft.proofs.lead_next.Goals.{Else-first-ne0}
+use Rattle.lots_draft.proofs.Drafting.lead_next.Goals as goal
+use Rattle.lots_draft.proofs.Drafting.lead_next.Goals.{Else-first-ne0}
 
 module _ (t : Table) (space : Space) (radius : ℕ) (d : Draft) where
   kept : (es : List Entry) → 0 < length es → (lot_of (get_or es 0 []) ≡ 0 → ⊥) → (d ≡ draft_led t space radius d es) × (es ≡ entries_led t space radius d es)
@@ -60,22 +60,22 @@ pub returns-then-first-ne0 : goal.returns-then-first-ne0
 unfolding lot_of
 returns-then-first-ne0 c =
     let a = c.args in
-    kept a.table.now (space_of a.header.now) a.radius a.drafted a.entries.now c.requires.0 c.if-first-ne0.true
+    kept a.self.table.now (space_of a.self.header.now) a.self.radius a.drafted a.entries.now c.requires.0 c.if-first-ne0.true
 
-inside : (c : Else-first-ne0) → get_or (get_or c.args.entries.now 0 []) 0 0 < length c.args.table.now
+inside : (c : Else-first-ne0) → get_or (get_or c.args.entries.now 0 []) 0 0 < length c.args.self.table.now
 unfolding place_of
-inside c = let s = c in all_at (Placed s.args.table.now) s.args.entries.now 0 s.requires.0 s.requires.1
+inside c = let s = c in all_at (Placed s.args.self.table.now) s.args.entries.now 0 s.requires.0 s.requires.1
 
-pub offset_bounds-table-at : goal.offset_bounds-table-at
-offset_bounds-table-at c = omega (arith, inside (goal.at.offset_bounds-table-at c).Else-first-ne0)
+pub offset_bounds-self-at : goal.offset_bounds-self-at
+offset_bounds-self-at c = omega (arith, inside (goal.at.offset_bounds-self-at c).Else-first-ne0)
 
-pub bounds-table-at : goal.bounds-table-at
-bounds-table-at c = inside (goal.at.bounds-table-at c).Else-first-ne0
+pub bounds-self-at : goal.bounds-self-at
+bounds-self-at c = inside (goal.at.bounds-self-at c).Else-first-ne0
 
 pub follow-others-requires : goal.follow-others-requires
 follow-others-requires c =
     let s = c in
-    subst (All (Placed s.args.table.now)) (sym (part_rest 1 s.args.entries.now)) (all_drop (Placed s.args.table.now) 1 s.args.entries.now s.requires.1)
+    subst (All (Placed s.args.self.table.now)) (sym (part_rest 1 s.args.entries.now)) (all_drop (Placed s.args.self.table.now) 1 s.args.entries.now s.requires.1)
 
 -- those that follow are among the entries
 few : (test : Entry → Bool) (es : List Entry) (n : ℕ) → 0 < length es → n ≡ length (select test (take (length es - 1) (drop 1 es))) → n < length es
@@ -103,13 +103,13 @@ returns c =
     let a = s.args in
     let es = a.entries.now in
     let call = c.follow-others in
-    let space = space_of a.header.now in
-    let leader = leader_of a.table.now space a.radius a.drafted es in
+    let space = space_of a.self.header.now in
+    let leader = leader_of a.self.table.now space a.self.radius a.drafted es in
     let x = get_or (get_or es 0 []) 0 0 ∷ (a.drafted.lots + 1) ∷ [] in
-    let all = led a.table.now space a.radius a.drafted es s.requires.0 c.if-first-ne0.false call.result c.larger.result call.new.entries
-    (call.ensures.0 ∙ ap (λ (l : List Entry). length (select (joins a.table.now space a.radius leader) l)) (part_rest 1 es))
-    c.larger.ensures
-    (call.ensures.1 ∙ ap (map (followed a.table.now space a.radius leader (a.drafted.lots + 1))) (part_rest 1 es)) in
+    let all = led a.self.table.now space a.self.radius a.drafted es s.requires.0 c.if-first-ne0.false call.result c.max.result call.new.entries
+    (call.ensures.0 ∙ ap (λ (l : List Entry). length (select (joins a.self.table.now space a.self.radius leader) l)) (part_rest 1 es))
+    c.max.ensures
+    (call.ensures.1 ∙ ap (map (followed a.self.table.now space a.self.radius leader (a.drafted.lots + 1))) (part_rest 1 es)) in
     (all.0, ap (λ (l : List Entry). set l 0 x) (put_rest 1 es call.new.entries) ∙ all.1)
 
 pub overflow_add-lots : goal.overflow_add-lots
