@@ -11,10 +11,17 @@ use lib.ListN.{length, get_or, drop, drop_of_length-le}
 use lib.Seq.{drop-cons}
 use borrow.Author.Tests.{le-ltb, lt-ltb}
 use Rattle.lists.specs.Lists.{count_from}
+use Rattle.std.specs.Prelude.{Err}
+use Rattle.refusals.proofs.Refused.{some_number}
 use Rattle.table_rules.specs.Refusals.{or_else}
 use Rattle.image_rules.specs.declared.Loaded.{Loaded}
 use Rattle.image_rules.specs.Trees.{first_refused}
-use Rattle.image_entries.specs.Faults.{no_fault, or_fault, first_of, earlier}
+use Rattle.image_entries.specs.Faults.{loaded_of, no_fault, or_fault, first_of, earlier}
+use Rattle.image_entries.specs.declared.Fault.{Fault}
+
+-- a fault that was found has a number
+pub fault_refused : (fault : Fault) → (loaded_of {A = Unit {0}} (Err fault)).refusal ≡ 0 → ⊥
+fault_refused fault e = let some = some_number fault.refusal in absurd (omega arith)
 
 -- which of two runs counts
 pub first_none : (a b : Loaded) → a.refusal ≡ 0 → or_fault a b ≡ b

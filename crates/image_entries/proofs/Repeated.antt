@@ -1,18 +1,17 @@
 -- Ascending words: of the words with one tag each but the first stands behind another, so the least place of one that does is the least of a word with
 -- whose tag there is a smaller word.
-use Prim.Native.Nat.{ℕ, zero, suc, ◌+◌, ◌/◌, ◌%◌, ◌≤◌, ◌<◌}
+use Prim.Native.Nat.{ℕ, ◌/◌, ◌%◌, ◌≤◌, ◌<◌}
 use native.Mathlib.Omega.{arith}
-use mathlib.Core.Path.{◌≡◌, refl, sym, ◌∙◌, ap, ap₂}
+use mathlib.Core.Path.{◌≡◌, refl, ap, ap₂}
 use mathlib.Core.Bool.{Bool, true, false}
-use mathlib.Core.List.{List, [], ◌∷◌}
+use mathlib.Core.List.{List, [], ◌∷◌, map}
 use lib.Dec.{ltb, eqb}
-use lib.ListN.{length, get_or, drop}
-use lib.Seq.{drop-cons}
-use native.Mathlib.Numerals.{add-one}
+use lib.ListN.{length, get_or, take, drop}
 use borrow.Author.Tests.{ltb-true, ltb-false, eqb-true, eq-eqb, ne_eqb, lt-ltb, le-ltb}
 use Rattle.lists.specs.Lists.{All}
 use Rattle.lists.proofs.Lists.{Pairs, all_weaken, all_both}
-use Rattle.image_entries.specs.Entries.{places}
+use Rattle.search_rules.specs.Range.{Entry}
+use Rattle.image_entries.specs.Entries.{places, first_word}
 use Rattle.image_entries.specs.Duplicates.{less_repeated, least_repeated}
 
 -- the step, test by test
@@ -91,19 +90,17 @@ least_is least r (a ∷ []) p h e = e
 least_is least r (a ∷ b ∷ ws) p h e =
     less_is least a b r (h.0.1.0 p.0.0) (least_is (less_repeated least a b) r (b ∷ ws) p.1 (all_weaken (λ u f. f.1) (b ∷ ws) h.1) e)
 
--- a scan of the words, at place i: those from i on decide, with the least place so far
-module _ (ws : List ℕ) (least i : ℕ) where
-  pub scan_next : i + 1 < length ws → least_repeated (less_repeated least (get_or ws i 0) (get_or ws (i + 1) 0)) (drop (i + 1) ws) ≡ least_repeated least (drop i ws)
-  unfolding least_repeated
-  scan_next h =
-      let next : drop (i + 1) ws ≡ get_or ws (i + 1) 0 ∷ drop (suc (i + 1)) ws = drop-cons ws (i + 1) 0 h in
-      ap (least_repeated (less_repeated least (get_or ws i 0) (get_or ws (i + 1) 0))) next
-      ∙ sym (ap (least_repeated least) (drop-cons ws i 0 (omega arith) ∙ ap (λ (l : List ℕ). get_or ws i 0 ∷ l) (ap (λ (k : ℕ). drop k ws) (sym (add-one i)) ∙ next)))
+-- a scan of the entries by pairs: what is left decides, with the least place so far
+pub scan_pair : (least less n : ℕ) (rest pair after : List Entry) → n ≡ 2 → n ≤ length rest → pair ≡ take n rest → after ≡ drop 1 rest
+    → less ≡ less_repeated least (get_or (get_or pair 0 []) 0 0) (get_or (get_or pair 1 []) 0 0)
+    → least_repeated less (map first_word after) ≡ least_repeated least (map first_word rest)
+unfolding least_repeated first_word
+scan_pair least less n [] pair after e h p q f = absurd (omega arith)
+scan_pair least less n (a ∷ []) pair after e h p q f = absurd (omega arith)
+scan_pair least less n (a ∷ b ∷ es) pair after e h p q f = rw (f, p, q, e) refl
 
-pub scan_end : (ws : List ℕ) (least i : ℕ) → length ws ≤ i + 1 → least_repeated least (drop i ws) ≡ least
+pub scan_end : (least n : ℕ) (rest : List Entry) → n ≡ 2 → length rest < n → least_repeated least (map first_word rest) ≡ least
 unfolding least_repeated
-scan_end [] least zero h = refl
-scan_end [] least (suc i) h = refl
-scan_end (w ∷ []) least zero h = refl
-scan_end (w ∷ v ∷ ws) least zero h = absurd (omega arith)
-scan_end (w ∷ ws) least (suc i) h = scan_end ws least i (omega arith)
+scan_end least n [] e h = refl
+scan_end least n (a ∷ []) e h = refl
+scan_end least n (a ∷ b ∷ es) e h = absurd (omega arith)

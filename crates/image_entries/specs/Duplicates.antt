@@ -1,10 +1,15 @@
 -- A tag that several entries have, found in the entries' order: the words of one tag stand side by side, by place.
-use Rattle.std.specs.Prelude.{ℕ, ◌+◌, ◌/◌, ◌%◌, true, false, List, [], ◌∷◌, map, ltb, eqb}
+use Rattle.std.specs.Prelude.{ℕ, ◌+◌, ◌/◌, ◌%◌, true, false, Option, Some, None, List, [], ◌∷◌, map, ltb, eqb}
 use Rattle.search_rules.specs.Range.{Entry}
 use Rattle.image_rules.specs.declared.Loaded.{Loaded}
 use Rattle.image_rules.specs.Trees.{duplicate_tag}
 use Rattle.image_entries.specs.Entries.{places, first_word}
 use Rattle.image_entries.specs.Faults.{no_fault}
+
+-- a place that was found, or the number of all places where none was
+abbrev pub found_place : Option ℕ → ℕ
+found_place None = places
+found_place (Some place) = place
 
 -- the lesser of a place and that of the second of two words, if both have one tag
 unfoldable pub less_repeated : ℕ → ℕ → ℕ → ℕ

@@ -1,7 +1,8 @@
 -- What tests of some slots find: the first that is refused, as load replies it, and zeros where none is. The tests of
 -- an image's trees, one at a time.
-use Rattle.std.specs.Prelude.{ℕ, zero, suc, Bool, true, false, not, ◌||◌, List, [], ◌∷◌, ◌++◌, ltb}
+use Rattle.std.specs.Prelude.{ℕ, zero, suc, Bool, true, false, not, ◌||◌, Result, Ok, Err, List, [], ◌∷◌, ◌++◌, ltb}
 use Rattle.lists.specs.Lists.{select}
+use Rattle.refusals.specs.Number.{number_of}
 use Rattle.metric_rules.specs.declared.Space.{Space}
 use Rattle.metric_rules.specs.Row.{Row, tag_of}
 use Rattle.metric_rules.specs.Distance.{distance}
@@ -9,9 +10,15 @@ use Rattle.tree_rules.specs.Layout.{layout}
 use Rattle.table_rules.specs.Refusals.{unless}
 use Rattle.image_rules.specs.declared.Loaded.{Loaded}
 use Rattle.image_rules.specs.Trees.{duplicate_tag, none_has, place_refusal, first_refused}
+use Rattle.image_entries.specs.declared.Fault.{Fault}
 
 unfoldable pub no_fault : Loaded
 no_fault = record { refusal = 0; slot = 0 }
+
+-- what a test answers, as load replies it
+abbrev pub loaded_of : {A : Type 0} → Result A Fault → Loaded
+loaded_of (Ok _) = record { refusal = 0; slot = 0 }
+loaded_of (Err fault) = record { refusal = number_of fault.refusal; slot = fault.slot }
 
 -- of slots and those behind them, and so of some runs of slots
 unfoldable pub or_fault : Loaded → Loaded → Loaded

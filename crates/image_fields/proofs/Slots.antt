@@ -1,8 +1,8 @@
 -- What a slot that passes adds to the live ones counted, and the test of the days over slots one by one.
 use Prim.Native.Nat.{ℕ, ◌+◌, ◌-◌, ◌≤◌, ◌<◌}
-use mathlib.Core.Path.{◌≡◌, refl, ap, ap₂, ◌∙◌}
+use mathlib.Core.Path.{◌≡◌, refl, sym, ap, ◌∙◌}
 use mathlib.Core.Bool.{Bool, true, ◌&&◌}
-use mathlib.Core.List.{List, [], ◌∷◌, map}
+use mathlib.Core.List.{List, [], ◌∷◌}
 use native.Mathlib.Omega.{arith}
 use native.Mathlib.Decide.{dec_le}
 use borrow.Author.Tests.{leb-true, eq-eqb, ne_eqb}
@@ -14,10 +14,18 @@ use Rattle.metric_rules.specs.Row.{Row, tag_of, profile_of, mark_of, day_of, is_
 use Rattle.metric_rules.specs.Validity.{valid_tag, valid_measures, valid_day}
 use Rattle.image_rules.specs.Load.{fields_pass, days_pass}
 use Rattle.image_rules.specs.Read.{slots_in, row_in}
-use Rattle.image_read.specs.declared.Slots.{Slots}
-use Rattle.image_read.specs.InImage.{slots_at}
-use Rattle.image_read.proofs.Places.{slots_rows}
+use Rattle.image_read.specs.declared.slots.Slots.{Slots}
+use Rattle.image_read.specs.Slots.{slot_in, slots_at}
+use Rattle.image_read.proofs.Places.{slots_rows, slots_at_lem}
 use Rattle.rows.proofs.Selected.{selected_next, passed_over}
+
+-- the slot in hand, and a test of it
+pub slot_here : (at : Slots) (i : ℕ) {row : Row} → i < at.count → row ≡ slot_in at i → get_or (slots_at at) i [] ≡ row
+slot_here at i h e = slots_at_lem at i [] h ∙ sym e
+
+pub tested : (test : Row → Bool) (at : Slots) (i : ℕ) {row : Row} {b : Bool} → i < at.count → row ≡ slot_in at i → b ≡ test row
+    → test (get_or (slots_at at) i []) ≡ b
+tested test at i h e f = ap test (slot_here at i h e) ∙ sym f
 
 -- a slot that passes has a mark of 0 or 1
 pub mark_most : (row : Row) → fields_pass row ≡ true → mark_of row ≤ 1
@@ -43,8 +51,9 @@ abbrev pub has_day : Row → Bool
 has_day row = valid_day (day_of row)
 
 -- the test of all slots of an image, where these are all
-pub days_of_all : (image : List ℕ) (all : Slots) → all.first ≡ 0 → all.count ≡ slots_in image → every has_day (slots_at image all) ≡ days_pass image
+pub days_of_all : (image : List ℕ) (all : Slots) → all.image.now ≡ image → all.first ≡ 0 → all.count ≡ slots_in image
+    → every has_day (slots_at all) ≡ days_pass image
 unfolding days_pass
-days_of_all image all first count =
-    ap (every has_day) (slots_rows image all ∙ ap₂ (λ (a n : ℕ). map (row_in image) (count_from a n)) first count)
+days_of_all image all same first count =
+    ap (every has_day) (slots_rows all ∙ rw (same, first, count) refl)
     ∙ every_map (row_in image) has_day (λ i. has_day (row_in image i)) (λ i. refl) (count_from 0 (slots_in image))

@@ -1,41 +1,37 @@
 // What an image's sizes and its slots one by one must pass. Tags and layouts of whole buckets come after this.
 #![tactic(auto)]
 
-ghost use Rattle.std.specs.Prelude.{◌≡◌, ◌≤◌};
-ghost use Rattle.lists.specs.Lists.{every};
+ghost use Rattle.std.specs.Prelude.{◌≡◌};
 ghost use Rattle.metric_rules.specs.Row.{day_of};
 ghost use Rattle.metric_rules.specs.Validity.{valid_day};
-ghost use Rattle.table_rules.specs.Geometry.{most_order};
 ghost use Rattle.table_rules.specs.Checks.{sizes_pass};
-ghost use Rattle.image_rules.specs.Read.{built_in, live_in, slots_in};
+ghost use Rattle.image_rules.specs.Read.{order_in, built_in, live_in};
 ghost use Rattle.image_rules.specs.Load.{fields_pass, bucket_fields_pass, all_fields_pass, days_pass};
-ghost use Rattle.image_read.specs.InImage.{HasSizes, Whole, InImage, slots_at};
+ghost use Rattle.image_read.specs.Slots.{slots_at};
 
-use image_form::Form;
-use image_read::{Header, Slots, sizes_in, slot_in, some_of};
+use image_read::{Bucket, Image, WholeImage};
 use metric_rules::Row;
 use rows::{day_of, mark_of, profile_of, tag_of};
 use table_checks::size_passes;
 use table_order::Order;
 use validity::{valid_day, valid_measures, valid_tag};
 
-// Every bucket's sizes, and the live items in all, in one pass.
-pub fn sizes_pass(image: &[u8], form: Form, order: Order) -> bool
-    requires { (order.t ≤ most_order) × HasSizes image.now form order.t }
-    ensures { result ≡ sizes_pass order.t (built_in image.now) (live_in image.now) }
+// Every bucket's sizes, and the live items in all, in one pass, as table_checks has them of a table. One function over a
+// closure would need built_in and live_in, or built_of and live_of, as conditions on what the closure returns.
+pub fn sizes_pass(image: Image) -> bool
+    ensures { let read = image.entry.bytes.now in
+        result ≡ sizes_pass (order_in read) (built_in read) (live_in read) }
 {
-    let t = order.t;
-    let mut sum: usize = 0;
-    let mut k = 0;
-    while k <= t {
-        let sizes = sizes_in(image, form, k);
+    let order = image.header.order;
+    let mut sum = 0;
+    for k in 0..order.buckets() {
+        let sizes = image.sizes(k);
         if !size_passes(k, sizes.built, sizes.live) {
             return false;
         }
         sum += sizes.live as usize;
-        k += 1;
     }
-    sum <= Order::room(t)
+    sum <= Order::room(order.t)
 }
 
 // A slot's own fields.
@@ -53,57 +49,45 @@ fn has_day(row: Row) -> bool
 }
 
 // The day of every slot, dead ones too.
-pub fn days_pass(image: &[u8], all: Slots) -> bool
-    requires { InImage image.now all × (all.first ≡ 0) × (all.count ≡ slots_in image.now) }
-    ensures { result ≡ days_pass image.now }
+pub fn days_pass(image: WholeImage) -> bool
+    ensures { result ≡ days_pass image.entry.image.bytes.now }
 {
-    let count = all.count;
-    let mut i = 0;
-    while i < count {
-        if !has_day(slot_in(image, all, i)) {
+    let slots = image.slots();
+    for i in 0..slots.count {
+        if !has_day(slots.slot(i)) {
             return false;
         }
-        i += 1;
     }
     true
 }
 
-// Some slots: a field that fails ends it, and the 0 marks are counted.
-fn slots_read(image: &[u8], at: Slots, live: u32) -> bool
-    requires { InImage image.now at }
-    ensures { result ≡ bucket_fields_pass (slots_at image.now at) live }
+// A bucket's slots: a field that fails ends it, and the 0 marks are counted.
+fn slots_read(bucket: Bucket) -> bool
+    ensures { result ≡ bucket_fields_pass (slots_at bucket.entry.slots) bucket.entry.live }
 {
-    let count = at.count;
-    let mut found: usize = 0;
-    let mut i = 0;
-    while i < count {
-        let row = slot_in(image, at, i);
+    let slots = bucket.slots;
+    let mut found = 0;
+    for i in 0..slots.count {
+        let row = slots.slot(i);
         if !slot_passes(row) {
             return false;
         }
         found += (1 - mark_of(row)) as usize;
-        i += 1;
     }
-    found == live as usize
+    found == bucket.live as usize
 }
 
 // The slots of every bucket.
-pub fn buckets_read(image: &[u8], header: Header, all: Slots) -> bool
-    requires { Whole image.now header × InImage image.now all }
-    ensures { result ≡ all_fields_pass image.now }
+pub fn buckets_read(image: WholeImage) -> bool
+    ensures { result ≡ all_fields_pass image.entry.image.bytes.now }
 {
-    let form = header.form;
-    let t = header.order.t;
     let mut first = 0;
-    let mut k = 0;
-    while k <= t {
-        let sizes = sizes_in(image, form, k);
-        let count = sizes.built as usize;
-        if !slots_read(image, some_of(all, first, count), sizes.live) {
+    for k in 0..image.buckets() {
+        let bucket = image.bucket(k, first);
+        if !slots_read(bucket) {
             return false;
         }
-        first += count;
-        k += 1;
+        first += bucket.slots.count;
     }
     true
 }

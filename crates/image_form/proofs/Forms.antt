@@ -1,49 +1,41 @@
--- Which numbers are forms, what each case of `Formed` says of the number asked for, and bounds of the lengths, so that sums of them fit:
--- whoever goes by a form's answer or adds up its lengths goes by these.
+-- Which numbers are forms, and bounds of the lengths, so that sums of them fit: whoever asks for a form or adds up its
+-- lengths goes by these.
 use Prim.Native.Nat.{ℕ, zero, suc, ◌+◌, ◌*◌, ◌≤◌, ◌<◌}
 use native.Mathlib.Omega.{arith}
 use native.Mathlib.Nat.{add-mul, mul-le-mul_right, lt_of_not-le}
 use native.Mathlib.Decide.{dec_le}
-use mathlib.Core.Path.{◌≡◌, refl, ◌∙◌, ap}
+use mathlib.Core.Path.{◌≡◌, refl, sym, ap}
 use mathlib.Core.Bool.{Bool, true, false}
 use borrow.Author.Tests.{le-leb, lt-leb}
 use Rattle.lists.specs.Lists.{total}
-use Rattle.table_rules.specs.Refusals.{bad_image}
+use Rattle.table_rules.specs.Refusals.{bad_image, unless}
 use Rattle.image_rules.specs.Bytes.{last_form, valid_form, start_fields, weight_fields, header_fields, day_fields, record_fields, header_bytes, tag_bytes, record_bytes}
 use Rattle.image_rules.specs.Bytes.{sizes_end, image_length}
-use Rattle.image_form.specs.declared.Formed.TheVariants.{Is, Unknown}
-use Rattle.image_form.specs.declared.Form.{Form}
-use Rattle.image_form.specs.Answers.{Answer, answer_of, form_answer}
+use Rattle.image_form.specs.Numbers.{form_refusal}
 
--- the answer by the test
-answers : (n : ℕ) (b : Bool) → valid_form n ≡ b → form_answer n ≡ elim b [ true ↦ record { refusal = 0; form = n } | false ↦ record { refusal = bad_image; form = 0 } ]
-unfolding form_answer
-answers n b e = ap (λ (d : Bool). elim d [ true ↦ record { refusal = 0; form = n } | false ↦ record { refusal = bad_image; form = 0 } ]) e
+passed_when : (b : Bool) → 0 ≡ unless b bad_image 0 → b ≡ true
+passed_when true e = refl
+passed_when false e = absurd (omega arith)
 
-pub answer_valid : (n : ℕ) → n ≤ last_form → form_answer n ≡ record { refusal = 0; form = n }
-unfolding valid_form
-answer_valid n h = answers n true (le-leb n last_form h)
+refused_when : (b : Bool) {m : ℕ} → 0 < m → m ≡ unless b bad_image 0 → b ≡ false
+refused_when false h e = refl
+refused_when true h e = absurd (omega arith)
 
-pub answer_above : (n : ℕ) → last_form < n → form_answer n ≡ record { refusal = bad_image; form = 0 }
-unfolding valid_form
-answer_above n h = answers n false (lt-leb n last_form h)
+-- a number that is not refused is a form, and one that is refused is none
+pub is_form : (n : ℕ) → 0 ≡ form_refusal n → valid_form n ≡ true
+is_form n e = passed_when (valid_form n) e
 
--- by the case: the number is a form, or it is none
-is_when : (form : Form) (n : ℕ) (b : Bool) → valid_form n ≡ b → answer_of (Is form) ≡ form_answer n → (form.number ≡ n) × (b ≡ true)
-unfolding answer_of
-is_when form n true v e = (ap (λ (a : Answer). a.form) (e ∙ answers n true v), refl)
-is_when form n false v e = let z : ◌≡◌ {A = ℕ} 0 8 = ap (λ (a : Answer). a.refusal) (e ∙ answers n false v) in absurd (omega arith)
+pub no_form : (n : ℕ) {m : ℕ} → 0 < m → m ≡ form_refusal n → valid_form n ≡ false
+no_form n h e = refused_when (valid_form n) h e
 
-pub is_form : (form : Form) (n : ℕ) → answer_of (Is form) ≡ form_answer n → (form.number ≡ n) × (valid_form n ≡ true)
-is_form form n e = is_when form n (valid_form n) refl e
+-- a number up to the last form is one, and a number above it is refused
+pub form_passes : (n : ℕ) → n ≤ 2 → 0 ≡ form_refusal n
+unfolding valid_form last_form
+form_passes n h = sym (ap (λ (b : Bool). unless b bad_image 0) (le-leb n 2 h))
 
-above_when : (n : ℕ) (b : Bool) → valid_form n ≡ b → answer_of Unknown ≡ form_answer n → b ≡ false
-unfolding answer_of
-above_when n false v e = refl
-above_when n true v e = let z : ◌≡◌ {A = ℕ} 8 0 = ap (λ (a : Answer). a.refusal) (e ∙ answers n true v) in absurd (omega arith)
-
-pub no_form : (n : ℕ) → answer_of Unknown ≡ form_answer n → valid_form n ≡ false
-no_form n e = above_when n (valid_form n) refl e
+pub form_refused : (n : ℕ) → 2 < n → bad_image ≡ form_refusal n
+unfolding valid_form last_form
+form_refused n h = sym (ap (λ (b : Bool). unless b bad_image 0) (lt-leb n 2 h))
 
 -- the header of form 0, and of any later one
 pub header_first : (form : ℕ) → form ≡ 0 → header_bytes form ≡ 4

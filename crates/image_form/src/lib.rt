@@ -1,25 +1,22 @@
 // The form of an image. Every length and place that goes by the form is worked out here and nowhere else.
 #![tactic(auto)]
 
-ghost use Rattle.std.specs.Prelude.{◌≡◌, ◌+◌, ◌*◌, ◌<◌, ◌^◌};
+ghost use Rattle.std.specs.Prelude.{◌≡◌, ◌+◌, ◌*◌, ◌<◌, ◌^◌, IfOk};
+ghost use Rattle.refusals.specs.Number.{refusal_in};
 ghost use Rattle.image_rules.specs.Bytes.{written_form, header_bytes, tag_bytes, record_bytes, pair_bytes, sizes_end};
 ghost use Rattle.image_rules.specs.Bytes.{image_length};
-ghost use Rattle.image_form.specs.Answers.{answer_of, form_answer};
+ghost use Rattle.image_form.specs.Numbers.{form_refusal};
 
 use image_rules::{
     DAY_BYTES, PAIR_BYTES, RECORD_WORDS_BYTES, START_BYTES, TAG_BYTES, WEIGHT_BYTES,
 };
+use refusals::Refusal;
 
+// A form is its number: an image's bytes have it, and every clause below is an equation in it. An enum would have to be
+// turned back into it in each.
 #[derive(Clone, Copy)]
 pub struct Form {
     pub number: u32,
-}
-
-// What asking for a form answers.
-#[derive(Clone, Copy)]
-pub enum Formed {
-    Is(Form),
-    Unknown,
 }
 
 impl Form {
@@ -35,13 +32,15 @@ impl Form {
     pub const FIRST_WITH_DAYS: u32 = 2;
 
     // The form with this number.
-    pub fn new(number: u32) -> Formed
-        ensures { answer_of result ≡ form_answer number }
+    #[tactic(auto, using(crate::proofs::Forms::form_passes, crate::proofs::Forms::form_refused))]
+    pub fn new(number: u32) -> Result<Form, Refusal>
+        ensures refusal { refusal_in result ≡ form_refusal number }
+        ensures form { IfOk result (λ form. form.number ≡ number) }
     {
         if Form::LAST < number {
-            return Formed::Unknown;
+            return Err(Refusal::BadImage);
         }
-        Formed::Is(Form { number })
+        Ok(Form { number })
     }
 
     pub fn written() -> Form

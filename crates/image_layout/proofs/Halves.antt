@@ -1,20 +1,19 @@
 -- A part that is arranged, and its halves as they are lent: its first fault is at its first slot, or that of the left half, or that of the right.
-use Prim.Native.Nat.{ℕ, suc, ◌+◌, ◌-◌, ◌/◌, ◌≤◌, ◌<◌}
+use Prim.Native.Nat.{ℕ, zero, suc, ◌+◌, ◌-◌, ◌/◌, ◌≤◌, ◌<◌}
 use native.Mathlib.Omega.{arith}
-use mathlib.Core.Path.{◌≡◌, sym, ◌∙◌, ap, ap₂, subst}
+use mathlib.Core.Path.{◌≡◌, refl, sym, ◌∙◌, ap, ap₂, subst}
 use mathlib.Core.List.{List, [], ◌∷◌, ◌++◌}
 use lib.ListN.{length, take, drop, get_or, length-take, length-drop}
 use lib.Seq.{drop-cons}
 use Rattle.lists.specs.Lists.{All}
-use Rattle.lists.proofs.Lists.{all_at, all_take, all_drop}
+use Rattle.lists.proofs.Lists.{all_drop}
 use Rattle.metric_rules.specs.declared.Profile.{Profile}
 use Rattle.metric_rules.specs.Row.{Row}
 use Rattle.tree_rules.specs.Layout.{left_size, placed}
-use Rattle.tree_rules.proofs.Parts.{left_part_lem, left_part, left_part_length, leftBack, left-back-length, right_part_lem, right_part, right-part-length, rightBack}
-use Rattle.tree_rules.proofs.Parts.{right-back-length}
+use Rattle.tree_rules.proofs.Parts.{left_part_lem, left_part, leftBack, left-back-length, right_part_lem, right_part, right-part-length}
 use Rattle.search_rules.specs.Range.{Entry}
 use Rattle.image_rules.specs.declared.Loaded.{Loaded}
-use Rattle.image_rules.specs.Trees.{place_refusal}
+use Rattle.image_rules.specs.Trees.{place_refusal, first_refused}
 use Rattle.image_entries.specs.Faults.{or_fault}
 use Rattle.image_entries.specs.Entries.{entry_place, last_of, IsEntry, first_laid, laid_out, laid_from, partFault}
 use Rattle.image_entries.proofs.Faults.{first_none, first_some}
@@ -46,9 +45,6 @@ module _ {slot : ℕ → Row} {dist : Profile → Profile → ℕ} {n : ℕ} {es
   unfolding right
   right_length = omega (arith, length-drop (length es / 2) (drop 1 after), length-drop 1 after, p.kept)
 
-  pub first_within : entry_place (get_or after 0 []) < n
-  first_within = (all_at (IsEntry slot n) after 0 (omega (arith, p.some, p.kept)) p.sound).within
-
   node_is : laid_out slot dist es ≡ first_laid slot after ∷ laid_out slot dist left ++ laid_out slot dist right
   unfolding laid_from left_size first_laid left right
   node_is =
@@ -67,6 +63,30 @@ module _ {slot : ℕ → Row} {dist : Profile → Profile → ℕ} {n : ℕ} {es
     fault-first some =
         ap (λ (k : ℕ). record { refusal = k; slot = first + place }) tested
         ∙ sym (fault-here slot dist first place es left right (first_laid slot after) node_is sizes (λ z. some (tested ∙ z)))
+
+    -- what it answers
+    pub first_stops : (l : Loaded) → l ≡ first_refused (first + place) (number ∷ []) → (l.refusal ≡ 0 → ⊥) → l ≡ partFault slot dist first place es
+    unfolding first_refused
+    first_stops l e some = go number refl
+      where
+        go : (n : ℕ) → number ≡ n → l ≡ partFault slot dist first place es
+        go zero is = absurd (some (ap (λ (f : Loaded). f.refusal) (e ∙ ap (λ (n : ℕ). first_refused (first + place) (n ∷ [])) is)))
+        go (suc n) is =
+            e
+            ∙ ap (λ (k : ℕ). first_refused (first + place) (k ∷ [])) is
+            ∙ ap (λ (k : ℕ). record { refusal = k; slot = first + place }) (sym is)
+            ∙ fault-first (λ z. omega (arith, z, is))
+
+    pub first_goes : (l : Loaded) → l ≡ first_refused (first + place) (number ∷ []) → l.refusal ≡ 0 → number ≡ 0
+    unfolding first_refused
+    first_goes l e none = go number refl
+      where
+        go : (n : ℕ) → number ≡ n → number ≡ 0
+        go zero is = is
+        go (suc n) is =
+            let z : ◌≡◌ {A = ℕ} (suc n) 0 =
+            ap (λ (f : Loaded). f.refusal) (sym (e ∙ ap (λ (n : ℕ). first_refused (first + place) (n ∷ [])) is)) ∙ none in
+            absurd (omega arith)
 
     halves : number ≡ 0 → (l : Loaded) → l ≡ partFault slot dist first (place + 1) (left_part_lem (length es / 2) after more)
         → partFault slot dist first place es ≡ or_fault l (partFault slot dist first (place + 1 + length left) right)
@@ -91,13 +111,6 @@ module _ {slot : ℕ → Row} {dist : Profile → Profile → ℕ} {n : ℕ} {es
         ∙ ap₂ (partFault slot dist first) from (right_part (length es / 2) after more back same)
         ∙ sym (halves none l e ∙ first_none l _ passed)
 
-  -- what a half's test asks
-  pub left_sound : All (IsEntry slot n) (left_part_lem (length es / 2) after more)
-  left_sound = subst (All (IsEntry slot n)) (sym (left_part (length es / 2) after more)) (all_take (IsEntry slot n) (length es / 2) (drop 1 after) (all_drop (IsEntry slot n) 1 after p.sound))
-
-  pub left_lent_length : length (left_part_lem (length es / 2) after more) ≡ length es / 2
-  left_lent_length = left_part_length (length es / 2) after more
-
   module _ (back : List Entry) (same : length back ≡ length (left_part_lem (length es / 2) after more)) where
     pub back_length : length (leftBack (length es / 2) after more back same) ≡ length es
     back_length = left-back-length (length es / 2) after more back same ∙ p.kept
@@ -109,6 +122,3 @@ module _ {slot : ℕ → Row} {dist : Profile → Profile → ℕ} {n : ℕ} {es
 
     pub right-lent-length : length (right_part_lem (length es / 2) after more back same) ≡ length es - 1 - length es / 2
     right-lent-length = right-part-length (length es / 2) after more back same ∙ ap (λ (k : ℕ). k - 1 - length es / 2) p.kept
-
-    pub done-length : (last : List Entry) → length last ≡ length (right_part_lem (length es / 2) after more back same) → length (rightBack (length es / 2) after more back same last) ≡ length es
-    done-length last k = right-back-length (length es / 2) after more back same last k ∙ p.kept

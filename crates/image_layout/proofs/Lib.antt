@@ -1,4 +1,3 @@
--- The first slot that is not what a layout puts there, half by half; and words compared one by one.
-pub mod Alike
+-- The first slot that is not what a layout puts there, half by half.
 pub mod Faults
 pub mod Halves

@@ -18,34 +18,23 @@ use Rattle.image_rules.specs.Load.{days_pass, all_fields_pass, fields_refusal, o
 use Rattle.image_rules.specs.declared.Loaded.{Loaded}
 use Rattle.image_read.specs.declared.Header.{Header}
 use Rattle.image_read.specs.InImage.{Headed, Whole}
-use Rattle.image_load.specs.Steps.{start_by, start_refusal, weights_pass, sizes_by, sizes_refusal, slots_by, header_in, opened, placed}
+use Rattle.image_load.specs.Steps.{start_by, start_refusal, weights_pass, sizes_by, sizes_refusal, slots_by, header_in}
 
--- the start's answer by the outcomes of its tests, and that of the sizes
-pub opened_by :
+-- the start's refusal by the outcomes of its tests, and that of the sizes
+pub start_by_tests :
     (image : List ℕ) (short order metric form header : Bool) → ltb (length image) start_bytes ≡ short → valid_order (order_in image) ≡ order
     → valid_metric (space_in image) ≡ metric → valid_form (form_in image) ≡ form → leb (header_bytes (form_in image)) (length image) ≡ header
-    → opened (start_by short order metric form header) image ≡ opened (start_refusal image) image
+    → start_by short order metric form header ≡ start_refusal image
 unfolding start_refusal
-opened_by image short order metric form header a b c d e = ap (λ (n : ℕ). opened n image) (sym (by a b c d e))
-  where
-    by : ltb (length image) start_bytes ≡ short → valid_order (order_in image) ≡ order
-        → valid_metric (space_in image) ≡ metric → valid_form (form_in image) ≡ form → leb (header_bytes (form_in image)) (length image) ≡ header
-        → start_refusal image ≡ start_by short order metric form header
-    by a b c d e = rw (a, b, c, d, e) refl
+start_by_tests image short order metric form header a b c d e = rw (a, b, c, d, e) refl
 
-pub placed_by :
+pub sizes_by_tests :
     (rows : ℕ) (image : List ℕ) (pairs sizes whole roomy : Bool) → leb (sizes_end (form_in image) (order_in image)) (length image) ≡ pairs
     → sizes_pass (order_in image) (built_in image) (live_in image) ≡ sizes
     → eqb (length image) (image_length (form_in image) (order_in image) (slots_in image)) ≡ whole
-    → leb (table_rows (order_in image)) rows ≡ roomy → placed (sizes_by pairs sizes whole roomy) image ≡ placed (sizes_refusal rows image) image
+    → leb (table_rows (order_in image)) rows ≡ roomy → sizes_by pairs sizes whole roomy ≡ sizes_refusal rows image
 unfolding sizes_refusal
-placed_by rows image pairs sizes whole roomy a b c d = ap (λ (n : ℕ). placed n image) (sym (by a b c d))
-  where
-    by : leb (sizes_end (form_in image) (order_in image)) (length image) ≡ pairs
-        → sizes_pass (order_in image) (built_in image) (live_in image) ≡ sizes
-        → eqb (length image) (image_length (form_in image) (order_in image) (slots_in image)) ≡ whole
-        → leb (table_rows (order_in image)) rows ≡ roomy → sizes_refusal rows image ≡ sizes_by pairs sizes whole roomy
-    by a b c d = rw (a, b, c, d) refl
+sizes_by_tests rows image pairs sizes whole roomy a b c d = rw (a, b, c, d) refl
 
 -- the checks are these steps
 by_steps : (short order metric form header weights pairs sizes whole roomy days fields : Bool)

@@ -1,7 +1,7 @@
 -- Load's checks before the trees, in steps: those of the start, those of the weights, those of the sizes and lengths,
 -- and those of the slots' fields, each with 0 where all pass; and what the code answers to the first and the third
 -- (RULES 12.4).
-use Rattle.std.specs.Prelude.{ℕ, zero, suc, Bool, List, length, leb, ltb, eqb}
+use Rattle.std.specs.Prelude.{ℕ, Bool, List, length, leb, ltb, eqb}
 use Rattle.metric_rules.specs.Distance.{valid_metric, valid_weights}
 use Rattle.table_rules.specs.Refusals.{bad_order, bad_metric, bad_day, bad_length, bad_image, short_area, bad_table, unless}
 use Rattle.table_rules.specs.Refusals.{when}
@@ -10,12 +10,7 @@ use Rattle.table_rules.specs.Checks.{sizes_pass}
 use Rattle.image_rules.specs.Bytes.{valid_form, start_bytes, header_bytes, sizes_end, image_length}
 use Rattle.image_rules.specs.Read.{form_in, order_in, space_in, built_in, live_in, slots_in}
 use Rattle.image_read.specs.declared.Header.{Header}
-use Rattle.image_read.specs.InImage.{all_slots}
 use Rattle.image_load.specs.declared.Beginning.{Beginning}
-use Rattle.image_load.specs.declared.Opened.{Opened}
-use Rattle.image_load.specs.declared.Placed.{Placed}
-use Rattle.image_load.specs.declared.Opened.TheVariants as start-told
-use Rattle.image_load.specs.declared.Placed.TheVariants as slots_told
 
 unfoldable pub start_by : Bool → Bool → Bool → Bool → Bool → ℕ
 start_by short order metric form header =
@@ -59,11 +54,3 @@ start_in image = record { order = record { t = order_in image }; metric = (space
 
 unfoldable pub header_in : List ℕ → Header
 header_in image = record { order = record { t = order_in image }; space = space_in image; form = record { number = form_in image } }
-
--- what is answered by a refusal: the beginning, and where all slots stand, where it is 0, and otherwise the refusal
--- itself
-unfoldable pub opened : ℕ → List ℕ → Opened
-opened refusal image = elim refusal [ zero ↦ start-told.Is (start_in image) | suc n ↦ start-told.Refused (suc n) ]
-
-unfoldable pub placed : ℕ → List ℕ → Placed
-placed refusal image = elim refusal [ zero ↦ slots_told.At (all_slots (header_in image) (slots_in image)) | suc n ↦ slots_told.Refused (suc n) ]

@@ -10,8 +10,7 @@ use Rattle.image_rules.specs.Bytes.{tag_fields, day_fields, record_fields, tag_b
 use Rattle.image_rules.specs.Read.{number_at, fields_at, form_in, order_in, slots_in, day_as}
 use Rattle.image_rules.proofs.Counting.{piece_within}
 use Rattle.image_form.proofs.Forms.{length_by_parts}
-use Rattle.image_read.specs.declared.Slots.{Slots}
-use Rattle.image_read.specs.InImage.{InImage}
+use Rattle.image_read.specs.declared.slots.Slots.{Slots}
 
 -- the fields of a slot, each by its place from the first on
 pub tag_fields_lem : (l : List ℕ) (t : ℕ) → fields_at l tag_fields t ≡ number_at l 4 t ∷ number_at l 4 (t + 4) ∷ []
@@ -39,14 +38,16 @@ day_since l (suc zero) at h = absurd (omega arith)
 day_since l (suc (suc form)) at h = refl
 
 -- in an image every slot's tag and record have their bytes
-pub slot_within : {image : List ℕ} {at : Slots} (i : ℕ) → InImage image at → i < at.count
-    → (at.tags + 8 * (at.first + i) + 8 ≤ length image)
-    × (at.records + record_bytes (form_in image) * (at.first + i) + record_bytes (form_in image) ≤ length image)
-    × (at.first + i < slots_in image)
+pub slot_within : (at : Slots) (i : ℕ) → i < at.count
+    → (at.tags + 8 * (at.first + i) + 8 ≤ length at.image.now)
+    × (at.records + record_bytes at.form.number * (at.first + i) + record_bytes at.form.number ≤ length at.image.now)
+    × (at.first + i < slots_in at.image.now)
 unfolding tag_bytes tag_fields total
-slot_within {image} {at} i p h =
-    let form = form_in image in
-    let n = slots_in image in
+slot_within at i h =
+    let p = at.in_image in
+    let form = form_in at.image.now in
+    let n = slots_in at.image.now in
     let inside : at.first + i < n = omega (arith, p.within) in
-    let parts = length_by_parts form (order_in image) n in
+    let parts = length_by_parts form (order_in at.image.now) n in
+    rw p.formed
     (omega (arith, p.tags_at, p.whole, parts), omega (arith, p.tags_at, p.records_at, p.whole, parts, piece_within (record_bytes form) (at.first + i) n inside), inside)

@@ -1,5 +1,5 @@
 -- The slots of an image by their numbers: which row stands at a place of a run of slots, and that a bucket's slots and sizes are in the image.
-use Prim.Native.Nat.{ℕ, zero, suc, ◌+◌, ◌*◌, ◌^◌, ◌≤◌, ◌<◌}
+use Prim.Native.Nat.{ℕ, zero, suc, ◌+◌, ◌^◌, ◌≤◌, ◌<◌}
 use mathlib.Core.Path.{◌≡◌, refl, ap, ap₂, ◌∙◌}
 use mathlib.Core.Bool.{true}
 use mathlib.Core.List.{List, ◌∷◌, map}
@@ -22,8 +22,9 @@ use Rattle.lists.proofs.Totals.{total_more}
 use Rattle.image_form.specs.declared.Form.{Form}
 use Rattle.image_form.proofs.Forms.{length_by_parts}
 use Rattle.image_read.specs.declared.Header.{Header}
-use Rattle.image_read.specs.declared.Slots.{Slots}
-use Rattle.image_read.specs.InImage.{HasSizes, Whole, InImage, all_slots, slot_in, slots_at}
+use Rattle.image_read.specs.declared.slots.Slots.{Slots}
+use Rattle.image_read.specs.InImage.{HasSizes, Whole}
+use Rattle.image_read.specs.Slots.{slot_in, slots_at}
 
 pub counted_at : {A : Type 0} (f : ℕ → A) (a n i : ℕ) (d : A) → i < n → get_or (map f (count_from a n)) i d ≡ f (a + i)
 unfolding count_from
@@ -44,31 +45,16 @@ pub whole_sizes : {image : List ℕ} {header : Header} → Whole image header �
 unfolding image_length
 whole_sizes {image} w k l = sizes_below {t = order_in image} (record { formed = w.headed.form; long = omega (arith, w.long) }) k l
 
-pub slots_sizes : {image : List ℕ} {at : Slots} → InImage image at → (k : ℕ) → k ≤ order_in image → HasSizes image at.form k
+pub slots_sizes : (at : Slots) (k : ℕ) → k ≤ order_in at.image.now → HasSizes at.image.now at.form k
 unfolding image_length
-slots_sizes {image} p k l = sizes_below {t = order_in image} (record { formed = p.formed; long = omega (arith, p.whole) }) k l
+slots_sizes at k l =
+    let p = at.in_image in sizes_below {t = order_in at.image.now} (record { formed = p.formed; long = omega (arith, p.whole) }) k l
 
 -- an image has more bytes than slots
-pub few_slots : {image : List ℕ} {at : Slots} → InImage image at → slots_in image ≤ length image
+pub few_slots : (at : Slots) → slots_in at.image.now ≤ length at.image.now
 unfolding tag_bytes tag_fields total
-few_slots {image} p = omega (arith, p.whole, length_by_parts (form_in image) (order_in image) (slots_in image))
-
--- all slots of a whole image
-pub all_in : {image : List ℕ} {header : Header} → Whole image header → (count : ℕ) → count ≡ slots_in image → InImage image (all_slots header count)
-unfolding all_slots
-all_in {image} {header} w count e =
-    record {
-      formed = w.headed.form;
-      tags_at = ap₂ sizes_end w.headed.form w.headed.order;
-      records_at = ap (λ (n : ℕ). sizes_end header.form.number header.order.t + tag_bytes * n) e;
-      whole = w.long;
-      within = omega (arith, e);
-    }
-
--- the slots of a part are in the image where they are among all
-pub some_in : {image : List ℕ} {all : Slots} → InImage image all → (first count : ℕ) → first + count ≤ slots_in image
-    → InImage image (record { form = all.form; tags = all.tags; records = all.records; first = first; count = count })
-some_in p first count h = record { formed = p.formed; tags_at = p.tags_at; records_at = p.records_at; whole = p.whole; within = h }
+few_slots at =
+    let image = at.image.now in omega (arith, at.in_image.whole, length_by_parts (form_in image) (order_in image) (slots_in image))
 
 -- the slots of a bucket are among all
 total_within : (f : ℕ → ℕ) (k n : ℕ) → k ≤ n → total (map f (count_from 0 k)) ≤ total (map f (count_from 0 n))
@@ -107,18 +93,18 @@ slots_few image order pass =
     )
 
 -- how many some are, and which stands at a place among them
-pub slots_length : (image : List ℕ) (at : Slots) → length (slots_at image at) ≡ at.count
+pub slots_length : (at : Slots) → length (slots_at at) ≡ at.count
 unfolding slots_at
-slots_length image at = length_counted (slot_in image at) 0 at.count
+slots_length at = length_counted (slot_in at) 0 at.count
 
-pub slots_at_lem : (image : List ℕ) (at : Slots) (i : ℕ) (d : Row) → i < at.count → get_or (slots_at image at) i d ≡ slot_in image at i
+pub slots_at_lem : (at : Slots) (i : ℕ) (d : Row) → i < at.count → get_or (slots_at at) i d ≡ slot_in at i
 unfolding slots_at
-slots_at_lem image at i d h = let z : 0 + i ≡ i = omega arith in counted_at (slot_in image at) 0 at.count i d h ∙ ap (slot_in image at) z
+slots_at_lem at i d h = let z : 0 + i ≡ i = omega arith in counted_at (slot_in at) 0 at.count i d h ∙ ap (slot_in at) z
 
 -- every slot read has all its words
-pub slot_width : (image : List ℕ) (at : Slots) (i : ℕ) → length (slot_in image at i) ≡ row_width
+pub slot_width : (at : Slots) (i : ℕ) → length (slot_in at i) ≡ row_width
 unfolding slot_in
-slot_width image at i = row_width_lem image (at.first + i)
+slot_width at i = row_width_lem at.image.now (at.first + i)
 
 -- counted from a on, or from 0 with a added
 pub count_shift : {A : Type 0} (f : ℕ → A) (a b n : ℕ) → map (λ i. f (a + i)) (count_from b n) ≡ map f (count_from (a + b) n)
@@ -129,12 +115,14 @@ count_shift f a b (suc n) =
     ap (λ (r : List _). f (a + b) ∷ r) (count_shift f a (suc b) n ∙ ap (λ (k : ℕ). map f (count_from k n)) e)
 
 -- slots by their numbers among all; those that begin where bucket k does, and are as many, are the bucket
-pub slots_rows : (image : List ℕ) (at : Slots) → slots_at image at ≡ map (row_in image) (count_from at.first at.count)
+pub slots_rows : (at : Slots) → slots_at at ≡ map (row_in at.image.now) (count_from at.first at.count)
 unfolding slots_at slot_in
-slots_rows image at =
+slots_rows at =
+    let rows = row_in at.image.now in
     let z : at.first + 0 ≡ at.first = omega arith in
-    count_shift (row_in image) at.first 0 at.count ∙ ap (λ (a : ℕ). map (row_in image) (count_from a at.count)) z
+    count_shift rows at.first 0 at.count ∙ ap (λ (a : ℕ). map rows (count_from a at.count)) z
 
-pub bucket_slots : (image : List ℕ) (at : Slots) (k : ℕ) → at.first ≡ slots_before image k → at.count ≡ built_in image k → slots_at image at ≡ bucket_in image k
+pub bucket_slots : (at : Slots) (k : ℕ) → at.first ≡ slots_before at.image.now k → at.count ≡ built_in at.image.now k
+    → slots_at at ≡ bucket_in at.image.now k
 unfolding bucket_in
-bucket_slots image at k f n = slots_rows image at ∙ ap₂ (λ (a m : ℕ). map (row_in image) (count_from a m)) f n
+bucket_slots at k f n = slots_rows at ∙ ap₂ (λ (a m : ℕ). map (row_in at.image.now) (count_from a m)) f n

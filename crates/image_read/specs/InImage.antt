@@ -1,15 +1,12 @@
 -- What is known of an image when its sizes and its slots are read: its header, and where its parts stand.
-use Rattle.std.specs.Prelude.{ℕ, ◌+◌, ◌*◌, ◌≤◌, ◌≡◌, true, List, map, length}
-use Rattle.lists.specs.Lists.{count_from}
-use Rattle.metric_rules.specs.Row.{Row}
+use Rattle.std.specs.Prelude.{ℕ, ◌+◌, ◌*◌, ◌≤◌, ◌≡◌, true, List, length}
 use Rattle.table_rules.specs.Geometry.{most_order}
 use Rattle.table_rules.specs.Checks.{sizes_pass}
 use Rattle.image_rules.specs.Bytes.{tag_bytes, sizes_end, image_length}
-use Rattle.image_rules.specs.Read.{form_in, order_in, space_in, built_in, live_in, slots_in, row_in}
+use Rattle.image_rules.specs.Read.{form_in, order_in, space_in, built_in, live_in, slots_in}
 use Rattle.image_form.specs.declared.Form.{Form}
 use Rattle.image_read.specs.declared.Start.{Start}
 use Rattle.image_read.specs.declared.Header.{Header}
-use Rattle.image_read.specs.declared.Slots.{Slots}
 
 -- the numbers that an image begins with
 pub record Started (image : List ℕ) (start : Start) : Type 0 where
@@ -35,23 +32,10 @@ pub record Whole (image : List ℕ) (header : Header) : Type 0 where
   pub sizes : sizes_pass (order_in image) (built_in image) (live_in image) ≡ true
   pub long : length image ≡ image_length (form_in image) (order_in image) (slots_in image)
 
--- all slots of an image with this header, which are so many
-unfoldable pub all_slots : Header → ℕ → Slots
-all_slots header count =
-    let tags = sizes_end header.form.number header.order.t in
-    record { form = header.form; tags = tags; records = tags + tag_bytes * count; first = 0; count = count }
-
--- slot i of some, and all of them
-unfoldable pub slot_in : List ℕ → Slots → ℕ → Row
-slot_in image at i = row_in image (at.first + i)
-
-unfoldable pub slots_at : List ℕ → Slots → List Row
-slots_at image at = map (slot_in image at) (count_from 0 at.count)
-
--- the places are the image's, which is as long as its sizes say, and the slots stand in it
-pub record InImage (image : List ℕ) (at : Slots) : Type 0 where
-  pub formed : at.form.number ≡ form_in image
-  pub tags_at : at.tags ≡ sizes_end (form_in image) (order_in image)
-  pub records_at : at.records ≡ at.tags + tag_bytes * slots_in image
+-- slots that stand in an image, which is as long as its sizes say, with the places of its tags and of its records
+pub record InImage (image : List ℕ) (form : Form) (tags records first count : ℕ) : Type 0 where
+  pub formed : form.number ≡ form_in image
+  pub tags_at : tags ≡ sizes_end (form_in image) (order_in image)
+  pub records_at : records ≡ tags + tag_bytes * slots_in image
   pub whole : length image ≡ image_length (form_in image) (order_in image) (slots_in image)
-  pub within : at.first + at.count ≤ slots_in image
+  pub within : first + count ≤ slots_in image

@@ -1,1 +1,2 @@
 pub mod InImage
+pub mod Slots

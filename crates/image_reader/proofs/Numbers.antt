@@ -1,17 +1,13 @@
 -- A number read at a place is its lowest byte and 256 times the number read from the next place on.
 use Prim.Native.Nat.{ℕ, suc, ◌+◌, ◌*◌, ◌≤◌, ◌<◌}
 use mathlib.Core.Path.{◌≡◌, refl}
-use mathlib.Core.Bool.{Bool, true, false, ◌||◌, false≢true}
 use mathlib.Core.List.{List}
 use native.Mathlib.Numerals.{add-one}
 use native.Mathlib.Omega.{arith}
-use borrow.Author.Tests.{eqb-true}
-use lib.Dec.{eqb}
 use lib.ListN.{length, get_or}
 use lib.Seq.{drop-cons}
 use Rattle.image_rules.specs.Bytes.{number_of}
 use Rattle.image_rules.specs.Read.{number_at}
-use Rattle.image_reader.specs.Widths.{is_width}
 
 pub number_more : (l : List ℕ) (w at next : ℕ) → next ≡ at + 1 → at < length l → number_at l (suc w) at ≡ get_or l at 0 + 256 * number_at l w next
 unfolding number_at number_of
@@ -35,13 +31,3 @@ four_at l at second third fourth e f g h =
     let next = number_more l 2 second third (omega arith) (omega arith) in
     let rest = two_at l third fourth (omega arith) (omega arith) in
     omega arith
-
--- a width that is neither 1 nor 2 is 4
-four_when : (w : ℕ) (a b c : Bool) → eqb w 1 ≡ a → eqb w 2 ≡ b → eqb w 4 ≡ c → (a || b || c) ≡ true → (w ≡ 1 → ⊥) → (w ≡ 2 → ⊥) → w ≡ 4
-four_when w true b c e f g h one two = absurd (one (eqb-true w 1 e))
-four_when w false true c e f g h one two = absurd (two (eqb-true w 2 f))
-four_when w false false true e f g h one two = eqb-true w 4 g
-four_when w false false false e f g h one two = absurd (false≢true h)
-
-pub is_four : (w : ℕ) → is_width w ≡ true → (w ≡ 1 → ⊥) → (w ≡ 2 → ⊥) → w ≡ 4
-is_four w h one two = four_when w (eqb w 1) (eqb w 2) (eqb w 4) refl refl refl h one two

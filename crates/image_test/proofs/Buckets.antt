@@ -1,7 +1,7 @@
 -- An image's buckets stand one after the other: the slots of all of them are the image's slots in their order, and so are the live ones.
 use Prim.Native.Nat.{ℕ, zero, suc, ◌+◌, ◌^◌, ◌≤◌, ◌<◌}
 use native.Mathlib.Omega.{arith}
-use mathlib.Core.Path.{◌≡◌, refl, sym, ◌∙◌, ap, ap₂}
+use mathlib.Core.Path.{◌≡◌, refl, sym, ◌∙◌, ap, ap₂, subst}
 use mathlib.Core.List.{List, ◌++◌, map, flatten, map-append}
 use lib.ListN.{length, get_or, take, length-take}
 use Rattle.lists.specs.Lists.{count_from, total}
@@ -14,11 +14,11 @@ use Rattle.image_rules.specs.declared.Loaded.{Loaded}
 use Rattle.image_rules.proofs.Blocks.{length_count, get_or_count, count_append}
 use Rattle.image_rules.proofs.Counting.{flatten_more}
 use Rattle.lists.proofs.Totals.{total_more}
-use Rattle.image_read.specs.declared.Slots.{Slots}
+use Rattle.image_read.specs.declared.slots.Slots.{Slots}
 use Rattle.image_entries.specs.Faults.{tree_fault}
 use Rattle.image_entries.specs.Entries.{places, TagsFit}
-use Rattle.image_read.specs.InImage.{InImage, slot_in, slots_at}
-use Rattle.image_read.proofs.Places.{length_counted, slots_rows, bucket_slots}
+use Rattle.image_read.specs.Slots.{slot_in, slots_at}
+use Rattle.image_read.proofs.Places.{length_counted, slots_rows}
 use Rattle.image_test.specs.Trees.{bucket_fault}
 
 module _ (image : List ℕ) where
@@ -44,9 +44,10 @@ module _ (image : List ℕ) where
   before_slots m = ap length (rows_before m) ∙ length_counted (row_in image) 0 (slots_before image m)
 
   -- the slots of all buckets are all slots
-  pub slots_all : (at : Slots) → at.first ≡ 0 → at.count ≡ slots_in image → flatten (map (bucket_in image) (buckets_of (order_in image))) ≡ slots_at image at
+  pub slots_all : (at : Slots) → at.image.now ≡ image → at.first ≡ 0 → at.count ≡ slots_in image
+      → flatten (map (bucket_in image) (buckets_of (order_in image))) ≡ slots_at at
   unfolding buckets_of slots_in
-  slots_all at f n = rows_before (suc (order_in image)) ∙ sym (slots_rows image at ∙ ap₂ (λ (a m : ℕ). map (row_in image) (count_from a m)) f n)
+  slots_all at same f n = rows_before (suc (order_in image)) ∙ sym (slots_rows at ∙ rw (same, f, n) refl)
 
 pub buckets_length : (order : ℕ) → length (buckets_of order) ≡ suc order
 unfolding buckets_of
@@ -55,21 +56,25 @@ buckets_length order = length_count 0 (suc order)
 pub buckets_more : (order k : ℕ) → k ≤ order → k < length (buckets_of order)
 buckets_more order k h = omega (arith, buckets_length order)
 
--- bucket k, by its first slot and the number of its slots
-module _ (image : List ℕ) (at : Slots) (k : ℕ) (h : k ≤ order_in image) (f : at.first ≡ slots_before image k) (n : at.count ≡ built_in image k) where
+-- bucket k, by its slots
+module _ (image : List ℕ) (at : Slots) (k : ℕ) (same : at.image.now ≡ image) where
   -- what its test asks
   pub bucket_asks :
-      InImage image at → slots_in image < places → (es : List Entry) (count : ℕ) → count ≡ at.count → count ≤ length es
+      slots_in image < places → (es : List Entry) (count : ℕ) → count ≡ at.count → count ≤ length es
       → ((i : ℕ) → i < slots_in image → tag_of (row_in image i) < 2 ^ 50)
-      → InImage image at × (at.first + at.count ≤ places) × (length (take count es) ≡ at.count) × TagsFit (slot_in image at) at.count
+      → (at.first + at.count ≤ places) × (length (take count es) ≡ at.count) × TagsFit (slot_in at) at.count
   unfolding slot_in
-  bucket_asks p few es count e room fit = (p, omega (arith, p.within), omega (arith, length-take count es), λ i l. fit (at.first + i) (omega (arith, p.within)))
+  bucket_asks few es count e room fit =
+      let within : at.first + at.count ≤ slots_in image =
+      subst (λ (l : List ℕ). at.first + at.count ≤ slots_in l) same at.in_image.within in
+      (omega arith, omega (arith, length-take count es), λ i l. rw same (fit (at.first + i) (omega arith)))
 
   -- what it says of it
   pub bucket_tests :
-      (space : Space) (r : Loaded) → r ≡ tree_fault space at.first (slots_at image at) → bucket_fault space image (get_or (buckets_of (order_in image)) k 0) ≡ r
+      (space : Space) (r : Loaded) → k ≤ order_in image → at.first ≡ slots_before image k → slots_at at ≡ bucket_in image k
+      → r ≡ tree_fault space at.first (slots_at at) → bucket_fault space image (get_or (buckets_of (order_in image)) k 0) ≡ r
   unfolding bucket_fault buckets_of
-  bucket_tests space r e =
+  bucket_tests space r h f rows e =
       ap (bucket_fault space image) (get_or_count 0 (suc (order_in image)) k 0 (omega arith) ∙ omega arith)
-      ∙ ap₂ (tree_fault space) (sym f) (sym (bucket_slots image at k f n))
+      ∙ ap₂ (tree_fault space) (sym f) (sym rows)
       ∙ sym e

@@ -27,8 +27,8 @@ use Rattle.image_rules.specs.declared.Loaded.{Loaded}
 use Rattle.image_rules.proofs.Blocks.{all_flatten}
 use Rattle.image_rules.proofs.TreesPass.{lives_before}
 use Rattle.search_rules.specs.Range.{Entry}
-use Rattle.image_read.specs.declared.Slots.{Slots}
-use Rattle.image_read.specs.InImage.{InImage, slot_in, slots_at}
+use Rattle.image_read.specs.declared.slots.Slots.{Slots}
+use Rattle.image_read.specs.Slots.{slot_in, slots_at}
 use Rattle.image_read.proofs.Places.{slots_few}
 use Rattle.image_entries.specs.Faults.{first_of, earlier, tag_refusals, tree_fault}
 use Rattle.image_entries.specs.Entries.{places, TagsFit, tag_entry, counted_entries}
@@ -117,32 +117,31 @@ module _ (image : List ℕ) (known : order_in image ≤ most_order) (sizes : siz
 
   -- what the test of the live tags of all slots asks
   pub all_asks :
-      (at : Slots) → InImage image at → at.first ≡ 0 → at.count ≡ slots_in image → (es : List Entry) → length es ≡ most_entries
-      → InImage image at × (at.first ≡ 0) × (at.count ≤ places) × (length (counted_entries (slot_in image at) is_live at.count) ≤ length es) × TagsFit (slot_in image at) at.count
+      (at : Slots) → at.image.now ≡ image → at.first ≡ 0 → at.count ≡ slots_in image → (es : List Entry) → length es ≡ most_entries
+      → (at.first ≡ 0) × (at.count ≤ places) × (length (counted_entries (slot_in at) is_live at.count) ≤ length es) × TagsFit (slot_in at) at.count
   unfolding slot_in slots_at counted_entries
-  all_asks at p f n es full = (
-    p,
+  all_asks at same f n es full = (
     f,
     omega (arith, all_few image known sizes),
     omega (
       arith,
-      length-map (select (λ i. is_live (slot_in image at i)) (count_from 0 at.count)) (λ i. tag_entry (tag_of (slot_in image at i)) i),
-      length-map (select (λ i. is_live (slot_in image at i)) (count_from 0 at.count)) (slot_in image at),
-      ap length (select_rows (slot_in image at) (count_from 0 at.count)),
-      ap (λ (rows : List Row). length (select is_live rows)) (slots_all image at f n),
+      length-map (select (λ i. is_live (slot_in at i)) (count_from 0 at.count)) (λ i. tag_entry (tag_of (slot_in at i)) i),
+      length-map (select (λ i. is_live (slot_in at i)) (count_from 0 at.count)) (slot_in at),
+      ap length (select_rows (slot_in at) (count_from 0 at.count)),
+      ap (λ (rows : List Row). length (select is_live rows)) (slots_all image at same f n),
       lives_few,
     ),
-    λ i l. tags_fit (at.first + i) (omega (arith, p.within)),
+    λ i l. rw same (tags_fit (at.first + i) (omega arith)),
   )
 
 -- the trees' first fault is the earlier of what the live tags and the buckets show
 pub trees_found :
-    (space : Space) (image : List ℕ) (at : Slots) → at.first ≡ 0 → at.count ≡ slots_in image → (live fault : Loaded)
-    → live ≡ first_refused 0 (tag_refusals is_live [] (slots_at image at)) → fault ≡ first_of (map (bucket_fault space image) (buckets_of (order_in image)))
+    (space : Space) (image : List ℕ) (at : Slots) → at.image.now ≡ image → at.first ≡ 0 → at.count ≡ slots_in image → (live fault : Loaded)
+    → live ≡ first_refused 0 (tag_refusals is_live [] (slots_at at)) → fault ≡ first_of (map (bucket_fault space image) (buckets_of (order_in image)))
     → earlier live fault ≡ trees_reply space (order_in image) (bucket_in image)
 unfolding bucket_fault
-trees_found space image at f n live fault e d =
+trees_found space image at same f n live fault e d =
     ap₂ earlier
-    (e ∙ ap (λ (rows : List Row). first_refused 0 (tag_refusals is_live [] rows)) (sym (slots_all image at f n)))
+    (e ∙ ap (λ (rows : List Row). first_refused 0 (tag_refusals is_live [] rows)) (sym (slots_all image at same f n)))
     (d ∙ ap first_of (map_alike (λ k. ap (λ (m : ℕ). tree_fault space m (bucket_in image k)) (sym (before_slots image k))) (buckets_of (order_in image))))
     ∙ sym (trees_by_tests space (bucket_in image) (order_in image))

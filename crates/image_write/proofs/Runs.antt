@@ -10,10 +10,8 @@ use lib.ListN.{length, length-append}
 use lib.Seq.{sets}
 use Rattle.lists.specs.Lists.{count_from}
 use Rattle.metric_rules.specs.Row.{Row}
-use Rattle.table_rules.specs.Geometry.{buckets_of, sizes_row}
+use Rattle.table_rules.specs.Geometry.{buckets_of}
 use Rattle.table_rules.specs.Table.{Table, order_of, slots_of}
-use Rattle.table_rules.specs.Passed.{Passed}
-use Rattle.table_rules.proofs.Passing.{sizes_inside}
 use Rattle.image_rules.specs.Bytes.{written_form, record_bytes}
 use Rattle.image_rules.specs.Write.{tags_of, records_of, all_slots}
 use Rattle.image_rules.proofs.Counting.{flatten_append, flatten_more}
@@ -60,11 +58,6 @@ blocks_by_list b s (k ∷ ks) =
     ap flatten (map-append b (s k) (flatten (map s ks)))
     ∙ flatten_append (map b (s k)) (map b (flatten (map s ks)))
     ∙ ap (λ (r : List ℕ). flatten (map b (s k)) ++ r) (blocks_by_list b s ks)
-
--- where a bucket's sizes row is
-module _ {t : Table} {order k : ℕ} (e : order ≡ order_of t) (p : Passed t) (h : k ≤ order) where
-  pub sizes_in : sizes_row k < length t
-  sizes_in = omega (arith, sizes_inside (order_of t) k (omega arith), p.framed.long)
 
 -- two runs, each made longer at its end, while the first stays before the second
 both_more : (l : List ℕ) (a b : ℕ) (xs ys x y : List ℕ) {image : List ℕ} {i j : ℕ} → image ≡ sets (sets l a xs) b ys

@@ -1,31 +1,32 @@
--- Which numbers are names, and what each case of `Named` says of the number asked for: whoever goes by a name's answer goes by these.
-use Prim.Native.Nat.{ℕ}
-use native.Mathlib.Omega.{arith}
-use mathlib.Core.Path.{◌≡◌, refl, ◌∙◌, ap}
-use mathlib.Core.Bool.{Bool, true, false}
+-- Which numbers are names: whoever asks for a name goes by these.
+use Rattle.std.proofs.Common.{◌≡◌, ℕ, ◌≤◌, ◌<◌, Bool, true, false, ◌⊎◌, refl, sym, ap, ◌∙◌, inl, inr, arith}
+use Rattle.table_rules.specs.Refusals.{unless}
 use Rattle.state_rules.specs.Parts.{bad_name, valid_name}
-use Rattle.state_part.specs.declared.Name.{Name}
-use Rattle.state_part.specs.declared.Named.TheVariants.{Is, Unknown}
-use Rattle.state_part.specs.Answers.{Answer, answer_of, name_answer}
+use Rattle.state_rules.proofs.Parts.{name_valid, name_below, name_above}
+use Rattle.state_part.specs.Numbers.{number_refusal}
 
--- the answer by the test
-pub answers : (n : ℕ) (b : Bool) → valid_name n ≡ b → name_answer n ≡ elim b [ true ↦ record { refusal = 0; name = n } | false ↦ record { refusal = bad_name; name = 0 } ]
-unfolding name_answer
-answers n b e = ap (λ (d : Bool). elim d [ true ↦ record { refusal = 0; name = n } | false ↦ record { refusal = bad_name; name = 0 } ]) e
+passed_when : (b : Bool) → 0 ≡ unless b bad_name 0 → b ≡ true
+passed_when true e = refl
+passed_when false e = absurd (omega arith)
 
--- by the case: the number is the name's, or it is none
-is_when : (name : Name) (n : ℕ) (b : Bool) → valid_name n ≡ b → answer_of (Is name) ≡ name_answer n → (name.number ≡ n) × (b ≡ true)
-unfolding answer_of
-is_when name n true v e = (ap (λ (a : Answer). a.name) (e ∙ answers n true v), refl)
-is_when name n false v e = let z : ◌≡◌ {A = ℕ} 0 34 = ap (λ (a : Answer). a.refusal) (e ∙ answers n false v) in absurd (omega arith)
+refused_when : (b : Bool) {m : ℕ} → 0 < m → m ≡ unless b bad_name 0 → b ≡ false
+refused_when false h e = refl
+refused_when true h e = absurd (omega arith)
 
-pub is_name : (name : Name) (n : ℕ) → answer_of (Is name) ≡ name_answer n → (name.number ≡ n) × (valid_name n ≡ true)
-is_name name n e = is_when name n (valid_name n) refl e
+-- a number that is not refused is a name, and one that is refused is none
+pub is_name : (n : ℕ) → 0 ≡ number_refusal n → valid_name n ≡ true
+is_name n e = passed_when (valid_name n) e
 
-unknown_when : (n : ℕ) (b : Bool) → valid_name n ≡ b → answer_of Unknown ≡ name_answer n → b ≡ false
-unfolding answer_of
-unknown_when n false v e = refl
-unknown_when n true v e = let z : ◌≡◌ {A = ℕ} 34 0 = ap (λ (a : Answer). a.refusal) (e ∙ answers n true v) in absurd (omega arith)
+pub no_name : (n : ℕ) {m : ℕ} → 0 < m → m ≡ number_refusal n → valid_name n ≡ false
+no_name n h e = refused_when (valid_name n) h e
 
-pub no_name : (n : ℕ) → answer_of Unknown ≡ name_answer n → valid_name n ≡ false
-no_name n e = unknown_when n (valid_name n) refl e
+-- a number from 1 to 8 is a name, and any other is refused
+pub name_is : (n : ℕ) → 1 ≤ n → n ≤ 8 → valid_name n ≡ true
+name_is n l h = name_valid n l h
+
+pub name_passes : (n : ℕ) → 1 ≤ n → n ≤ 8 → 0 ≡ number_refusal n
+name_passes n l h = sym (ap (λ (b : Bool). unless b bad_name 0) (name_valid n l h))
+
+pub name_refused : (n : ℕ) → (n < 1) ⊎ (8 < n) → bad_name ≡ number_refusal n
+name_refused n (inl h) = sym (ap (λ (b : Bool). unless b bad_name 0) (name_below n h))
+name_refused n (inr h) = sym (ap (λ (b : Bool). unless b bad_name 0) (name_above n h))

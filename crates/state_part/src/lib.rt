@@ -1,20 +1,17 @@
 // A name of a state. Every place of its part in an area is worked out here and nowhere else.
 #![tactic(auto)]
 
-ghost use Rattle.std.specs.Prelude.{◌≡◌, true, ◌+◌, ◌-◌, ◌≤◌};
+ghost use Rattle.std.specs.Prelude.{◌≡◌, true, ◌+◌, ◌-◌, ◌≤◌, IfOk};
 ghost use Rattle.state_rules.specs.Parts.{least_name, valid_name, part_bytes, part_start};
-ghost use Rattle.state_part.specs.Answers.{answer_of, name_answer};
+ghost use Rattle.refusals.specs.Number.{refusal_in};
+ghost use Rattle.state_part.specs.Numbers.{number_refusal};
+
+use refusals::Refusal;
 
 #[derive(Clone, Copy)]
 pub struct Name {
     pub number: u32,
-}
-
-// What asking for a name answers.
-#[derive(Clone, Copy)]
-pub enum Named {
-    Is(Name),
-    Unknown,
+    pub ghost valid: { valid_name number ≡ true },
 }
 
 impl Name {
@@ -24,16 +21,15 @@ impl Name {
     pub const MOST: u32 = 8;
 
     // The name with this number.
-    pub fn new(number: u32) -> Named
-        ensures { answer_of result ≡ name_answer number }
+    #[tactic(auto, using(crate::proofs::Names::name_passes, crate::proofs::Names::name_refused, crate::proofs::Names::name_is))]
+    pub fn new(number: u32) -> Result<Name, Refusal>
+        ensures refusal { refusal_in result ≡ number_refusal number }
+        ensures name { IfOk result (λ name. name.number ≡ number) }
     {
-        if number < Name::LEAST {
-            return Named::Unknown;
+        if number < Name::LEAST || Name::MOST < number {
+            return Err(Refusal::BadName);
         }
-        if Name::MOST < number {
-            return Named::Unknown;
-        }
-        Named::Is(Name { number })
+        Ok(Name { number })
     }
 
     // The bytes of each part of an area of so many.
@@ -45,7 +41,6 @@ impl Name {
 
     // The parts before the name's own, as names count from 1.
     fn parts_before(self) -> usize
-        requires { least_name ≤ self.number }
         ensures { result ≡ self.number - least_name }
     {
         (self.number - Name::LEAST) as usize
@@ -53,7 +48,6 @@ impl Name {
 
     // The place where the name's part begins; the part lies inside the area.
     pub fn part_start(self, bytes: usize) -> usize
-        requires { valid_name self.number ≡ true }
         ensures { (result ≡ part_start bytes self.number) × (result + part_bytes bytes ≤ bytes) }
     {
         self.parts_before() * Name::part_bytes(bytes)
@@ -61,7 +55,6 @@ impl Name {
 
     // The place where it ends.
     pub fn part_end(self, bytes: usize) -> usize
-        requires { valid_name self.number ≡ true }
         ensures { result ≡ part_start bytes self.number + part_bytes bytes }
     {
         self.part_start(bytes) + Name::part_bytes(bytes)

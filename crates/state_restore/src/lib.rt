@@ -1,21 +1,21 @@
 // Restore: the image in the part of a name is loaded. The states are only read.
 #![tactic(auto)]
 
-ghost use Rattle.std.specs.Prelude.{◌≡◌, true, length};
-ghost use Rattle.state_rules.specs.Parts.{valid_name, part_of, saved_image};
-ghost use Rattle.state_rules.specs.Restore.{part_refusal, restore_reply, table_after_restore};
+ghost use Rattle.std.specs.Prelude.{◌≡◌, length, IfOk};
+ghost use Rattle.refusals.specs.Number.{refusal_in};
+ghost use Rattle.state_rules.specs.Parts.{part_of, saved_image};
+ghost use Rattle.state_rules.specs.Restore.{part_refusal, name_refusal, restore_reply, table_after_restore};
 
 use image_load::load;
 use image_reader::number_at;
 use image_rules::Loaded;
 use metric_rules::Row;
-use state_part::{Name, Named};
-use state_rules::{BAD_NAME, LENGTH_BYTES, NOT_SAVED};
-use table_rules::BAD_LENGTH;
+use refusals::Refusal;
+use state_part::Name;
+use state_rules::LENGTH_BYTES;
 
 // The part of a name.
 fn part_of(states: &[u8], name: Name) -> &[u8]
-    requires { valid_name name.number ≡ true }
     ensures { result.now ≡ part_of states.now name.number }
 {
     let start = name.part_start(states.len());
@@ -23,30 +23,32 @@ fn part_of(states: &[u8], name: Name) -> &[u8]
     &states[start..end]
 }
 
-// No snapshot in the part 35, a length past what lies behind it 7.
-fn part_refusal(part: &[u8]) -> u32
-    ensures { result ≡ part_refusal part.now }
+// The image in a part, as many bytes as its length says: no snapshot in the part 35, a length past what lies behind it
+// 7.
+fn saved_image(part: &[u8]) -> Result<&[u8], Refusal>
+    ensures refusal { refusal_in result ≡ part_refusal part.now }
+    ensures image { IfOk result (λ image. image.now ≡ saved_image part.now) }
 {
     if part.len() < LENGTH_BYTES {
-        return NOT_SAVED;
+        return Err(Refusal::NotSaved);
     }
     let length = number_at(part, 0, LENGTH_BYTES) as usize;
     if length == 0 {
-        return NOT_SAVED;
+        return Err(Refusal::NotSaved);
     }
     if part.len() - LENGTH_BYTES < length {
-        return BAD_LENGTH;
+        return Err(Refusal::BadLength);
     }
-    0
+    Ok(&part[LENGTH_BYTES..LENGTH_BYTES + length])
 }
 
-// The image in the part, as many bytes as its length says.
-fn saved_image(part: &[u8]) -> &[u8]
-    requires { part_refusal part.now ≡ 0 }
-    ensures { result.now ≡ saved_image part.now }
+// The image in the part of the name with this number.
+fn named_image(states: &[u8], name: u32) -> Result<&[u8], Refusal>
+    ensures refusal { refusal_in result ≡ name_refusal states.now name }
+    ensures image { IfOk result (λ image. image.now ≡ saved_image (part_of states.now name)) }
 {
-    let end = LENGTH_BYTES + number_at(part, 0, LENGTH_BYTES) as usize;
-    &part[LENGTH_BYTES..end]
+    let name = Name::new(name)?;
+    saved_image(part_of(states, name))
 }
 
 // The reply, all zeros if accepted: 34, those of the part, and then what a load replies.
@@ -54,18 +56,11 @@ pub fn restore(table: &mut [Row], states: &[u8], name: u32) -> Loaded
     ensures reply { result ≡ restore_reply (length table.old) states.now name }
     ensures table { table.new ≡ table_after_restore states.now name table.old }
 {
-    match Name::new(name) {
-        Named::Unknown => Loaded {
-            refusal: BAD_NAME,
+    match named_image(states, name) {
+        Err(refusal) => Loaded {
+            refusal: u32::from(refusal),
             slot: 0,
         },
-        Named::Is(valid) => {
-            let part = part_of(states, valid);
-            let refusal = part_refusal(part);
-            if refusal != 0 {
-                return Loaded { refusal, slot: 0 };
-            }
-            load(table, saved_image(part))
-        }
+        Ok(image) => load(table, image),
     }
 }

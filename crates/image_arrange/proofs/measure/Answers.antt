@@ -1,4 +1,4 @@
--- The first i entries have their distances, and the others stand as they did. The measure is how many are left.
+-- The first i entries have their distances, and the others stand as they did.
 use native.Mathlib.Omega.{arith}
 use mathlib.Core.Path.{◌≡◌, refl, sym, ◌∙◌, ap, subst}
 use mathlib.Core.List.{List, [], ◌∷◌, map}
@@ -12,7 +12,7 @@ use Rattle.tree_rules.proofs.Parts.{written_to, written_at, written_step, writte
 use Rattle.metric_rules.specs.declared.Profile.{Profile}
 use Rattle.search_rules.specs.Range.{Entry, entry}
 use Rattle.image_entries.specs.Entries.{places, entry_place, IsEntry, measuredIn}
-use Rattle.image_read.specs.InImage.{slot_in}
+use Rattle.image_read.specs.Slots.{slot_in}
 use Rattle.image_arrange.proofs.measure.Goals as goal
 
 module _ (slot : ℕ → Row) (dist : Profile → Profile → ℕ) (v : Row) (n : ℕ) (old es : List Entry) (i : ℕ) where
@@ -34,48 +34,35 @@ module _ (slot : ℕ → Row) (dist : Profile → Profile → ℕ) (v : Row) (n 
       ∙ ap (measuredIn slot dist v) (old_at h e)
       ∙ sym (get_or_mapped (measuredIn slot dist v) old i [] [] h)
 
-pub loop-i-init : goal.loop-i-init
-loop-i-init c = (omega arith, refl, refl)
+pub loop-entry-init : goal.loop-entry-init
+loop-entry-init c = (refl, refl)
 
-pub offset_bounds-entries-i : goal.offset_bounds-entries-i
-offset_bounds-entries-i c = omega arith
+pub slot-row-requires : goal.slot-row-requires
+slot-row-requires c =
+    let a = c.args in
+    let l = c.loop-entry in
+    place_within (slot_in a.slots) (distance (space_of a.header.now)) a.v a.slots.count a.entries.now l.entries l.entry-index c.requires (omega arith) l.invariant.1
 
-pub slot_in-row-requires : goal.slot_in-row-requires
-slot_in-row-requires c = let a = c.args in
-    let p = c.requires in
-    let l = c.loop-i in
-    (p.0, place_within (slot_in a.image.now a.at) (distance (space_of a.header.now)) a.v a.at.count a.entries.now l.entries l.i p.1 (omega arith) l.invariant.2)
-
-pub offset_bounds-entries-i-in-loop-i : goal.offset_bounds-entries-i-in-loop-i
-offset_bounds-entries-i-in-loop-i c = omega arith
-
-pub bounds-entries-i-in-loop-i : goal.bounds-entries-i-in-loop-i
-bounds-entries-i-in-loop-i c = omega arith
-
-pub overflow_add-i : goal.overflow_add-i
-overflow_add-i c = omega arith
-
-pub loop-i-smaller : goal.loop-i-smaller
-loop-i-smaller c = omega arith
-
-pub loop-i-preserved : goal.loop-i-preserved
-loop-i-preserved c = let a = c.args in
-    let l = c.loop-i in
-    let h : l.i < length a.entries.now = omega arith in
-    let slot : ℕ → Row = slot_in a.image.now a.at in
+pub loop-entry-preserved : goal.loop-entry-preserved
+loop-entry-preserved c =
+    let a = c.args in
+    let l = c.loop-entry in
+    let i = l.entry-index in
+    let h : i < length a.entries.now = omega arith in
+    let slot : ℕ → Row = slot_in a.slots in
     let dist : Profile → Profile → ℕ = distance (space_of a.header.now) in
-    let x : Entry = get_or (get_or l.entries l.i []) 0 0 ∷ c.distance_between.result ∷ [] in (
-      omega arith,
-      simp length-set l.invariant.1,
+    let x : Entry = get_or (get_or l.entries i []) 0 0 ∷ c.from.result ∷ [] in (
+      simp length-set l.invariant.0,
       written_step a.entries.now (map (measuredIn slot dist a.v) a.entries.now) (length-map a.entries.now (measuredIn slot dist a.v)) []
-          l.entries x l.i h l.invariant.2
-          (measured_at slot dist a.v a.at.count a.entries.now l.entries l.i c.distance_between.result h l.invariant.2
-          (c.distance_between.ensures ∙ ap (λ (r : Row). dist (profile_of a.v) (profile_of r)) c.slot_in-row.ensures)),
+          l.entries x i h l.invariant.1
+          (measured_at slot dist a.v a.slots.count a.entries.now l.entries i c.from.result h l.invariant.1
+          (c.from.ensures ∙ c.distance_between.ensures ∙ ap (λ (r : Row). dist (profile_of a.v) (profile_of r)) c.slot-row.ensures)),
     )
 
 pub returns : goal.returns
-returns c = let a = c.args in
-    let l = c.loop-i in
-    let slot : ℕ → Row = slot_in a.image.now a.at in
+returns c =
+    let a = c.args in
+    let l = c.loop-entry in
+    let slot : ℕ → Row = slot_in a.slots in
     let dist : Profile → Profile → ℕ = distance (space_of a.header.now) in
-    l.invariant.2 ∙ written_all a.entries.now (map (measuredIn slot dist a.v) a.entries.now) (length-map a.entries.now (measuredIn slot dist a.v)) [] l.i (omega arith)
+    l.invariant.1 ∙ written_all a.entries.now (map (measuredIn slot dist a.v) a.entries.now) (length-map a.entries.now (measuredIn slot dist a.v)) [] l.entry-index (omega arith)

@@ -1,13 +1,13 @@
-use mathlib.Core.Path.{◌≡◌}
-use mathlib.Core.List.{map}
-use Prim.Native.Nat.{◌-◌, ◌≤◌}
-use lib.ListN.{length, drop}
+use Rattle.std.proofs.Common.{◌≡◌, ◌<◌, map}
+use Rattle.std.specs.Prelude.{IfSome}
+use Rattle.std.specs.Slice.Iter.{windows_size, windows_rest}
 use Rattle.image_entries.specs.Entries.{places, first_word}
-use Rattle.image_entries.specs.Duplicates.{least_repeated}
+use Rattle.image_entries.specs.Duplicates.{found_place, least_repeated}
 use Rattle.image_entries.proofs.least_repeated.Given as goal
 
-abbrev pub invariant-loop-i : goal.invariant-loop-i
-invariant-loop-i l = (l.i ≤ length l.entries) × (least_repeated l.least (drop l.i (map first_word l.entries)) ≡ least_repeated places (map first_word l.entries))
-
-abbrev pub decreases-loop-i : goal.decreases-loop-i
-decreases-loop-i l = length l.entries - l.i
+-- the words that are left decide, with the least place so far
+abbrev pub invariant-loop-pair : goal.invariant-loop-pair
+invariant-loop-pair l =
+    (windows_size l.pair-iterator ≡ 2)
+    × (least_repeated (found_place l.least) (map first_word (windows_rest l.pair-iterator)) ≡ least_repeated places (map first_word l.entries))
+    × IfSome l.least (λ place. place < places)

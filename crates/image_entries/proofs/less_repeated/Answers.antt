@@ -1,17 +1,30 @@
 -- The two tests in turn.
-use mathlib.Core.Path.{sym}
+use Rattle.std.proofs.Common.{sym, arith}
 use Rattle.image_entries.specs.Entries.{places}
+use Rattle.image_entries.specs.Duplicates.{found_place}
 use Rattle.image_entries.proofs.Repeated.{less_other, less_lower, less_kept}
 use Rattle.image_entries.proofs.less_repeated.Goals as goal
 
-pub returns-then-before-word : goal.returns-then-before-word
+pub returns-then-before-word-clause-found : goal.returns-then-before-word-clause-found
 unfolding places
-returns-then-before-word c = let a = c.args in sym (less_other a.least a.before a.word c.if-before-word.true)
+returns-then-before-word-clause-found c =
+    let a = c.args in sym (less_other (found_place a.least) a.before a.word c.if-before-word.true)
 
-pub returns-then-place-least : goal.returns-then-place-least
+pub returns-in-Some-clause-found : goal.returns-in-Some-clause-found
 unfolding places
-returns-then-place-least c = let a = c.args in sym (less_lower a.least a.before a.word c.if-before-word.false c.if-place-least.true)
+returns-in-Some-clause-found c =
+    rw c.in-Some.is (sym (less_kept c.in-Some.least c.args.before c.args.word c.if-before-word.false c.if-least-place.true))
 
-pub returns-else-place-least : goal.returns-else-place-least
+pub returns-in_default-clause-found : goal.returns-in_default-clause-found
 unfolding places
-returns-else-place-least c = let a = c.args in sym (less_kept a.least a.before a.word c.if-before-word.false c.if-place-least.false)
+returns-in_default-clause-found c =
+    rw c.in-Some.is (sym (less_lower c.in-Some.least c.args.before c.args.word c.if-before-word.false c.if-least-place.false))
+
+pub returns-in_default-2-clause-found : goal.returns-in_default-2-clause-found
+unfolding places
+returns-in_default-2-clause-found c =
+    rw c.in_default.is (sym (less_lower places c.args.before c.args.word c.if-before-word.false (omega arith)))
+
+pub returns-in_default-2-clause-within : goal.returns-in_default-2-clause-within
+unfolding places
+returns-in_default-2-clause-within c = omega arith

@@ -1,17 +1,16 @@
 -- `image_fill::put_bucket` meets its contract: the room given back with the slots and zeros, and the sizes written, are the bucket put.
 use Prim.Native.Nat.{ℕ, ◌+◌, ◌-◌, ◌≤◌}
-use mathlib.Core.Path.{◌≡◌, sym, ap, ◌∙◌, ap₂}
-use mathlib.Core.List.{List, ◌++◌}
+use mathlib.Core.Path.{◌≡◌, sym, ap, ◌∙◌}
+use mathlib.Core.List.{◌++◌}
 use native.Mathlib.Omega.{arith}
 use borrow.Rule.Slice.PartMut.{put_mid, same_len_mid}
 use lib.ListN.{length, take, drop, replicate, length-take, length-drop}
-use Rattle.metric_rules.specs.Row.{Row, zero_row}
+use Rattle.metric_rules.specs.Row.{zero_row}
 use Rattle.table_rules.specs.Geometry.{room, first_slot}
 use Rattle.table_rules.specs.Table.{Table, put_sizes}
 use Rattle.table_order.proofs.Orders.{room_fits}
-use Rattle.image_rules.specs.Read.{bucket_in}
-use Rattle.image_read.specs.InImage.{slots_at}
-use Rattle.image_read.proofs.Places.{slots_length, bucket_slots}
+use Rattle.image_read.specs.Slots.{slots_at}
+use Rattle.image_read.proofs.Places.{slots_length}
 use Rattle.table_buckets.proofs.Places.{sizes_inside, room_inside, room_given_back}
 use Rattle.image_fill.proofs.put_bucket.Goals as goal
 
@@ -41,14 +40,12 @@ fill_room-requires c =
     let part : (first size : ℕ) → first ≡ first_slot c.args.order.t c.args.k → size ≡ room c.args.k
     → length (take (first + size - first) (drop first c.args.table.now)) ≡ room c.args.k = λ first size f e. let t : Table = c.args.table.now in
     omega (arith, length-take (first + size - first) (drop first t), length-drop first t, inside) in
-    let b = c.requires.2 in
-    (b.inside, omega (arith, part _ _ c.first_slot-first.ensures c.room.ensures, b.count, b.room))
+    omega (arith, part _ _ c.first_slot-first.ensures c.room.ensures, c.requires.2)
 
 -- the slots are few
-pub overflow_cast-at : goal.overflow_cast-at
-overflow_cast-at c =
-    let b = c.requires.2 in
-    omega (arith, b.count, b.room, room_fits c.args.k (omega (arith, c.requires.0.most, c.requires.1)))
+pub overflow_cast-bucket : goal.overflow_cast-bucket
+overflow_cast-bucket c =
+    omega (arith, c.requires.2, room_fits c.args.k (omega (arith, c.requires.0.most, c.requires.1)))
 
 pub put_sizes-requires : goal.put_sizes-requires
 put_sizes-requires c =
@@ -64,21 +61,19 @@ returns c =
     let part : (first size : ℕ) → first ≡ first_slot c.args.order.t c.args.k → size ≡ room c.args.k
     → length (take (first + size - first) (drop first c.args.table.now)) ≡ room c.args.k = λ first size f e. let t : Table = c.args.table.now in
     omega (arith, length-take (first + size - first) (drop first t), length-drop first t, inside) in
-    let b = c.requires.2 in
     let k = c.args.k in
     let t = c.args.table.now in
-    let image = c.args.image.now in
+    let bucket = c.args.bucket in
+    let slots = slots_at bucket.slots in
     let first = c.first_slot-first in
     let size = c.room in
     let f = c.fill_room in
-    let slots = bucket_in image k in
-    let here : slots_at image c.args.at ≡ slots = bucket_slots image c.args.at k b.first b.count in
-    let long : length slots ≡ c.args.at.count = ap length (sym here) ∙ slots_length image c.args.at in
-    let rest : length (take (first.result + size.result - first.result) (drop first.result t)) - c.args.at.count ≡ room k - length slots =
+    let long = slots_length bucket.slots in
+    let rest : length (take (first.result + size.result - first.result) (drop first.result t)) - bucket.slots.count ≡ room k - length slots =
     omega (arith, part first.result size.result first.ensures size.ensures, long) in
     let block : f.new.rows ≡ slots ++ replicate (room k - length slots) zero_row =
-    f.ensures ∙ ap₂ (λ (rows : List Row) (n : ℕ). rows ++ replicate n zero_row) here rest in
+    f.ensures ∙ ap (λ (n : ℕ). slots ++ replicate n zero_row) rest in
     c.put_sizes.ensures
-    ∙ ap (λ (n : ℕ). put_sizes k n c.args.live (put_mid first.result (first.result + size.result - first.result) t f.new.rows)) (sym long)
+    ∙ ap (λ (n : ℕ). put_sizes k n bucket.live (put_mid first.result (first.result + size.result - first.result) t f.new.rows)) (sym long)
     ∙ room_given_back c.requires.0 k slots _ first.result (first.result + size.result - first.result) f.new.rows first.ensures
-    (omega (arith, size.ensures)) (omega (arith, long, b.count, b.room)) block
+    (omega (arith, size.ensures)) (omega (arith, long, c.requires.2)) block

@@ -1,11 +1,9 @@
-use Prim.Native.Nat.{ℕ, ◌+◌, ◌-◌, ◌≤◌}
-use mathlib.Core.Path.{◌≡◌}
-use mathlib.Core.List.{List, foldl}
-use lib.ListN.{length}
+use Rattle.std.proofs.Common.{◌≡◌, ℕ, List, length}
+use mathlib.Core.List.{foldl}
 use Rattle.table_rules.specs.Geometry.{buckets_of}
 use Rattle.table_rules.specs.Table.{Table, put_bucket}
 use Rattle.table_rules.proofs.Buckets.{buckets_from}
-use Rattle.image_rules.specs.Read.{live_in, slots_before, bucket_in}
+use Rattle.image_rules.specs.Read.{order_in, live_in, slots_before, bucket_in}
 use Rattle.table_buckets.specs.OfOrder.{OfOrder}
 use Rattle.image_fill.proofs.put_buckets.Given as goal
 
@@ -14,8 +12,8 @@ put image u k = put_bucket k (bucket_in image k) (live_in image k) u
 
 abbrev pub invariant-loop-k : goal.invariant-loop-k
 invariant-loop-k l =
-    (l.k ≤ l.t + 1) × (length l.table ≡ length l.initial.table) × (l.first ≡ slots_before l.image l.k) × OfOrder l.table l.t
-    × (foldl (put l.image) l.table (buckets_from l.t l.k) ≡ foldl (put l.image) l.initial.table (buckets_of l.t))
-
-abbrev pub decreases-loop-k : goal.decreases-loop-k
-decreases-loop-k l = l.t + 1 - l.k
+    let image = l.image.image.bytes.now in
+    (length l.table ≡ length l.initial.table)
+    × (l.first ≡ slots_before image l.k)
+    × OfOrder l.table (order_in image)
+    × (foldl (put image) l.table (buckets_from (order_in image) l.k) ≡ foldl (put image) l.initial.table (buckets_of (order_in image)))

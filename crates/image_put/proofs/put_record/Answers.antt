@@ -27,9 +27,14 @@ length_words row p =
     length_blocks (bytes_of 4) 4 ns (all_always {P = λ n. length (bytes_of 4 n) ≡ 4} (length_bytes_lem 4) ns)
     ∙ omega (arith, length-take 10 (drop 2 row), length-drop 2 row, p.width)
 
-pub put16-requires : goal.put16-requires
+pub put_words-requires : goal.put_words-requires
+unfolding row_width written_form record_bytes record_fields day_fields total
+put_words-requires c =
+    omega (arith, c.requires, length-take 10 (drop 2 c.args.row))
+
+pub put-requires : goal.put-requires
 unfolding written_form record_bytes record_fields day_fields total
-put16-requires c = omega (arith, c.put_words.auto.image, c.requires)
+put-requires c = (omega arith, omega (arith, c.put_words.auto.image, c.requires))
 
 pub returns : goal.returns
 unfolding words
@@ -38,11 +43,7 @@ returns c =
     let put = c.put_words.ensures in
     let row_fits : IsRow a.row = is_row a.row _ c.well_formed.1.1.0 in
     let day = c.day_of.ensures in
-    c.put16.ensures
+    c.put.ensures
     ∙ ap₂ (λ (l : List ℕ) (n : ℕ). sets l (a.at + 40) (bytes_of 2 n)) put day
     ∙ sets_more a.image.now a.at (a.at + 40) (words a.row) (bytes_of 2 (day_of a.row)) (omega (arith, length_words a.row row_fits))
     ∙ ap (sets a.image.now a.at) (sym (record_words a.row row_fits))
-
-pub put_words-requires : goal.put_words-requires
-unfolding row_width written_form record_bytes record_fields day_fields total
-put_words-requires c = (omega arith, omega (arith, c.requires))

@@ -1,47 +1,20 @@
--- `image_put::put_words` meets its contract. The loop's invariant: the bytes of the first j words are stored.
-use Prim.Native.Nat.{ℕ, ◌+◌, ◌*◌, ◌<◌}
-use mathlib.Core.Path.{sym, ap, ◌∙◌}
-use native.Mathlib.Omega.{arith}
-use lib.ListN.{length, take, drop, length-take, length-drop}
-use lib.Seq.{sets}
-use Rattle.metric_rules.specs.Row.{row_width}
-use Rattle.metric_rules.proofs.Values.{is_row}
-use Rattle.table_rules.proofs.Windows.{window, window_get_or}
-use Rattle.image_rules.specs.Bytes.{bytes_of}
+-- `image_put::put_words` meets its contract. The loop's invariant: the bytes of the first i words are stored.
+use Rattle.std.proofs.Common.{arith}
 use Rattle.image_rules.proofs.Bytes.{length_bytes_lem}
 use Rattle.image_put.proofs.Stores.{none_stored, all_stored, more_stored}
 use Rattle.image_put.proofs.put_words.Goals as goal
 
-pub loop-j-preserved : goal.loop-j-preserved
-unfolding row_width window
-loop-j-preserved c =
-    let a = c.args in
-    let l = c.loop-j in
-    let words = drop a.first a.row in
-    let low : l.j < length (take a.n words) =
-    omega (arith, length-take a.n words, length-drop a.first a.row, (is_row a.row _ c.well_formed.1.1.0).width, c.requires) in
-    let stored = c.put32 in
-    more_stored l.invariant (length_bytes_lem 4) low 0 stored.auto.image
-    (stored.ensures ∙ ap (λ (n : ℕ). sets l.image (a.at + 4 * l.j) (bytes_of 4 n)) (sym (window_get_or a.first a.n l.j a.row 0 (omega arith))))
+pub loop-i-init : goal.loop-i-init
+loop-i-init c = none_stored _ _ _ _
 
-pub returns : goal.returns
-returns c =
-    let a = c.args in
-    all_stored c.loop-j.invariant (omega (arith, length-take a.n (drop a.first a.row)))
+pub put-requires : goal.put-requires
+put-requires c = (omega arith, omega (arith, c.requires, c.loop-i.invariant.same))
 
-pub loop-j-init : goal.loop-j-init
-loop-j-init c = none_stored _ _ _ _
-
-pub offset_bounds-row-first : goal.offset_bounds-row-first
-unfolding row_width
-offset_bounds-row-first c = omega (arith, c.requires)
-
-pub bounds-row-first : goal.bounds-row-first
-unfolding row_width
-bounds-row-first c = omega (arith, c.requires)
-
-pub put32-requires : goal.put32-requires
-put32-requires c = omega (arith, c.requires, c.loop-j.invariant.same)
+pub loop-i-preserved : goal.loop-i-preserved
+loop-i-preserved c = more_stored c.loop-i.invariant (length_bytes_lem 4) (omega arith) 0 c.put.auto.image c.put.ensures
 
 pub shape_of-image : goal.shape_of-image
-shape_of-image c = c.loop-j.invariant.same
+shape_of-image c = c.loop-i.invariant.same
+
+pub returns : goal.returns
+returns c = all_stored c.loop-i.invariant (omega arith)

@@ -1,134 +1,94 @@
--- The buckets from k on have the first fault, and `first` is the first slot of bucket k. The measure is how many buckets are left.
-use native.Mathlib.Omega.{arith}
-use mathlib.Core.Path.{◌≡◌, refl, sym, ◌∙◌, ap, subst}
-use mathlib.Core.List.{List}
-use Prim.Native.Nat.{ℕ, ◌+◌, ◌≤◌, ◌<◌}
-use lib.ListN.{length, get_or}
+-- The buckets from k on have the first fault, and `first` is the first slot of bucket k.
+use Rattle.std.proofs.Common.{◌≡◌, ℕ, ◌+◌, ◌≤◌, List, map, get_or, drop, Bor, refl, sym, ap, ◌∙◌, arith}
+use Rattle.std.proofs.lemmas.Result.{err_from_is_err_and}
 use lib.Seq.{length-take-le, length_front}
 use Rattle.lists.specs.Lists.{count_from, total}
+use Rattle.metric_rules.specs.Row.{Row}
 use Rattle.metric_rules.specs.Distance.{space_of}
 use Rattle.table_rules.specs.Geometry.{buckets_of}
-use Rattle.image_rules.specs.Read.{order_in, built_in, slots_before, slots_in}
+use Rattle.image_rules.specs.Read.{order_in, built_in, slots_before}
 use Rattle.image_rules.specs.declared.Loaded.{Loaded}
-use Rattle.image_entries.specs.Faults.{no_fault}
-use Rattle.image_entries.proofs.Faults.{fault_found, fault_passed, fault_none}
+use Rattle.image_read.specs.declared.image.WholeImage.{WholeImage}
+use Rattle.image_read.proofs.Places.{before_more}
+use Rattle.image_entries.specs.Faults.{no_fault, first_of}
+use Rattle.image_entries.proofs.Faults.{fault_found, fault_passed, fault_none, fault_refused}
 use Rattle.image_test.specs.Trees.{most_entries}
 use Rattle.image_test.proofs.Buckets.{buckets_length, buckets_more, bucket_asks, bucket_tests}
 use Rattle.image_test.proofs.Checked.{built_few, all_few}
-use Rattle.image_read.specs.declared.Slots.{Slots}
-use Rattle.image_read.specs.declared.Header.{Header}
-use Rattle.image_read.specs.InImage.{Whole, InImage}
-use Rattle.image_read.proofs.Places.{whole_sizes, some_in, few_slots, bucket_inside, before_more}
 use Rattle.image_test.proofs.each_tree_fault.Invariants.{faults}
 use Rattle.image_test.proofs.each_tree_fault.Goals as goal
 
--- a bucket of the loop is one of the order, and its slots are few and among all
-module _ {image : List ℕ} {header : Header} (w : Whole image header) (k : ℕ) (h : k < header.order.t + 1) where
-  within : k ≤ order_in image
-  within = omega (arith, w.headed.order)
+-- a bucket's slots are few
+few : (image : WholeImage) (k n : ℕ) → k ≤ order_in image.image.bytes.now → n ≡ built_in image.image.bytes.now k → n ≤ most_entries
+few image k n h e = omega (arith, e, built_few image.image.bytes.now image.whole.order image.whole.sizes k h)
 
-  few : built_in image k ≤ most_entries
-  few = built_few image w.order w.sizes k within
+now_same : {a b : Bor (List ℕ)} → a ≡ b → a.now ≡ b.now
+now_same e = ap (λ (r : Bor (List ℕ)). r.now) e
 
-  inside : slots_before image k + built_in image k ≤ slots_in image
-  inside = bucket_inside image k within
+-- what the test of bucket k told is that of its fault
+module _ (image : List ℕ) (row : Row) (k : ℕ) (told all : Loaded) (h : k ≤ order_in image) (tested : faults image row (get_or (buckets_of (order_in image)) k 0) ≡ told)
+    (left : first_of (map (faults image row) (drop k (buckets_of (order_in image)))) ≡ all) where
+  stops : (told.refusal ≡ 0 → ⊥) → told ≡ all
+  stops some =
+      sym tested
+      ∙ fault_found (faults image row) 0 (buckets_of (order_in image)) k (buckets_more (order_in image) k h) left
+      (λ z. some (ap (λ (f : Loaded). f.refusal) (sym tested) ∙ z))
 
-pub overflow_add-buckets : goal.overflow_add-buckets
-overflow_add-buckets c = let w = c.requires.0 in omega (arith, w.headed.order, w.order)
+  goes : told.refusal ≡ 0 → first_of (map (faults image row) (drop (k + 1) (buckets_of (order_in image)))) ≡ all
+  goes none =
+      fault_passed (faults image row) 0 (buckets_of (order_in image)) k (buckets_more (order_in image) k h) left
+      (ap (λ (f : Loaded). f.refusal) tested ∙ none)
 
 pub loop-k-init : goal.loop-k-init
 unfolding slots_before count_from total
-loop-k-init c = (omega arith, refl, refl, refl)
-
-pub sizes_in-sizes-requires : goal.sizes_in-sizes-requires
-sizes_in-sizes-requires c = whole_sizes c.requires.0 c.loop-k.k (within c.requires.0 c.loop-k.k (omega arith))
+loop-k-init c = (refl, refl, refl)
 
 pub slice_bounds-tree_fault-end : goal.slice_bounds-tree_fault-end
 slice_bounds-tree_fault-end c =
-    let room : c.sizes_in-sizes.result.built ≤ length c.loop-k.entries = let l = c.loop-k in
-    omega (arith, l.invariant.1, c.requires.2, c.sizes_in-sizes.ensures.0, few c.requires.0 l.k (omega arith)) in
-    room
+    let l = c.loop-k in
+    omega (arith, l.invariant.0, c.requires.0, few c.args.image l.k _ (omega arith) c.bucket.ensures.sizes.0)
 
 pub slice_bounds-tree_fault-end-in-loop-k : goal.slice_bounds-tree_fault-end-in-loop-k
 slice_bounds-tree_fault-end-in-loop-k c =
-    let room : c.sizes_in-sizes.result.built ≤ length c.loop-k.entries = let l = c.loop-k in
-    omega (arith, l.invariant.1, c.requires.2, c.sizes_in-sizes.ensures.0, few c.requires.0 l.k (omega arith)) in
-    sym (length-take-le _ _ room)
-
-pub tree_fault-fault-requires : goal.tree_fault-fault-requires
-tree_fault-fault-requires c =
-    -- the slots in hand are the bucket's
-    let here_first : c.some_of-at.result.first ≡ slots_before c.args.image.now c.loop-k.k =
-    ap (λ (at : Slots). at.first) c.some_of-at.ensures ∙ c.loop-k.invariant.2 in
-    let here_count : c.some_of-at.result.count ≡ built_in c.args.image.now c.loop-k.k =
-    ap (λ (at : Slots). at.count) c.some_of-at.ensures ∙ c.sizes_in-sizes.ensures.0 in
-    let room : c.sizes_in-sizes.result.built ≤ length c.loop-k.entries = let l = c.loop-k in
-    omega (arith, l.invariant.1, c.requires.2, c.sizes_in-sizes.ensures.0, few c.requires.0 l.k (omega arith)) in
     let l = c.loop-k in
-    let image = c.args.image.now in
-    let some = c.some_of-at in
-    let sizes = c.sizes_in-sizes in
-    let in_image : InImage image some.result =
-    subst (InImage image) (sym some.ensures) (some_in c.requires.1 l.first sizes.result.built (omega (arith, inside c.requires.0 l.k (omega arith), l.invariant.2, sizes.ensures.0))) in
-    bucket_asks image some.result l.k (within c.requires.0 l.k (omega arith)) here_first here_count in_image
-    (all_few image c.requires.0.order c.requires.0.sizes) l.entries sizes.result.built (sizes.ensures.0 ∙ sym here_count) room c.requires.3
+    sym (length-take-le _ _ (omega (arith, l.invariant.0, c.requires.0, few c.args.image l.k _ (omega arith) c.bucket.ensures.sizes.0)))
 
-pub shape_of-entries-then-fault-ne0 : goal.shape_of-entries-then-fault-ne0
-shape_of-entries-then-fault-ne0 c =
+pub tree_fault-requires : goal.tree_fault-requires
+tree_fault-requires c =
     let l = c.loop-k in
-    let d = c.tree_fault-fault in
-    length_front l.entries d.new.entries c.sizes_in-sizes.result.built d.auto.entries ∙ l.invariant.1
+    let whole = c.args.image.whole in
+    let image = c.args.image.image.bytes.now in
+    bucket_asks image c.bucket.result.slots l.k (now_same c.bucket.ensures.place.0) (all_few image whole.order whole.sizes) l.entries _ refl
+    (omega (arith, l.invariant.0, c.requires.0, few c.args.image l.k _ (omega arith) c.bucket.ensures.sizes.0)) c.requires.1
 
-pub returns-then-fault-ne0 : goal.returns-then-fault-ne0
-returns-then-fault-ne0 c =
-    let here_first : c.some_of-at.result.first ≡ slots_before c.args.image.now c.loop-k.k =
-    ap (λ (at : Slots). at.first) c.some_of-at.ensures ∙ c.loop-k.invariant.2 in
-    let here_count : c.some_of-at.result.count ≡ built_in c.args.image.now c.loop-k.k =
-    ap (λ (at : Slots). at.count) c.some_of-at.ensures ∙ c.sizes_in-sizes.ensures.0 in
-    -- the bucket's test as it was made
-    let tested : let image = c.args.image.now in
-    faults image c.args.row.now (get_or (buckets_of (order_in image)) c.loop-k.k 0) ≡ c.tree_fault-fault.result = let l = c.loop-k in
-    bucket_tests c.args.image.now c.some_of-at.result l.k (within c.requires.0 l.k (omega arith)) here_first here_count (space_of c.args.row.now) c.tree_fault-fault.result c.tree_fault-fault.ensures in
+pub returns-in_err-tree_fault : goal.returns-in_err-tree_fault
+returns-in_err-tree_fault c =
+    let r = err_from_is_err_and c.from_residual.result c.from_residual.ensures.1 in
     let l = c.loop-k in
-    let image = c.args.image.now in
-    sym tested
-    ∙ fault_found (faults image c.args.row.now) 0 (buckets_of (order_in image)) l.k (buckets_more (order_in image) l.k (within c.requires.0 l.k (omega arith))) l.invariant.3
-    (λ z. c.if-fault-ne0.true (ap (λ (f : Loaded). f.refusal) (sym tested) ∙ z))
-
-pub overflow_add-first : goal.overflow_add-first
-overflow_add-first c =
-    let l = c.loop-k in
-    omega (arith, l.invariant.2, c.sizes_in-sizes.ensures.0, inside c.requires.0 l.k (omega arith), few_slots c.requires.1)
-
-pub overflow_add-k : goal.overflow_add-k
-overflow_add-k c = let w = c.requires.0 in omega (arith, w.headed.order, w.order)
+    let e = c.bucket.ensures in
+    let image = c.args.image.image.bytes.now in
+    let fault = c.in_err-tree_fault.field-0.0 in
+    rw (r.1, r.2)
+    (stops image c.args.row.now l.k _ _ (omega arith)
+    (bucket_tests image c.bucket.result.slots l.k (now_same e.place.0) (space_of c.args.row.now) _ (omega arith) (e.place.1 ∙ l.invariant.1) e.rows c.in_err-tree_fault.ensures)
+    l.invariant.2 (fault_refused fault))
 
 pub loop-k-preserved : goal.loop-k-preserved
 loop-k-preserved c =
-    let here_first : c.some_of-at.result.first ≡ slots_before c.args.image.now c.loop-k.k =
-    ap (λ (at : Slots). at.first) c.some_of-at.ensures ∙ c.loop-k.invariant.2 in
-    let here_count : c.some_of-at.result.count ≡ built_in c.args.image.now c.loop-k.k =
-    ap (λ (at : Slots). at.count) c.some_of-at.ensures ∙ c.sizes_in-sizes.ensures.0 in
-    let tested : let image = c.args.image.now in
-    faults image c.args.row.now (get_or (buckets_of (order_in image)) c.loop-k.k 0) ≡ c.tree_fault-fault.result = let l = c.loop-k in
-    bucket_tests c.args.image.now c.some_of-at.result l.k (within c.requires.0 l.k (omega arith)) here_first here_count (space_of c.args.row.now) c.tree_fault-fault.result c.tree_fault-fault.ensures in
     let l = c.loop-k in
-    let b = c.sizes_in-sizes in
-    let t = c.tree_fault-fault in
-    let image = c.args.image.now in (
-      omega arith,
-      length_front l.entries t.new.entries b.result.built t.auto.entries ∙ l.invariant.1,
-      omega (arith, before_more image l.k, l.invariant.2, b.ensures.0),
-      fault_passed (faults image c.args.row.now) 0 (buckets_of (order_in image)) l.k (buckets_more (order_in image) l.k (within c.requires.0 l.k (omega arith))) l.invariant.3
-          (ap (λ (f : Loaded). f.refusal) tested ∙ c.if-fault-ne0.false),
+    let e = c.bucket.ensures in
+    let t = c.tree_fault in
+    let image = c.args.image.image.bytes.now in (
+      length_front l.entries t.new.entries c.bucket.result.slots.count t.auto.entries ∙ l.invariant.0,
+      omega (arith, before_more image l.k, l.invariant.1, e.sizes.0),
+      goes image c.args.row.now l.k _ _ (omega arith)
+          (bucket_tests image c.bucket.result.slots l.k (now_same e.place.0) (space_of c.args.row.now) _ (omega arith) (e.place.1 ∙ l.invariant.1) e.rows c.in_ok-tree_fault.ensures)
+          l.invariant.2 refl,
     )
-
-pub shape_of-entries : goal.shape_of-entries
-shape_of-entries c = c.loop-k.invariant.1
 
 pub returns : goal.returns
 unfolding no_fault
 returns c =
-    let image = c.args.image.now in
+    let image = c.args.image.image.bytes.now in
     let l = c.loop-k in
-    fault_none (faults image c.args.row.now) (buckets_of (order_in image)) l.k (omega (arith, buckets_length (order_in image), c.requires.0.headed.order)) l.invariant.3
+    fault_none (faults image c.args.row.now) (buckets_of (order_in image)) l.k (omega (arith, buckets_length (order_in image))) l.invariant.2

@@ -1,4 +1,4 @@
--- The entries in front are those of the live slots passed. The measure is how many slots are left.
+-- The entries in front are those of the live slots passed.
 use native.Mathlib.Omega.{arith}
 use mathlib.Core.Path.{◌≡◌, refl, sym, ◌∙◌, ap, subst, subst₂}
 use mathlib.Core.Bool.{true, false}
@@ -8,7 +8,7 @@ use lib.ListN.{length, length-set}
 use Rattle.metric_rules.specs.Row.{Row, tag_of, is_live}
 use Rattle.search_rules.specs.Range.{Entry}
 use Rattle.image_entries.specs.Entries.{tag_entry, counted_entries}
-use Rattle.image_read.specs.InImage.{slot_in}
+use Rattle.image_read.specs.Slots.{slot_in}
 use Rattle.image_test.proofs.Living.{Entered, entered_none, entered_live, entered_dead, live_room}
 use Rattle.image_test.proofs.enter_live.Goals as goal
 use Rattle.image_test.proofs.enter_live.Goals.{then-is_live, else-is_live}
@@ -19,20 +19,20 @@ room :
     → c.loop-i.count < length c.loop-i.entries
 room c =
     let l = c.loop-i in
-    let slot : ℕ → Row = slot_in c.args.image.now c.args.at in
+    let slot : ℕ → Row = slot_in c.args.slots in
     let live = c.is_live in
-    let is : is_live (slot l.i) ≡ true = sym (live.ensures ∙ ap is_live c.slot_in-row.ensures) ∙ c.if-is_live.true in
-    omega (arith, c.requires.2, l.invariant.1, live_room slot l.entries l.count l.i c.args.at.count l.invariant.2 (omega arith) is)
+    let is : is_live (slot l.i) ≡ true = sym (live.ensures ∙ ap is_live c.slot-row.ensures) ∙ c.if-is_live.true in
+    omega (arith, c.requires.1, l.invariant.0, live_room slot l.entries l.count l.i c.args.slots.count l.invariant.1 (omega arith) is)
 
 pub loop-i-init : goal.loop-i-init
-loop-i-init c = (omega arith, refl, entered_none (slot_in c.args.image.now c.args.at) c.args.entries.now)
+loop-i-init c = (refl, entered_none (slot_in c.args.slots) c.args.entries.now)
 
 pub tag_entry-requires : goal.tag_entry-requires
 tag_entry-requires c =
     let l = c.loop-i in
-    let tag : c.tag_of.result ≡ tag_of (slot_in c.args.image.now c.args.at l.i) =
-    c.tag_of.ensures ∙ ap tag_of c.slot_in-row.ensures in
-    (subst (λ (t : ℕ). t < 2 ^ 50) (sym tag) (c.requires.3 l.i (omega arith)), omega (arith, c.requires.1))
+    let tag : c.tag_of.result ≡ tag_of (slot_in c.args.slots l.i) =
+    c.tag_of.ensures ∙ ap tag_of c.slot-row.ensures in
+    (subst (λ (t : ℕ). t < 2 ^ 50) (sym tag) (c.requires.2 l.i (omega arith)), omega (arith, c.requires.0))
 
 pub offset_bounds-entries-count : goal.offset_bounds-entries-count
 offset_bounds-entries-count c = omega (arith, room c)
@@ -46,8 +46,8 @@ overflow_add-count c = omega (arith, room c)
 pub loop-i-preserved : goal.loop-i-preserved
 loop-i-preserved c =
     let l = c.loop-i in
-    let slot : ℕ → Row = slot_in c.args.image.now c.args.at in
-    let row = c.slot_in-row in
+    let slot : ℕ → Row = slot_in c.args.slots in
+    let row = c.slot-row in
     let live = c.is_live in
     let mark : live.result ≡ is_live (slot l.i) = live.ensures ∙ ap is_live row.ensures in
     elim c.if-is_live.branch [
@@ -56,25 +56,23 @@ loop-i-preserved c =
           let x : w.tag_entry.result ≡ tag_entry (tag_of (slot l.i)) l.i =
           w.tag_entry.ensures ∙ ap (λ (t : ℕ). tag_entry t l.i) (w.tag_of.ensures ∙ ap tag_of row.ensures) in
           let space : l.count < length l.entries =
-          omega (arith, c.requires.2, l.invariant.1, live_room slot l.entries l.count l.i c.args.at.count l.invariant.2 (omega arith) is) in (
-            omega arith,
-            ap length w.entries-is ∙ length-set l.entries l.count w.tag_entry.result ∙ l.invariant.1,
+          omega (arith, c.requires.1, l.invariant.0, live_room slot l.entries l.count l.i c.args.slots.count l.invariant.1 (omega arith) is) in (
+            ap length w.entries-is ∙ length-set l.entries l.count w.tag_entry.result ∙ l.invariant.0,
             subst₂ (λ (es : List Entry) (n : ℕ). Entered slot es n (l.i + 1)) (sym w.entries-is) (sym w.count-is)
-                (entered_live slot l.entries l.count l.i w.tag_entry.result l.invariant.2 is space x),
+                (entered_live slot l.entries l.count l.i w.tag_entry.result l.invariant.1 is space x),
           )
       | else-is_live w ↦
           let is : is_live (slot l.i) ≡ false = sym mark ∙ w.if-is_live.false in (
-            omega arith,
-            ap length w.entries-is ∙ l.invariant.1,
+            ap length w.entries-is ∙ l.invariant.0,
             subst₂ (λ (es : List Entry) (n : ℕ). Entered slot es n (l.i + 1)) (sym w.entries-is) (sym w.count-is)
-                (entered_dead slot l.entries l.count l.i l.invariant.2 is),
+                (entered_dead slot l.entries l.count l.i l.invariant.1 is),
           )
     ]
 
 pub returns : goal.returns
 returns c =
     let l = c.loop-i in
-    let slot : ℕ → Row = slot_in c.args.image.now c.args.at in
-    let done : l.i ≡ c.args.at.count = omega arith in
+    let slot : ℕ → Row = slot_in c.args.slots in
+    let done : l.i ≡ c.args.slots.count = omega arith in
     let all = ap (counted_entries slot is_live) done in
-    record { counted = l.invariant.2.counted ∙ ap length all; entered = l.invariant.2.front ∙ all }
+    record { counted = l.invariant.1.counted ∙ ap length all; entered = l.invariant.1.front ∙ all }

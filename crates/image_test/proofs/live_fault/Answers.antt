@@ -9,7 +9,7 @@ use Rattle.search_rules.specs.Range.{Entry, ordered}
 use Rattle.image_entries.specs.Entries.{places, Fresh}
 use Rattle.image_entries.specs.Duplicates.{duplicate_fault}
 use Rattle.image_entries.proofs.Duplicates.{duplicates-found}
-use Rattle.image_read.specs.InImage.{slot_in, slots_at}
+use Rattle.image_read.specs.Slots.{slot_in, slots_at}
 use Rattle.image_test.proofs.Living.{live_fresh}
 use Rattle.image_test.proofs.live_fault.Goals as goal
 
@@ -17,16 +17,16 @@ pub duplicate_fault-requires : goal.duplicate_fault-requires
 unfolding places
 duplicate_fault-requires c =
     let a = c.args in
-    (subst (All Fresh) (sym c.enter_live-count.ensures.entered) (live_fresh (slot_in a.image.now a.at) a.at.count), omega arith)
+    (subst (All Fresh) (sym c.enter_live-count.ensures.entered) (live_fresh (slot_in a.slots) a.slots.count), omega arith)
 
 pub slice_bounds-duplicate_fault-end-2 : goal.slice_bounds-duplicate_fault-end-2
 slice_bounds-duplicate_fault-end-2 c =
     let e = c.enter_live-count in
-    sym (length-take-le _ _ (omega (arith, e.ensures.counted, c.requires.3, e.auto.entries)))
+    sym (length-take-le _ _ (omega (arith, e.ensures.counted, c.requires.2, e.auto.entries)))
 
 pub returns : goal.returns
 unfolding slots_at
 returns c =
     c.duplicate_fault.ensures.fault
     ∙ ap (λ (es : List Entry). duplicate_fault 0 (ordered es)) c.enter_live-count.ensures.entered
-    ∙ duplicates-found (slot_in c.args.image.now c.args.at) is_live c.args.at.count c.requires.2 0
+    ∙ duplicates-found (slot_in c.args.slots) is_live c.args.slots.count c.requires.1 0

@@ -12,14 +12,14 @@ pub returns : goal.returns
 unfolding size_bytes bytes_of
 returns c =
     let a = c.args in
-    c.put16-2.ensures
-    ∙ ap (λ (l : List ℕ). sets l (a.at + 2) (bytes_of 2 a.live)) c.put16.ensures
+    c.put-2.ensures
+    ∙ ap (λ (l : List ℕ). sets l (a.at + 2) (bytes_of 2 a.live)) c.put.ensures
     ∙ sets_more a.image.now a.at (a.at + 2) (bytes_of 2 a.built) (bytes_of 2 a.live) refl
 
-pub put16-requires : goal.put16-requires
+pub put-requires : goal.put-requires
 unfolding pair_bytes size_bytes
-put16-requires c = omega (arith, c.requires)
+put-requires c = (omega arith, omega (arith, c.requires))
 
-pub put16-requires-2 : goal.put16-requires-2
+pub put-requires-2 : goal.put-requires-2
 unfolding pair_bytes size_bytes
-put16-requires-2 c = omega (arith, c.requires, c.put16.auto.image)
+put-requires-2 c = (omega arith, omega (arith, c.requires, c.put.auto.image))

@@ -8,22 +8,22 @@ use Rattle.metric_rules.specs.Distance.{weights_of, space_of, weights_at}
 use Rattle.image_rules.specs.Bytes.{written_form, bytes_of, start_fields, weight_fields, header_fields, bytes_of_fields, start_bytes, header_bytes}
 use Rattle.image_write.proofs.put_weights.Goals as goal
 
-pub bounds-image-4 : goal.bounds-image-4
+pub put-requires : goal.put-requires
 unfolding header_bytes header_fields start_fields weight_fields written_form total
-bounds-image-4 c = omega (arith, c.requires)
+put-requires c = (omega arith, omega (arith, c.requires))
 
-pub bounds-image-5 : goal.bounds-image-5
+pub put-requires-2 : goal.put-requires-2
 unfolding header_bytes header_fields start_fields weight_fields written_form total
-bounds-image-5 c = simp length-set (omega (arith, c.requires))
+put-requires-2 c = (omega arith, omega (arith, c.requires, c.put.auto.image))
 
-pub bounds-image-6 : goal.bounds-image-6
+pub put-requires-3 : goal.put-requires-3
 unfolding header_bytes header_fields start_fields weight_fields written_form total
-bounds-image-6 c = simp length-set (omega (arith, c.requires))
+put-requires-3 c = (omega arith, omega (arith, c.requires, c.put.auto.image, c.put-2.auto.image))
 
-pub bounds-image-7 : goal.bounds-image-7
+pub put-requires-4 : goal.put-requires-4
 unfolding header_bytes header_fields start_fields weight_fields written_form total
-bounds-image-7 c = simp length-set (omega (arith, c.requires))
+put-requires-4 c = (omega arith, omega (arith, c.requires, c.put.auto.image, c.put-2.auto.image, c.put-3.auto.image))
 
 pub returns : goal.returns
 unfolding start_bytes start_fields weight_fields written_form total bytes_of_fields bytes_of word space_of weights_of weights_at
-returns c = refl
+returns c = rw (c.put-4.ensures, c.put-3.ensures, c.put-2.ensures, c.put.ensures) refl
