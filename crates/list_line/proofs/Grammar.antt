@@ -1,14 +1,16 @@
 -- A line by its parts in turn: the tag, four measures, and nothing behind them. A list's first line ends at its first
 -- line feed, and without one it is not of the form.
 use Prim.Native.Nat.{ℕ, suc, ◌+◌, ◌-◌, ◌≤◌, ◌<◌}
-use mathlib.Core.Path.{◌≡◌, refl, ap, ap₂, sym, subst, subst⁻¹, ◌∙◌}
-use mathlib.Core.Bool.{Bool, true, false, ◌&&◌, false≢true}
+use mathlib.Core.Path.{◌≡◌, refl, ap, ap₂, sym, ◌∙◌}
+use mathlib.Core.Bool.{Bool, true, false, ◌&&◌}
 use mathlib.Core.List.{List, [], ◌∷◌}
 use native.Mathlib.Omega.{arith}
 use native.Mathlib.Numerals.{add-one}
 use lib.Dec.{eqb}
 use lib.ListN.{length, get_or, take, drop, length-take, length-drop}
 use borrow.Author.Tests.{eq-eqb, ne_eqb}
+use Rattle.std.proofs.Common.{Some}
+use Rattle.metric_rules.specs.declared.Profile.{Profile}
 use Rattle.text_rules.specs.Text.{line_feed, parted, part_at, parts_in, numeral}
 use Rattle.text_rules.specs.Fields.{is_tag, is_measure, measure_in}
 use Rattle.text_rules.proofs.Parts.{parted_some}
@@ -16,10 +18,9 @@ use Rattle.text_read.specs.Parts.{PartEnd}
 use Rattle.text_read.specs.Found.{four_measures, measures_of}
 use Rattle.text_read.proofs.Finding.{more_behind, none_behind}
 use Rattle.text_read.proofs.Forms.{one_more}
-use Rattle.list_rules.specs.Lines.{comma, semicolon, is_item_line, item_tag, item_profile, line_of, lines_from, lines_of}
+use Rattle.list_rules.specs.Lines.{ListLine, comma, semicolon, is_item_line, item_tag, item_profile, line_of, lines_from, lines_of}
 use Rattle.list_rules.specs.Lines.ListLine.{an_item, malformed}
-use Rattle.list_line.specs.declared.LineRead.{LineRead}
-use Rattle.list_line.specs.Places.{ItemAt, Behind, Broken, LineAt}
+use Rattle.list_line.specs.Places.{Broken, LineAt}
 
 -- the grammar's tests in the order of the code
 in_order : (n t a b c d : Bool) → (((((n && t) && a) && b) && c) && d) ≡ (t && ((((a && b) && c) && d) && n))
@@ -59,79 +60,50 @@ module _ (line : List ℕ) {t : List ℕ} {ps : List (List ℕ)} (parts : parted
     pub just-four : n ≡ 0 → is_item_line line ≡ true
     just-four h = is_by tagged four (eq-eqb (length ps) 4 (omega arith))
 
-  pub of_the_form : {tag next : ℕ} {measures : _} → is_item_line line ≡ true → tag ≡ numeral 10 t → measures ≡ measures_of comma ps
-      → ItemAt line next (record { item = true; tag = tag; profile = record { measures = measures; code = 0 ∷ 0 ∷ [] }; next = next })
-  unfolding item_tag item_profile part_at measures_of
+  pub of_the_form : {tag : ℕ} {measures : _} → is_item_line line ≡ true → tag ≡ numeral 10 t → measures ≡ measures_of comma ps
+      → an_item tag (record { measures = measures; code = 0 ∷ 0 ∷ [] }) ≡ line_of line
+  unfolding line_of item_tag item_profile part_at measures_of
   of_the_form e f g =
-      record {
-        item = sym e;
-        tag = λ h. f ∙ ap (λ qs. numeral 10 (get_or qs 0 [])) (sym parts);
-        profile = λ h. ap (λ ms. record { measures = ms; code = 0 ∷ 0 ∷ [] }) (g ∙ ap (λ qs. measure_in comma (get_or qs 1 []) ∷ measure_in comma (get_or qs 2 []) ∷ measure_in comma (get_or qs 3 []) ∷ measure_in comma (get_or qs 4 []) ∷ []) (sym parts));
-        place = λ h. refl;
-      }
+      ap₂ (λ n ms. an_item n (record { measures = ms; code = 0 ∷ 0 ∷ [] })) f g
+      ∙ ap
+      (λ qs. an_item (numeral 10 (get_or qs 0 [])) (record { measures = measure_in comma (get_or qs 1 []) ∷ measure_in comma (get_or qs 2 []) ∷ measure_in comma (get_or qs 3 []) ∷ measure_in comma (get_or qs 4 []) ∷ []; code = 0 ∷ 0 ∷ [] }))
+      (sym parts)
+      ∙ ap (λ t. elim t [ true ↦ an_item (item_tag line) (item_profile line) | false ↦ malformed ]) (sym e)
 
-pub not_of_the_form : (line : List ℕ) {next : ℕ} {r : LineRead} → r.item ≡ false → is_item_line line ≡ false → ItemAt line next r
-not_of_the_form line e f =
-    record { item = e ∙ sym f; tag = λ h. absurd (false≢true (sym f ∙ h)); profile = λ h. absurd (false≢true (sym f ∙ h)); place = λ h. absurd (false≢true (sym f ∙ h)) }
+pub not_of_the_form : (line : List ℕ) → is_item_line line ≡ false → malformed ≡ line_of line
+unfolding line_of
+not_of_the_form line e = ap (λ t. elim t [ true ↦ an_item (item_tag line) (item_profile line) | false ↦ malformed ]) (sym e)
 
--- what was found at a place
-module _ (list : List ℕ) (at : ℕ) (line : LineRead) where
-  abbrev Found : Bool → Type 0
-  Found true = (lines_of (drop at list) ≡ an_item line.tag line.profile ∷ lines_of (drop line.next list)) × Behind list at line.next
-  Found false = at < length list → Broken (drop at list)
+-- what stands at a place
+module _ (list : List ℕ) (at end : ℕ) (within : at < length list) (p : PartEnd line_feed list at end) where
+  abbrev text : List ℕ
+  text = take (end - at) (drop at list)
 
-  pub item_here : LineAt list at line → line.item ≡ true → Found true
-  unfolding LineAt
-  item_here h e = subst Found e h
+  -- no line feed
+  pub feed-missing : length list ≤ end → Broken (drop at list)
+  unfolding lines_of lines_from
+  feed-missing h =
+      by text (omega (arith, length-take (end - at) (drop at list), length-drop at list)) (p.part ∙ ap (λ ps. text ∷ ps) (none_behind line_feed list end h))
+    where
+      by : (xs : List ℕ) → 0 < length xs → parted line_feed (drop at list) ≡ xs ∷ [] → Broken (drop at list)
+      by [] k f = absurd (omega arith)
+      by (x ∷ xs) k f = record { others = []; same = ap lines_from f }
 
-  pub broken_here : LineAt list at line → line.item ≡ false → at < length list → Broken (drop at list)
-  unfolding LineAt
-  broken_here h e = subst Found e h
+  first-line : end < length list → lines_of (drop at list) ≡ line_of text ∷ lines_of (drop (end + 1) list)
+  unfolding lines_of lines_from
+  first-line h =
+      let some = parted_some line_feed (drop (suc end) list) in
+      ap lines_from (p.part ∙ ap (λ ps. text ∷ ps) (more_behind line_feed list end h ∙ some.same))
+      ∙ ap (λ ps. line_of text ∷ lines_from ps) (sym some.same)
+      ∙ ap (λ k. line_of text ∷ lines_from (parted line_feed (drop k list))) (sym (add-one end))
 
-  found_as : {t : Bool} → line.item ≡ t → Found t → LineAt list at line
-  unfolding LineAt
-  found_as e h = subst⁻¹ Found e h
+  module _ (h : end < length list) where
+    line_is : {l : ListLine} → l ≡ line_of text → lines_of (drop at list) ≡ l ∷ lines_of (drop (end + 1) list)
+    line_is e = first-line h ∙ ap (λ l. l ∷ lines_of (drop (end + 1) list)) (sym e)
 
-  pub nothing_here : line.item ≡ false → length list ≤ at → LineAt list at line
-  nothing_here e h = found_as e (λ l. absurd (omega arith))
+    pub malformed-here : malformed ≡ line_of text → Broken (drop at list)
+    malformed-here e = record { others = lines_of (drop (end + 1) list); same = line_is e }
 
-  module _ (end : ℕ) (within : at < length list) (p : PartEnd line_feed list at end) where
-    abbrev text : List ℕ
-    text = take (end - at) (drop at list)
-
-    -- no line feed
-    pub feed-missing : line.item ≡ false → length list ≤ end → LineAt list at line
-    unfolding lines_of lines_from
-    feed-missing e h =
-        found_as e (λ l. by text (omega (arith, length-take (end - at) (drop at list), length-drop at list)) (p.part ∙ ap (λ ps. text ∷ ps) (none_behind line_feed list end h)))
-      where
-        by : (xs : List ℕ) → 0 < length xs → parted line_feed (drop at list) ≡ xs ∷ [] → Broken (drop at list)
-        by [] k f = absurd (omega arith)
-        by (x ∷ xs) k f = record { others = []; same = ap lines_from f }
-
-    first-line : end < length list → lines_of (drop at list) ≡ line_of text ∷ lines_of (drop (end + 1) list)
-    unfolding lines_of lines_from
-    first-line h =
-        let some = parted_some line_feed (drop (suc end) list) in
-        ap lines_from (p.part ∙ ap (λ ps. text ∷ ps) (more_behind line_feed list end h ∙ some.same))
-        ∙ ap (λ ps. line_of text ∷ lines_from ps) (sym some.same)
-        ∙ ap (λ k. line_of text ∷ lines_from (parted line_feed (drop k list))) (sym (add-one end))
-
-    pub line-here : end < length list → ItemAt text (end + 1) line → LineAt list at line
-    unfolding line_of
-    line-here h k = by (is_item_line text) refl
-      where
-        by : (t : Bool) → is_item_line text ≡ t → LineAt list at line
-        by true e =
-            found_as (k.item ∙ e) (
-              first-line h
-                  ∙ ap (λ t. elim t [ true ↦ an_item (item_tag text) (item_profile text) | false ↦ malformed ] ∷ lines_of (drop (end + 1) list)) e
-                  ∙ λ i. an_item (sym (k.tag e) i) (sym (k.profile e) i) ∷ lines_of (drop (sym (k.place e) i) list),
-              record { later = omega (arith, k.place e, p.after); within = omega (arith, k.place e) },
-            )
-        by false e =
-            found_as (k.item ∙ e) (λ l.
-            record {
-              others = lines_of (drop (end + 1) list);
-              same = first-line h ∙ ap (λ t. elim t [ true ↦ an_item (item_tag text) (item_profile text) | false ↦ malformed ] ∷ lines_of (drop (end + 1) list)) e;
-            })
+    pub item-here : (tag : ℕ) (profile : Profile) → an_item tag profile ≡ line_of text
+        → LineAt list at (Some (record { tag = tag; profile = profile; next = end + 1 }))
+    item-here tag profile e = (line_is e, record { later = omega (arith, p.after); within = omega arith })

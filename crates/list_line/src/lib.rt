@@ -1,76 +1,53 @@
 // A line of a herd list, read where it lies: first where it ends, then its fields in turn.
 #![tactic(auto)]
 
-ghost use Rattle.std.specs.Prelude.{◌≡◌, false};
-ghost use Rattle.list_line.specs.Places.{ItemAt, LineAt};
+ghost use Rattle.std.specs.Prelude.{◌≡◌};
+ghost use Rattle.list_rules.specs.Lines.{line_of};
+ghost use Rattle.list_line.specs.Places.{as_line, LineAt};
 
 use metric_rules::Profile;
-use text_read::NumberRead;
 
-// An item and the place behind its line feed, or a line not of the form.
+// An item and the place behind its line feed.
 #[derive(Clone, Copy)]
 pub struct LineRead {
-    pub item: bool,
     pub tag: u64,
     pub profile: Profile,
     pub next: usize,
 }
 
-// The reply to a line not of the form. Its tag, profile and next place are left free: all that holds of them is their
-// type.
-fn malformed() -> LineRead
-    ensures { result.item ≡ false }
-{
-    LineRead {
-        item: false,
-        tag: 0,
-        profile: Profile {
-            measures: [0; 4],
-            code: [0; 2],
-        },
-        next: 0,
-    }
-}
-
-// The fields of a line without its line feed: a tag, four measures, the code zero.
-fn item(line: &[u8], next: usize) -> LineRead
-    ensures { ItemAt line.now next result }
+// The item of a line without its line feed: a tag, four measures, the code zero.
+fn item(line: &[u8]) -> Option<(u64, Profile)>
+    ensures { as_line result ≡ line_of line.now }
 {
     let tag_end = text_read::part_end(line, b';', 0);
-    let NumberRead::Number(tag) = text_read::number(&line[..tag_end], 10, 15, 15) else {
-        return malformed();
-    };
-    let read = text_read::measures(line, tag_end, b';', b',');
-    if !read.found {
-        return malformed();
-    }
+    let tag = text_read::number(&line[..tag_end], 10, 15, 15)?;
+    let read = text_read::measures(line, tag_end, b';', b',')?;
     if read.end < line.len() {
-        return malformed();
+        return None;
     }
     let measures = read.measures;
     let profile = Profile {
         measures,
         code: [0, 0],
     };
-    LineRead {
-        item: true,
-        tag,
-        profile,
-        next,
-    }
+    Some((tag, profile))
 }
 
-// The line that begins at a place, with its line feed. Of a line that is no item, tag, profile and next place are left
-// free: all that holds of them is their type.
-pub fn line(list: &[u8], at: usize) -> LineRead
+// The item of the line that begins at a place, if the line has its line feed and is of the form.
+pub fn line(list: &[u8], at: usize) -> Option<LineRead>
     ensures { LineAt list.now at result }
 {
     if list.len() <= at {
-        return malformed();
+        return None;
     }
     let end = text_read::part_end(list, b'\n', at);
     if list.len() <= end {
-        return malformed();
+        return None;
     }
-    item(&list[at..end], end + 1)
+    let (tag, profile) = item(&list[at..end])?;
+    Some(LineRead {
+        tag,
+        profile,
+        next: end + 1,
+    })
 }

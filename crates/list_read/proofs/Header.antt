@@ -1,30 +1,24 @@
 -- A list with the header and without it: 30 first of all, or the lines behind the header.
-use Prim.Native.Nat.{ℕ, ◌≤◌, ◌<◌}
+use Prim.Native.Nat.{ℕ}
 use mathlib.Core.Path.{◌≡◌, refl, ap, sym, ◌∙◌}
-use mathlib.Core.Bool.{Bool, true, false, false≢true}
-use mathlib.Core.List.{List}
-use native.Mathlib.Omega.{arith}
-use lib.Dec.{leb}
-use lib.ListN.{length, take, length-take}
-use borrow.Author.Tests.{leb-true, leb-false}
+use mathlib.Core.Bool.{Bool, true, false, ◌&&◌}
+use mathlib.Core.List.{List, [], ◌∷◌}
+use lib.Dec.{eqb}
+use Rattle.std.specs.Cmp.Lexicographic.{pointwise}
+use Rattle.lists.specs.Lists.{alike, same_numbers}
 use Rattle.metric_rules.specs.Row.{Row}
 use Rattle.table_rules.specs.Table.{Table}
 use Rattle.list_rules.specs.declared.ListRead.{ListRead}
-use Rattle.list_rules.specs.Lines.{list_header, has_header, item_lines}
+use Rattle.list_rules.specs.Lines.{has_header, item_lines}
 use Rattle.list_rules.specs.ReadList.{bad_list_header, stopped, reading, list_reading, read_list_reply, table_after_read_list, work_after_read_list}
-use Rattle.list_read.proofs.Alike.{other_length}
 
-pub no_room : (list : List ℕ) → length list < 22 → has_header list ≡ false
-unfolding has_header list_header
-no_room list h = other_length (take 22 list) list_header (λ e. omega (arith, length-take 22 list, e))
-
-pub header_room : (list : List ℕ) → has_header list ≡ true → length list_header ≤ length list
-unfolding list_header
-header_room list h = by (leb 22 (length list)) refl
-  where
-    by : (t : Bool) → leb 22 (length list) ≡ t → 22 ≤ length list
-    by true e = leb-true 22 (length list) e
-    by false e = absurd (false≢true (sym (no_room list (leb-false 22 (length list) e)) ∙ h))
+-- the library's comparison is the definition's
+pub as_numbers : (xs ys : List ℕ) → same_numbers xs ys ≡ pointwise eqb xs ys
+unfolding same_numbers alike
+as_numbers [] [] = refl
+as_numbers [] (y ∷ ys) = refl
+as_numbers (x ∷ xs) [] = refl
+as_numbers (x ∷ xs) (y ∷ ys) = ap (λ t. eqb x y && t) (as_numbers xs ys)
 
 -- the reply and both areas
 abbrev pub Read : Table → List Row → List ℕ → ℕ → ListRead → Table → List Row → Type 0

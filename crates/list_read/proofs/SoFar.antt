@@ -6,18 +6,18 @@ use mathlib.Core.List.{List, ◌∷◌}
 use native.Mathlib.Omega.{arith}
 use lib.ListN.{length, drop, drop_of_length-le}
 use Rattle.metric_rules.specs.declared.Profile.{Profile}
-use Rattle.metric_rules.specs.Row.{Row}
+use Rattle.metric_rules.specs.Row.{Row, zero_row}
+use Rattle.table_rules.specs.Geometry.{work_rows}
 use Rattle.table_rules.specs.declared.Added.{Added}
-use Rattle.table_rules.specs.Table.{Table, live_total}
+use Rattle.table_rules.specs.Table.{Table, order_of, live_total, cleared}
 use Rattle.table_rules.specs.Add.{add_refusal, add_target, added, add_reply, table_after_add, work_after_add}
 use Rattle.text_rules.specs.Text.{parted}
 use Rattle.list_rules.specs.declared.ListRead.{ListRead}
-use Rattle.list_rules.specs.Lines.{list_header, lines_from, lines_of, item_lines}
+use Rattle.list_rules.specs.Lines.{lines_from, lines_of}
 use Rattle.list_rules.specs.Lines.ListLine.{an_item}
 use Rattle.list_rules.specs.ReadList.{Reading, stopped, one_more, reading}
 use Rattle.list_rules.proofs.Growing.{live_below_most, few_distances, live_one_more}
 use Rattle.list_line.specs.Places.{Broken}
-use Rattle.table_add.proofs.Refusing.{refused_call}
 
 -- so many lines added, with so many distances, before what the others lead to
 unfoldable pub after : ℕ → ℕ → Reading → Reading
@@ -70,6 +70,16 @@ reply_refusal t work tag p day = by (add_refusal t work tag p day)
     by zero = refl
     by (suc n) = refl
 
+-- a refused add leaves the table and the work area
+refused_keeps : (t : Table) (work : List Row) (tag : ℕ) (p : Profile) (day n : ℕ) → n ≡ add_refusal t work tag p day → (n ≡ 0 → ⊥)
+    → (t ≡ table_after_add t work tag p day) × (work ≡ work_after_add t work tag p day)
+unfolding table_after_add work_after_add
+refused_keeps t work tag p day zero e some = absurd (some refl)
+refused_keeps t work tag p day (suc n) e some = (
+  ap (λ (m : ℕ). elim m as (λ x. Table) [ zero ↦ (added t tag p day).table | suc k ↦ t ]) e,
+  ap (λ (m : ℕ). elim m as (λ x. List Row) [ zero ↦ cleared zero_row (work_rows (order_of t)) work | suc k ↦ work ]) e,
+)
+
 pub record SoFar (day : ℕ) (t₀ : Table) (work₀ : List Row) (list : List ℕ) (t : Table) (work : List Row) (at added distances : ℕ) : Type 0 where
   pub within : at ≤ length list
   pub live : added ≤ live_total t
@@ -77,26 +87,25 @@ pub record SoFar (day : ℕ) (t₀ : Table) (work₀ : List Row) (list : List �
   pub sum : distances ≤ 49152 * added
   pub table_long : length t ≡ length t₀
   pub work_long : length work ≡ length work₀
-  pub whole : reading day t₀ work₀ 2 (item_lines list) ≡ after added distances (reading day t work (added + 2) (lines_of (drop at list)))
+  pub whole : reading day t₀ work₀ 2 (lines_of list) ≡ after added distances (reading day t work (added + 2) (lines_of (drop at list)))
 
-pub at_first : (day : ℕ) (t : Table) (work : List Row) (list : List ℕ) → length list_header ≤ length list → SoFar day t work list t work 22 0 0
-unfolding item_lines list_header
-at_first day t work list h =
+pub at_first : (day : ℕ) (t : Table) (work : List Row) (list : List ℕ) → SoFar day t work list t work 0 0 0
+at_first day t work list =
     record {
-      within = h;
+      within = omega arith;
       live = omega arith;
       most = omega arith;
       sum = omega arith;
       table_long = refl;
       work_long = refl;
-      whole = after_none (reading day t work 2 (item_lines list));
+      whole = after_none (reading day t work 2 (lines_of list));
     }
 
 -- the reading so far, where the rest stops at once
 abbrev pub Ends : ℕ → Table → List Row → List ℕ → ListRead → Table → List Row → Type 0
 Ends day t₀ work₀ list reply t work =
-    (reply ≡ (reading day t₀ work₀ 2 (item_lines list)).reply)
-    × ((t ≡ (reading day t₀ work₀ 2 (item_lines list)).table) × (work ≡ (reading day t₀ work₀ 2 (item_lines list)).work))
+    (reply ≡ (reading day t₀ work₀ 2 (lines_of list)).reply)
+    × ((t ≡ (reading day t₀ work₀ 2 (lines_of list)).table) × (work ≡ (reading day t₀ work₀ 2 (lines_of list)).work))
 
 module _ {day : ℕ} {t₀ : Table} {work₀ : List Row} {list : List ℕ} {t : Table} {work : List Row} {at added distances : ℕ} (so_far : SoFar day t₀ work₀ list t work at added distances) where
   stops : {refusal line : ℕ} → reading day t work (added + 2) (lines_of (drop at list)) ≡ stopped refusal line t work
@@ -146,8 +155,8 @@ module _ {day : ℕ} {t₀ : Table} {work₀ : List Row} {list : List ℕ} {t : 
           → Ends day t₀ work₀ list (record { refusal = refusal; line = added + 2; added = added; distances = distances }) u w
       add_refused e f =
           let end = stops refused-reading in
-          let kept = refused_call t work tag p day refusal known some in
-          (end.0, (e ∙ sym kept.1 ∙ end.1.0, f ∙ sym kept.2 ∙ end.1.1))
+          let kept = refused_keeps t work tag p day refusal known some in
+          (end.0, (e ∙ sym kept.0 ∙ end.1.0, f ∙ sym kept.1 ∙ end.1.1))
 
     -- the add is accepted
     module _ (accepted : add_refusal t work tag p day ≡ 0) where

@@ -1,22 +1,26 @@
--- The part from a place on, one byte further: what a loop over the bytes goes by. It ends at a separator or at the end
--- of the text, and there are two parts where the second ends with the text.
-use Prim.Native.Nat.{ℕ, suc, ◌+◌, ◌-◌, ◌≤◌, ◌<◌}
-use mathlib.Core.Path.{◌≡◌, ap, sym, ◌∙◌}
+-- The part from a place on: it ends at the next separator, or at the end of the text. And the parts behind it.
+use Prim.Native.Nat.{ℕ, zero, suc, ◌+◌, ◌-◌, ◌≤◌, ◌<◌}
+use mathlib.Core.Path.{◌≡◌, ap, sym, subst, ◌∙◌}
 use mathlib.Core.Bool.{true, false}
-use mathlib.Core.List.{List, [], ◌∷◌, ◌++◌, append-nil}
+use mathlib.Core.List.{List, [], ◌∷◌, ◌++◌}
 use native.Mathlib.Omega.{arith}
 use native.Mathlib.Numerals.{add-one}
-use lib.ListN.{length, get_or, take, drop, length-drop, take-append-drop, drop_of_length-le}
-use lib.Seq.{drop-cons, take-suc, take_all, drop-drop, get_or-drop}
+use lib.ListN.{length, get_or, take, drop, length-drop, take-append-drop}
+use lib.Seq.{drop-cons, take_all, drop-drop}
 use borrow.Author.Tests.{lt-ltb, le-ltb}
-use Rattle.lists.proofs.Lists.{all_append}
 use Rattle.text_rules.specs.Text.{parted, parts_in}
 use Rattle.text_rules.proofs.Parts.{Free, parted_some, parted_one, parted_first}
-use Rattle.text_read.specs.Parts.{parts_behind, PartEnd, TwoParts}
+use Rattle.text_read.specs.Parts.{parts_behind, PartEnd}
 
 -- what is left of a text from a place on
 pub rest_whole : (n : ℕ) (xs : List ℕ) → take (length xs - n) (drop n xs) ≡ drop n xs
 rest_whole n xs = take_all (length xs - n) (drop n xs) (omega (arith, length-drop n xs))
+
+-- no separator stands before a place
+pub free_before : (separator : ℕ) (xs : List ℕ) (n : ℕ) → ((k d : ℕ) → 0 ≤ k → k < n → get_or xs k d ≡ separator → ⊥) → Free separator (take n xs)
+free_before separator xs zero h = tt
+free_before separator [] (suc n) h = tt
+free_before separator (x ∷ xs) (suc n) h = (h 0 0 (omega arith) (omega arith), free_before separator xs n (λ k d l m. h (suc k) d (omega arith) (omega arith)))
 
 module _ (separator : ℕ) (text : List ℕ) where
   -- the parts behind one that ends at a place
@@ -31,45 +35,41 @@ module _ (separator : ℕ) (text : List ℕ) where
   pub some_behind : (end : ℕ) → end < length text → 0 < length (parts_behind separator text end)
   some_behind end h = omega (arith, ap length (more_behind end h), ap length (parted_some separator (drop (suc end) text)).same)
 
-  -- a byte that is no separator goes to the part in hand
-  pub free_more : (from i : ℕ) → from ≤ i → i < length text → Free separator (take (i - from) (drop from text)) → (get_or text i 0 ≡ separator → ⊥)
-      → Free separator (take (i + 1 - from) (drop from text))
-  free_more from i h l f e =
-      let n : i + 1 - from ≡ suc (i - from) = omega arith in
-      let at : from + (i - from) ≡ i = omega arith in
-      let b : get_or (drop from text) (i - from) 0 ≡ get_or text i 0 = get_or-drop from text (i - from) 0 ∙ ap (λ k. get_or text k 0) at in
-      let more : i - from < length (drop from text) = omega (arith, length-drop from text) in
-      rw (n, take-suc (drop from text) (i - from) 0 more)
-      (all_append (λ b. b ≡ separator → ⊥) (take (i - from) (drop from text)) _ f ((λ w. e (sym b ∙ w)), tt))
+  -- a part ends at the first separator from its place on, or at the end of the text
+  module _ (from : ℕ) where
+    abbrev rest : List ℕ
+    rest = drop from text
 
-  rest_at : (from i : ℕ) → from ≤ i → drop from text ≡ take (i - from) (drop from text) ++ drop i text
-  rest_at from i h =
-      let at : from + (i - from) ≡ i = omega arith in
-      sym (take-append-drop (i - from) (drop from text)) ∙ ap (λ xs. take (i - from) (drop from text) ++ xs) (drop-drop (i - from) from text ∙ ap (λ k. drop k text) at)
+    pub ends_at_separator : (n : ℕ) → from ≤ length text → n < length rest → get_or rest n 0 ≡ separator → Free separator (take n rest)
+        → PartEnd separator text from (from + n)
+    ends_at_separator n h l e f =
+        let at : from + n - from ≡ n = omega arith in
+        let next : from + suc n ≡ suc (from + n) = omega arith in
+        let whole : take n rest ++ separator ∷ drop (suc (from + n)) text ≡ rest =
+        ap (λ xs. take n rest ++ separator ∷ xs) (ap (λ k. drop k text) (sym next) ∙ sym (drop-drop (suc n) from text))
+        ∙ ap (λ b. take n rest ++ b ∷ drop (suc n) rest) (sym e)
+        ∙ ap (λ xs. take n rest ++ xs) (sym (drop-cons rest n 0 l))
+        ∙ take-append-drop n rest in
+        record {
+          after = omega arith;
+          within = omega (arith, length-drop from text);
+          part =
+              ap (parted separator) (sym whole)
+              ∙ parted_first separator (take n rest) (drop (suc (from + n)) text) f
+              ∙ ap (λ ps. take n rest ∷ ps) (sym (more_behind (from + n) (omega (arith, length-drop from text))))
+              ∙ ap (λ k. take k rest ∷ parts_behind separator text (from + n)) (sym at);
+        }
 
-  -- a part ends at a separator, or at the end of the text
-  pub ends_at_separator : (from i : ℕ) → from ≤ i → i < length text → Free separator (take (i - from) (drop from text)) → get_or text i 0 ≡ separator
-      → PartEnd separator text from i
-  ends_at_separator from i h l f e =
-      record {
-        after = h;
-        within = omega arith;
-        part =
-            ap (parted separator) (rest_at from i h ∙ ap (λ xs. take (i - from) (drop from text) ++ xs) (drop-cons text i 0 l ∙ ap (λ b. b ∷ drop (suc i) text) e))
-            ∙ parted_first separator (take (i - from) (drop from text)) (drop (suc i) text) f
-            ∙ ap (λ ps. take (i - from) (drop from text) ∷ ps) (sym (more_behind i l));
-      }
-
-  pub ends_at_end : (from i : ℕ) → from ≤ i → length text ≡ i → Free separator (take (i - from) (drop from text)) → PartEnd separator text from i
-  ends_at_end from i h l f =
-      record {
-        after = h;
-        within = omega arith;
-        part =
-            ap (parted separator) (rest_at from i h ∙ ap (λ xs. take (i - from) (drop from text) ++ xs) (drop_of_length-le text {i = i} (omega arith)) ∙ append-nil _)
-            ∙ parted_one separator (take (i - from) (drop from text)) f
-            ∙ ap (λ ps. take (i - from) (drop from text) ∷ ps) (sym (none_behind i (omega arith)));
-      }
+    pub ends_at_end : from ≤ length text → Free separator (take (length rest) rest) → PartEnd separator text from (length text)
+    ends_at_end h f =
+        record {
+          after = h;
+          within = omega arith;
+          part =
+              parted_one separator rest (subst (Free separator) (take_all (length rest) rest (omega arith)) f)
+              ∙ ap (λ xs. xs ∷ []) (sym (rest_whole from text))
+              ∙ ap (λ ps. take (length text - from) rest ∷ ps) (sym (none_behind (length text) (omega arith)));
+        }
 
   -- the first part of a text
   pub first_part : (end : ℕ) → PartEnd separator text 0 end → parted separator text ≡ take end text ∷ parts_behind separator text end
@@ -82,31 +82,24 @@ module _ (separator : ℕ) (text : List ℕ) where
       → parts_behind separator text end ≡ take (last - (end + 1)) (drop (end + 1) text) ∷ parts_behind separator text last
   next_part end last h p = more_behind end h ∙ ap (λ k. parted separator (drop k text)) (sym (add-one end)) ∙ p.part
 
-  -- two parts, or not
-  pub are_two : (end last : ℕ) → end < length text → length text ≤ last → PartEnd separator text 0 end → PartEnd separator text (end + 1) last → TwoParts separator text end
-  are_two end last h l p q =
-      let whole : last ≡ length text = omega (arith, q.within) in
-      let rest : take (last - (end + 1)) (drop (end + 1) text) ≡ drop (suc end) text =
-      ap (λ k. take (k - (end + 1)) (drop (end + 1) text)) whole ∙ rest_whole (end + 1) text ∙ ap (λ k. drop k text) (add-one end) in
-      record {
-        two =
-            λ k. first_part end p
-            ∙ ap (λ ps. take end text ∷ ps) (next_part end last h q ∙ ap (λ ps. take (last - (end + 1)) (drop (end + 1) text) ∷ ps) (none_behind last l) ∙ ap (λ r. r ∷ []) rest);
-        other = λ k. absurd (omega arith);
-      }
+-- there are two parts where the second, the rest of the text, ends with the text
+module _ (separator : ℕ) (text rest : List ℕ) (end last : ℕ) (same : rest ≡ drop (suc end) text) (some : end < length text)
+    (p : PartEnd separator text 0 end) (q : PartEnd separator rest 0 last) where
+  next_parted : parted separator text ≡ take end text ∷ take last rest ∷ parts_behind separator rest last
+  next_parted =
+      first_part separator text end p
+      ∙ ap (λ ps. take end text ∷ ps) (more_behind separator text end some ∙ ap (parted separator) (sym same) ∙ first_part separator rest last q)
 
-  -- the second as a slice shows it
-  pub two_sliced : (end : ℕ) → TwoParts separator text end → end < length text → parted separator text ≡ take end text ∷ take (length text - (end + 1)) (drop (end + 1) text) ∷ []
-  two_sliced end p h = p.two h ∙ ap (λ xs. take end text ∷ xs ∷ []) (sym (rest_whole (end + 1) text ∙ ap (λ k. drop k text) (add-one end)))
-
-  not_two : (end : ℕ) → length text ≤ end → (parts_in separator text ≡ 2 → ⊥) → TwoParts separator text end
-  not_two end h k = record { two = λ l. absurd (omega arith); other = λ l. k }
-
-  pub only_one : (end : ℕ) → length text ≤ end → PartEnd separator text 0 end → TwoParts separator text end
+  pub three_at_least : last < length rest → parts_in separator text ≡ 2 → ⊥
   unfolding parts_in
-  only_one end h p = not_two end h (λ e. omega (arith, e, ap length (first_part end p), ap length (none_behind end h)))
+  three_at_least h e = omega (arith, e, ap length next_parted, some_behind separator rest last h)
 
-  pub three_at_least : (end last : ℕ) → end < length text → last < length text → PartEnd separator text 0 end → PartEnd separator text (end + 1) last → TwoParts separator text (length text)
-  unfolding parts_in
-  three_at_least end last h l p q =
-      not_two (length text) (omega arith) (λ e. omega (arith, e, ap length (first_part end p), ap length (next_part end last h q), some_behind last l))
+  pub are_two : length rest ≤ last → parted separator text ≡ take end text ∷ rest ∷ []
+  are_two h =
+      next_parted
+      ∙ ap (λ ps. take end text ∷ take last rest ∷ ps) (none_behind separator rest last h)
+      ∙ ap (λ xs. take end text ∷ xs ∷ []) (take_all last rest h)
+
+pub only_one : (separator : ℕ) (text : List ℕ) (end : ℕ) → length text ≤ end → PartEnd separator text 0 end → parts_in separator text ≡ 2 → ⊥
+unfolding parts_in
+only_one separator text end h p e = omega (arith, e, ap length (first_part separator text end p), ap length (none_behind separator text end h))

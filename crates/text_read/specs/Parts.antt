@@ -1,7 +1,7 @@
 -- Where a part of a text ends and which parts stand behind it: what the contracts of the search for one say, by the
 -- parts of the grammar.
-use Rattle.std.specs.Prelude.{ℕ, suc, ◌-◌, ◌≤◌, ◌<◌, ◌≡◌, true, false, List, [], ◌∷◌, ltb, length, take, drop}
-use Rattle.text_rules.specs.Text.{parted, parts_in}
+use Rattle.std.specs.Prelude.{ℕ, suc, ◌-◌, ◌≤◌, ◌≡◌, true, false, List, [], ◌∷◌, ltb, length, take, drop}
+use Rattle.text_rules.specs.Text.{parted}
 
 -- the parts behind one that ends at a place: none where the text ends there
 unfoldable pub parts_behind : ℕ → List ℕ → ℕ → List (List ℕ)
@@ -13,8 +13,3 @@ pub record PartEnd (separator : ℕ) (text : List ℕ) (from end : ℕ) : Type 0
   pub after : from ≤ end
   pub within : end ≤ length text
   pub part : parted separator (drop from text) ≡ take (end - from) (drop from text) ∷ parts_behind separator text end
-
--- the first of two parts ends before `end`, or `end` is not within the text and there are not two
-pub record TwoParts (separator : ℕ) (text : List ℕ) (end : ℕ) : Type 0 where
-  pub two : end < length text → parted separator text ≡ take end text ∷ drop (suc end) text ∷ []
-  pub other : length text ≤ end → parts_in separator text ≡ 2 → ⊥

@@ -2,206 +2,140 @@
 // in turn.
 #![tactic(auto)]
 
-ghost use Rattle.std.specs.Prelude.{◌≡◌, true, false, ◌≤◌, ◌<◌, length};
-ghost use Rattle.text_rules.specs.Text.{digit_of, is_digit};
+ghost use Rattle.std.specs.Prelude.{◌≡◌, ◌≢◌, ◌^◌, ◌≤◌, ◌<◌, [], ◌∷◌, length, MatchOption};
+ghost use Rattle.text_rules.specs.Text.{parted, parts_in};
 ghost use Rattle.text_rules.specs.Fields.{is_negative, unsigned};
-ghost use Rattle.text_read.specs.Parts.{PartEnd, TwoParts, parts_behind};
-ghost use Rattle.text_read.specs.Answers.{answer_of, measure_answer_of};
-ghost use Rattle.text_read.specs.Found.{number_in, size_in, SizeFits, signed_size, MeasureBehind, MeasuresAt};
+ghost use Rattle.text_read.specs.Parts.{PartEnd, parts_behind};
+ghost use Rattle.text_read.specs.Found.{digit_in, number_in, size_in, signed, MeasureBehind, MeasuresAt};
 
+// A measure and where its part ends.
 #[derive(Clone, Copy)]
-pub enum NumberRead {
-    Number(u64),
-    NoNumber,
+pub struct MeasureRead {
+    pub value: i32,
+    pub end: usize,
 }
 
-// A measure and where its part ends, or a part of another form.
-#[derive(Clone, Copy)]
-pub enum MeasureRead {
-    Measure(i32, usize),
-    NoMeasure,
-}
-
-// Four measures and where the last one's part ends. Where they are not found, measures and place are left free: all
-// that holds of them is their type.
+// Four measures and where the last one's part ends: a place and no rest of the text, since the definitions
+// (`parts_behind`) count parts from a place.
 #[derive(Clone, Copy)]
 pub struct MeasuresRead {
-    pub found: bool,
     pub measures: [i32; 4],
     pub end: usize,
 }
 
-fn is_digit(base: u64, b: u8) -> bool
-    ensures { result ≡ is_digit base b }
+// The value of a digit of a base: the letters, all lower case, go on from ten.
+fn digit(base: u64, b: u8) -> Option<u64>
+    ensures { result ≡ digit_in base b }
 {
-    if b < 48 {
-        return false;
-    }
-    if b < 58 {
-        return (b as u64) - 48 < base;
-    }
-    if b < 97 {
-        return false;
-    }
-    if b < 103 {
-        return (b as u64) - 87 < base;
-    }
-    false
-}
-
-fn digit(base: u64, b: u8) -> u64
-    requires { is_digit base b ≡ true }
-    ensures { (result ≡ digit_of b) × (result < base) }
-{
-    if b < 58 {
-        (b as u64) - 48
-    } else {
-        (b as u64) - 87
-    }
+    let value = match b {
+        b'0'..=b'9' => b - b'0',
+        b'a'..=b'f' => b - b'a' + 10,
+        _ => return None,
+    };
+    let value = u64::from(value);
+    (value < base).then_some(value)
 }
 
 // The number of a text of `least` to `most` digits and nothing else: sixteen fill 64 bits.
-pub fn number(text: &[u8], base: u64, least: usize, most: usize) -> NumberRead
+pub fn number(text: &[u8], base: u64, least: usize, most: usize) -> Option<u64>
     requires { (base ≤ 16) × (most ≤ 16) }
-    ensures { answer_of result ≡ number_in base least most text.now }
+    ensures { result ≡ number_in base least most text.now }
 {
-    if text.len() < least {
-        return NumberRead::NoNumber;
-    }
-    if most < text.len() {
-        return NumberRead::NoNumber;
+    if text.len() < least || most < text.len() {
+        return None;
     }
     let mut n: u64 = 0;
-    let mut i: usize = 0;
-    while i < text.len() {
-        let b = text[i];
-        if !is_digit(base, b) {
-            return NumberRead::NoNumber;
-        }
-        n = base * n + digit(base, b);
-        i += 1;
+    for b in text {
+        n = base * n + digit(base, *b)?;
     }
-    NumberRead::Number(n)
+    Some(n)
 }
 
-// Where the part that begins at a place ends: at the next separator, or at the end of the text.
+// Where the part that begins at a place ends: at the next separator, or at the end of the text, where the last part
+// ends as any other does: so no Option.
 pub fn part_end(text: &[u8], separator: u8, from: usize) -> usize
     requires { from ≤ length text.now }
     ensures { PartEnd separator text.now from result }
 {
-    let mut i = from;
-    while i < text.len() {
-        if text[i] == separator {
-            return i;
-        }
-        i += 1;
+    match text[from..].iter().position(|b| *b == separator) {
+        Some(n) => from + n,
+        None => text.len(),
     }
-    i
 }
 
-// Where the first of two parts ends, and the text's length where there are not two.
-pub fn two_parts(text: &[u8], separator: u8) -> usize
-    ensures { TwoParts separator text.now result }
+// The two parts of a text that has just two.
+pub fn two_parts(text: &[u8], separator: u8) -> Option<(&[u8], &[u8])>
+    ensures { MatchOption result
+        (parts_in separator text.now ≢ 2)
+        (λ p. parted separator text.now ≡ p.0.now ∷ p.1.now ∷ []) }
 {
     let end = part_end(text, separator, 0);
     if text.len() <= end {
-        return end;
+        return None;
     }
-    if part_end(text, separator, end + 1) < text.len() {
-        return text.len();
+    let rest = &text[end + 1..];
+    if part_end(rest, separator, 0) < rest.len() {
+        return None;
     }
-    end
+    Some((&text[..end], rest))
 }
 
 // A measure without its sign: the digits before the mark and the two behind it as one number.
-fn hundredths(size: &[u8], mark: u8) -> NumberRead
-    ensures { answer_of result ≡ size_in mark size.now }
+fn hundredths(size: &[u8], mark: u8) -> Option<u64>
+    ensures { result ≡ size_in mark size.now }
 {
-    let end = two_parts(size, mark);
-    if size.len() <= end {
-        return NumberRead::NoNumber;
-    }
-    let NumberRead::Number(whole) = number(&size[..end], 10, 1, 5) else {
-        return NumberRead::NoNumber;
-    };
-    let NumberRead::Number(rest) = number(&size[end + 1..], 10, 2, 2) else {
-        return NumberRead::NoNumber;
-    };
-    NumberRead::Number(100 * whole + rest)
+    let (before, behind) = two_parts(size, mark)?;
+    let whole = number(before, 10, 1, 5)?;
+    let rest = number(behind, 10, 2, 2)?;
+    Some(100 * whole + rest)
 }
 
 fn is_negative(text: &[u8]) -> bool
     ensures { result ≡ is_negative text.now }
 {
-    if text.len() == 0 {
-        false
-    } else {
-        text[0] == b'-'
-    }
+    text.starts_with(b"-")
 }
 
 // A measure without its sign.
 fn unsigned(text: &[u8]) -> &[u8]
     ensures { result.now ≡ unsigned text.now }
 {
-    if is_negative(text) { &text[1..] } else { text }
+    text.strip_prefix(b"-").unwrap_or(text)
 }
 
 // One sign covers all digits.
-fn signed(size: NumberRead, negative: bool, end: usize) -> MeasureRead
-    requires { SizeFits (answer_of size) }
-    ensures { measure_answer_of result ≡ signed_size negative end (answer_of size) }
+fn signed(size: u64, negative: bool) -> i32
+    requires { size < 10 ^ 7 }
+    ensures { result ≡ signed negative size }
 {
-    let NumberRead::Number(n) = size else {
-        return MeasureRead::NoMeasure;
-    };
-    if negative {
-        return MeasureRead::Measure(-(n as i32), end);
-    }
-    MeasureRead::Measure(n as i32, end)
+    let size = size as i32;
+    if negative { -size } else { size }
 }
 
 // The measure in the part behind one that ends at a place.
-fn measure(text: &[u8], end: usize, separator: u8, mark: u8) -> MeasureRead
-    ensures { MeasureBehind separator mark text.now end (measure_answer_of result) }
+fn measure(text: &[u8], end: usize, separator: u8, mark: u8) -> Option<MeasureRead>
+    ensures { MeasureBehind separator mark text.now end result }
 {
     if text.len() <= end {
-        return MeasureRead::NoMeasure;
+        return None;
     }
     let next = part_end(text, separator, end + 1);
     let part = &text[end + 1..next];
-    signed(hundredths(unsigned(part), mark), is_negative(part), next)
-}
-
-fn no_measures() -> MeasuresRead
-    ensures { result.found ≡ false }
-{
-    MeasuresRead {
-        found: false,
-        measures: [0; 4],
-        end: 0,
-    }
+    let size = hundredths(unsigned(part), mark)?;
+    let value = signed(size, is_negative(part));
+    Some(MeasureRead { value, end: next })
 }
 
 // The measures in the four parts behind one that ends at a place.
-pub fn measures(text: &[u8], end: usize, separator: u8, mark: u8) -> MeasuresRead
+pub fn measures(text: &[u8], end: usize, separator: u8, mark: u8) -> Option<MeasuresRead>
     ensures { MeasuresAt separator mark text.now (parts_behind separator text.now end) result }
 {
-    let MeasureRead::Measure(kg, kg_end) = measure(text, end, separator, mark) else {
-        return no_measures();
-    };
-    let MeasureRead::Measure(hip, hip_end) = measure(text, kg_end, separator, mark) else {
-        return no_measures();
-    };
-    let MeasureRead::Measure(girth, girth_end) = measure(text, hip_end, separator, mark) else {
-        return no_measures();
-    };
-    let MeasureRead::Measure(gain, gain_end) = measure(text, girth_end, separator, mark) else {
-        return no_measures();
-    };
-    MeasuresRead {
-        found: true,
-        measures: [kg, hip, girth, gain],
-        end: gain_end,
-    }
+    let kg = measure(text, end, separator, mark)?;
+    let hip = measure(text, kg.end, separator, mark)?;
+    let girth = measure(text, hip.end, separator, mark)?;
+    let gain = measure(text, girth.end, separator, mark)?;
+    Some(MeasuresRead {
+        measures: [kg.value, hip.value, girth.value, gain.value],
+        end: gain.end,
+    })
 }

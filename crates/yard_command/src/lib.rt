@@ -10,8 +10,11 @@ ghost use Rattle.yard_rules.specs.Line.{letter_n, letter_w, command_in, profile_
 ghost use Rattle.yard_rules.specs.Reply.{add_text, remove_text, search_text};
 ghost use Rattle.yard_rules.specs.Conversation.{areas_after, text_after};
 ghost use Rattle.yard_reply.specs.Put.{Puts};
-ghost use Rattle.yard_command.specs.Lent.{lent};
+ghost use Rattle.yard_command.specs.Lent.{areas_in, SameAreas};
 
+mod lent;
+
+pub use lent::Lent;
 use metric_rules::{Profile, Row};
 use search_rules::Entry;
 use yard_rules::Command;
@@ -52,7 +55,9 @@ fn run_range(
 ) -> usize
     requires { 65 + 37 * length res.old ≤ length out.old }
     ensures res { res.new ≡ result_after_range table.now res.old query radius first_day }
-    ensures text { Puts out.old out.new result (search_text letter_w (range_reply table.now res.old query radius first_day) (result_after_range table.now res.old query radius first_day)) }
+    ensures text { Puts out.old out.new result
+        (search_text letter_w (range_reply table.now res.old query radius first_day)
+        (result_after_range table.now res.old query radius first_day)) }
 {
     let reply = table_range::range(table, res, query, radius, first_day);
     yard_reply::put_searched(out, b'W', reply, res)
@@ -68,34 +73,40 @@ fn run_nearest(
 ) -> usize
     requires { 65 + 37 * length res.old ≤ length out.old }
     ensures res { res.new ≡ result_after_nearest table.now res.old query k first_day }
-    ensures text { Puts out.old out.new result (search_text letter_n (nearest_reply table.now res.old query k first_day) (result_after_nearest table.now res.old query k first_day)) }
+    ensures text { Puts out.old out.new result
+        (search_text letter_n (nearest_reply table.now res.old query k first_day)
+        (result_after_nearest table.now res.old query k first_day)) }
 {
     let reply = table_nearest::nearest(table, res, query, k, first_day);
     yard_reply::put_searched(out, b'N', reply, res)
 }
 
 // A line, as the command that it is.
-pub fn answer(
-    table: &mut [Row],
-    work: &mut [Row],
-    res: &mut [Entry],
-    out: &mut [u8],
-    number: u64,
-    line: &[u8],
-) -> usize
-    requires { (65 + 37 * length res.old ≤ length out.old) × (length line.now < 2 ^ 32) }
-    ensures areas { lent table.new work.new res.new ≡ areas_after (lent table.old work.old res.old) (command_in line.now) (profile_in line.now) }
-    ensures text { Puts out.old out.new result (text_after (lent table.old work.old res.old) number (command_in line.now) (profile_in line.now)) }
+pub fn answer(lent: &mut Lent<'_>, number: u64, line: &[u8]) -> usize
+    requires { length line.now < 2 ^ 32 }
+    ensures same { SameAreas lent.old lent.new }
+    ensures areas { areas_in lent.new ≡ areas_after (areas_in lent.old) (command_in line.now) (profile_in line.now) }
+    ensures text { Puts lent.old.out.now lent.new.out.now result
+        (text_after (areas_in lent.old) number (command_in line.now) (profile_in line.now)) }
 {
-    match yard_line::command(line) {
-        Command::Add(tag, day) => run_add(table, work, out, tag, yard_line::profile(line), day),
-        Command::Remove(tag) => run_remove(table, work, out, tag),
+    let Some(command) = yard_line::command(line) else {
+        return yard_reply::put_one(lent.out, b'?', number);
+    };
+    // A reborrow of its own: the searches only read the table, and the proof has to see that they leave it as it was.
+    let table = &mut *lent.table;
+    match command {
+        Command::Add(tag, day) => {
+            let profile = yard_line::profile(line);
+            run_add(table, lent.work, lent.out, tag, profile, day)
+        }
+        Command::Remove(tag) => run_remove(table, lent.work, lent.out, tag),
         Command::Within(radius, first_day) => {
-            run_range(table, res, out, yard_line::profile(line), radius, first_day)
+            let query = yard_line::profile(line);
+            run_range(table, lent.res, lent.out, query, radius, first_day)
         }
         Command::Nearest(k, first_day) => {
-            run_nearest(table, res, out, yard_line::profile(line), k, first_day)
+            let query = yard_line::profile(line);
+            run_nearest(table, lent.res, lent.out, query, k, first_day)
         }
-        Command::Other => yard_reply::put_one(out, b'?', number),
     }
 }

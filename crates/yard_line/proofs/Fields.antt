@@ -1,6 +1,6 @@
 -- The fields of a line in turn: a number below a bound, a code, the fields behind the second one, the day behind these,
 -- and the command of a letter. Each law has the tests in the order of the code.
-use Prim.Native.Nat.{ℕ, zero, suc, ◌+◌, ◌-◌, ◌^◌, ◌≤◌, ◌<◌}
+use Prim.Native.Nat.{ℕ, suc, ◌+◌, ◌-◌, ◌^◌, ◌≤◌, ◌<◌}
 use mathlib.Core.Path.{◌≡◌, refl, ap, ap₂, sym, subst, ◌∙◌}
 use mathlib.Core.Bool.{Bool, true, false, ◌&&◌, ◌||◌, false≢true}
 use mathlib.Core.List.{List, [], ◌∷◌}
@@ -9,6 +9,10 @@ use lib.Dec.{leb, ltb, eqb}
 use lib.ListN.{length, get_or, take, drop, length-take, length-drop, take-append-drop}
 use lib.Seq.{get_or-drop, drop-drop}
 use borrow.Author.Tests.{eq-eqb, ne_eqb, eqb-true, eqb-false, leb-true, leb-false}
+use Rattle.std.proofs.Common.{Option, Some, None}
+use Rattle.std.specs.Bool.{then_some}
+use Rattle.std.specs.Cmp.Lexicographic.{pointwise}
+use Rattle.std.specs.Option.{IsSome}
 use Rattle.lists.specs.Lists.{every, All}
 use Rattle.lists.proofs.Lists.{all_append, all_take, all_drop}
 use Rattle.lists.proofs.Tests.{and_second, every_all, all_every}
@@ -17,20 +21,15 @@ use Rattle.text_rules.specs.Fields.{is_tag, is_measure, measure_in}
 use Rattle.text_rules.proofs.Digits.{length_passes, numeral_digits, numeral_longest, numeral_shortest}
 use Rattle.text_read.specs.declared.MeasuresRead.{MeasuresRead}
 use Rattle.text_read.specs.Parts.{parts_behind, PartEnd}
-use Rattle.text_read.specs.Answers.{Answer, answer_if}
 use Rattle.text_read.specs.Found.{four_measures, measures_of, MeasuresAt}
 use Rattle.text_read.proofs.Finding.{first_part, next_part, none_behind, some_behind}
-use Rattle.text_read.proofs.Forms.{one_more, none_told, value_told}
-use Rattle.yard_rules.specs.declared.Header.TheVariants as header
+use Rattle.text_read.proofs.Forms.{one_more, none_if, some_if, none_told, some_told}
 use Rattle.yard_rules.specs.declared.Command.{Command}
 use Rattle.yard_rules.specs.declared.Command.TheVariants as command
 use Rattle.yard_rules.specs.Line.{only_byte, is_below, is_number, is_day, is_code, code_in, has_day, has_profile, profile_in, header_in, opens, day_or, command_in, letter_a}
 use Rattle.yard_rules.specs.Line.{letter_n, letter_r, letter_w}
-use Rattle.yard_line.specs.declared.WordRead.{WordRead}
-use Rattle.yard_line.specs.declared.WordRead.TheVariants.{Word, NoWord}
-use Rattle.yard_line.specs.declared.CodeRead.{CodeRead}
 use Rattle.yard_line.specs.declared.ProfileRead.{ProfileRead}
-use Rattle.yard_line.specs.Found.{word_answer_of, word_in, CodeAt, are_profile, profile_of, ProfileAt, day_in, usual_day, day_for, command_by, command_of}
+use Rattle.yard_line.specs.Found.{word_in, code_at, are_profile, profile_of, ProfileAt, day_in, usual_day, day_for, command_by, command_of}
 use Rattle.yard_line.proofs.Lines.{header_by, ended, profile-seven, command_by_lem}
 
 pub fails : (t : Bool) → (t ≡ true → ⊥) → t ≡ false
@@ -46,26 +45,27 @@ two_more n m = one_more (suc n) (suc m) ∙ one_more n m
 
 -- a number below a bound
 module _ (most bound : ℕ) (text : List ℕ) where
-  pub word_by : {s t : Bool} {n : ℕ} → is_numeral 10 1 most text ≡ s → n ≡ numeral 10 text → ltb n bound ≡ t → answer_if (s && t) n ≡ word_in most bound text
+  pub word_by : {s t : Bool} {n : ℕ} → is_numeral 10 1 most text ≡ s → n ≡ numeral 10 text → ltb n bound ≡ t → then_some (s && t) n ≡ word_in most bound text
   unfolding word_in is_below
-  word_by {s} {t} {n} e f g = ap (λ u. answer_if (s && u) n) (sym g) ∙ (λ i. answer_if (sym e i && ltb (f i) bound) (f i))
+  word_by {s} {t} {n} e f g = ap (λ u. then_some (s && u) n) (sym g) ∙ (λ i. then_some (sym e i && ltb (f i) bound) (f i))
 
-module _ (t : Bool) (n : ℕ) where
-  pub no_word : {r : WordRead} → word_answer_of r ≡ answer_if t n → r ≡ NoWord → t ≡ false
-  no_word e f = none_told t n (ap word_answer_of (sym f) ∙ e) refl
+  pub no_word : None ≡ word_in most bound text → is_below most bound text ≡ false
+  unfolding word_in
+  no_word e = none_told _ _ e
 
-  pub a_word : {r : WordRead} {v : ℕ} → word_answer_of r ≡ answer_if t n → r ≡ Word v → (t ≡ true) × (v ≡ n)
-  a_word e f = value_told t n (ap word_answer_of (sym f) ∙ e) refl
+  pub a_word : {n : ℕ} → Some n ≡ word_in most bound text → (is_below most bound text ≡ true) × (n ≡ numeral 10 text)
+  unfolding word_in
+  a_word e = some_told _ _ e
 
 -- the first line
 pub two_by : (line : List ℕ) {x y : List ℕ} {s t : Bool} {n m : ℕ} → parted space line ≡ x ∷ y ∷ [] → is_number x ≡ s → is_number y ≡ t → n ≡ numeral 10 x → m ≡ numeral 10 y
-    → elim (s && t) [ true ↦ header.Of n m | false ↦ header.Other ] ≡ header_in line
+    → elim (s && t) [ true ↦ Some (record { order = n; metric = m }) | false ↦ None ] ≡ header_in line
 unfolding parts_in part_at
 two_by line parts e f g h =
-    (λ i. elim (sym e i && sym f i) [ true ↦ header.Of (g i) (h i) | false ↦ header.Other ])
+    (λ i. elim (sym e i && sym f i) [ true ↦ Some (record { order = g i; metric = h i }) | false ↦ None ])
     ∙ (λ i. elim (is_number (get_or (sym parts i) 0 []) && is_number (get_or (sym parts i) 1 [])) [
-      | true ↦ header.Of (numeral 10 (get_or (sym parts i) 0 [])) (numeral 10 (get_or (sym parts i) 1 []))
-      | false ↦ header.Other
+      | true ↦ Some (record { order = numeral 10 (get_or (sym parts i) 0 []); metric = numeral 10 (get_or (sym parts i) 1 []) })
+      | false ↦ None
     ])
     ∙ header_by line (ap (λ ps. eqb (length ps) 2) parts) refl refl
 
@@ -86,24 +86,34 @@ module _ (text : List ℕ) where
   other_length : (length text ≡ 32 → ⊥) → is_numeral 16 32 32 text ≡ false
   other_length h = fails (is_numeral 16 32 32 text) (λ e. h (omega (arith, numeral_shortest 16 32 32 text e, numeral_longest 16 32 32 text e)))
 
-  pub one_byte : length text ≡ 1 → CodeAt text (record { found = eqb (get_or text 0 0) minus; words = 0 ∷ 0 ∷ [] })
-  unfolding is_code code_in
-  one_byte h = record { found = same; words = λ e. ap (λ t. elim t [ true ↦ 0 ∷ 0 ∷ [] | false ↦ numeral 16 (take 16 text) ∷ numeral 16 (drop 16 text) ∷ [] ]) (sym (ap (λ b. eqb b minus) (sym (only_one h)) ∙ same ∙ e)) }
+  pub no_code_at : is_code text ≡ false → None ≡ code_at text
+  unfolding code_at
+  no_code_at e = none_if _ e
+
+  -- a minus alone
+  minus_alone : pointwise eqb text (minus ∷ []) ≡ eqb (only_byte text) minus
+  unfolding only_byte
+  minus_alone = by text
     where
-      or_false : (t : Bool) → t ≡ (t || false)
-      or_false true = refl
-      or_false false = refl
+      and-true : (t : Bool) → (t && true) ≡ t
+      and-true true = refl
+      and-true false = refl
 
-      same : eqb (get_or text 0 0) minus ≡ is_code text
-      same = or_false (eqb (get_or text 0 0) minus) ∙ ap₂ (λ b t. eqb b minus || t) (only_one h) (sym (other_length (λ e. omega arith)))
+      by : (xs : List ℕ) → pointwise eqb xs (minus ∷ []) ≡ eqb (elim (eqb (length xs) 1) [ true ↦ get_or xs 0 0 | false ↦ 0 ]) minus
+      by [] = refl
+      by (x ∷ []) = and-true (eqb x minus)
+      by (x ∷ y ∷ xs) =
+          and_false (eqb x minus) ∙ ap (λ t. eqb (elim t [ true ↦ x | false ↦ 0 ]) minus) (sym (ne_eqb (suc (suc (length xs))) 1 (λ e. omega arith)))
 
-  pub no_code_at : {r : CodeRead} → r.found ≡ false → is_code text ≡ false → CodeAt text r
-  no_code_at e f = record { found = e ∙ sym f; words = λ g. absurd (false≢true (sym f ∙ g)) }
+  pub minus_told : {r : Bool} {one : List ℕ} → one ≡ minus ∷ [] → r ≡ pointwise eqb text one → eqb (only_byte text) minus ≡ r
+  minus_told e f = sym (f ∙ ap (pointwise eqb text) e ∙ minus_alone)
 
-  module _ (several : length text ≡ 1 → ⊥) where
-    no_minus : only_byte text ≡ minus → ⊥
-    no_minus e = omega (arith, e, only_other several)
+  pub one_minus : eqb (only_byte text) minus ≡ true → Some (0 ∷ 0 ∷ []) ≡ code_at text
+  unfolding code_at is_code code_in
+  one_minus is =
+      some_if (ap (λ t. t || is_numeral 16 32 32 text) is) (ap (λ t. elim t [ true ↦ 0 ∷ 0 ∷ [] | false ↦ numeral 16 (take 16 text) ∷ numeral 16 (drop 16 text) ∷ [] ]) (sym is))
 
+  module _ (no_minus : only_byte text ≡ minus → ⊥) where
     pub wrong-length : (length text ≡ 32 → ⊥) → is_code text ≡ false
     wrong-length h = sym (digits_code no_minus) ∙ other_length h
 
@@ -127,22 +137,18 @@ module _ (text : List ℕ) where
           ∙ all_every (is_digit 16) (drop 16 text) (all_drop (λ x. is_digit 16 x ≡ true) 16 text (every_all (is_digit 16) text (numeral_digits 16 32 32 text f)))))
 
       pub both_halves : {a b : ℕ} → is_numeral 16 16 16 (take 16 text) ≡ true → is_numeral 16 16 16 (drop 16 text) ≡ true → a ≡ numeral 16 (take 16 text) → b ≡ numeral 16 (drop 16 text)
-          → CodeAt text (record { found = true; words = a ∷ b ∷ [] })
-      unfolding code_in
+          → Some (a ∷ b ∷ []) ≡ code_at text
+      unfolding code_at code_in
       both_halves e f g h =
-          record {
-            found =
-                sym
-                (sym (digits_code no_minus)
-                ∙ sym (length_passes 16 32 32 text (omega arith) (omega arith))
-                ∙ all_every (is_digit 16) text (subst (All (λ x. is_digit 16 x ≡ true)) (take-append-drop 16 text)
-                (all_append (λ x. is_digit 16 x ≡ true) (take 16 text) (drop 16 text)
-                (every_all (is_digit 16) (take 16 text) (numeral_digits 16 16 16 (take 16 text) e))
-                (every_all (is_digit 16) (drop 16 text) (numeral_digits 16 16 16 (drop 16 text) f)))));
-            words =
-                λ k. ap₂ (λ a b. a ∷ b ∷ []) g h
-                ∙ ap (λ t. elim t [ true ↦ 0 ∷ 0 ∷ [] | false ↦ numeral 16 (take 16 text) ∷ numeral 16 (drop 16 text) ∷ [] ]) (sym (ne_eqb (only_byte text) minus no_minus));
-          }
+          some_if
+          (sym (digits_code no_minus)
+          ∙ sym (length_passes 16 32 32 text (omega arith) (omega arith))
+          ∙ all_every (is_digit 16) text (subst (All (λ x. is_digit 16 x ≡ true)) (take-append-drop 16 text)
+          (all_append (λ x. is_digit 16 x ≡ true) (take 16 text) (drop 16 text)
+          (every_all (is_digit 16) (take 16 text) (numeral_digits 16 16 16 (take 16 text) e))
+          (every_all (is_digit 16) (drop 16 text) (numeral_digits 16 16 16 (drop 16 text) f)))))
+          (ap₂ (λ a b. a ∷ b ∷ []) g h
+          ∙ ap (λ t. elim t [ true ↦ 0 ∷ 0 ∷ [] | false ↦ numeral 16 (take 16 text) ∷ numeral 16 (drop 16 text) ∷ [] ]) (sym (ne_eqb (only_byte text) minus no_minus)))
 
 -- the fields behind the second: a profile
 no_code : is_code [] ≡ false
@@ -153,38 +159,40 @@ fields_by : (ps : List (List ℕ)) {s t : Bool} → four_measures point ps ≡ s
 unfolding are_profile
 fields_by ps e f = λ i. e i && f i
 
-module _ {line : List ℕ} {ps : List (List ℕ)} where
-  no_profile_at : {r : ProfileRead} → r.found ≡ false → are_profile ps ≡ false → ProfileAt line ps r
-  no_profile_at e f = record { found = e ∙ sym f; profile = λ g. absurd (false≢true (sym f ∙ g)); behind = λ g. absurd (false≢true (sym f ∙ g)) }
+module _ (line : List ℕ) (ps : List (List ℕ)) where
+  pub measures_wrong : four_measures point ps ≡ false → are_profile ps ≡ false
+  measures_wrong f = fields_by ps f refl
 
-  pub measures_wrong : {r : ProfileRead} → r.found ≡ false → four_measures point ps ≡ false → ProfileAt line ps r
-  measures_wrong e f = no_profile_at e (fields_by ps f refl)
-
-  module _ {m : MeasuresRead} (known : MeasuresAt space point line ps m) (four : four_measures point ps ≡ true) where
+  module _ (m : MeasuresRead) (known : MeasuresAt space point line ps (Some m)) where
     fifth : get_or ps 4 [] ≡ get_or (parts_behind space line m.end) 0 []
-    fifth = sym (get_or-drop 4 ps 0 []) ∙ ap (λ qs. get_or qs 0 []) (sym (known.behind four))
+    fifth = sym (get_or-drop 4 ps 0 []) ∙ ap (λ qs. get_or qs 0 []) (sym known.2)
 
-    pub code-missing : {r : ProfileRead} → r.found ≡ false → length line ≤ m.end → ProfileAt line ps r
-    code-missing e h = no_profile_at e (fields_by ps four (ap is_code (fifth ∙ ap (λ qs. get_or qs 0 []) (none_behind space line m.end h)) ∙ no_code))
+    pub code-missing : length line ≤ m.end → are_profile ps ≡ false
+    code-missing h = fields_by ps known.0 (ap is_code (fifth ∙ ap (λ qs. get_or qs 0 []) (none_behind space line m.end h)) ∙ no_code)
 
-    module _ {last : ℕ} (within : m.end < length line) (p : PartEnd space line (m.end + 1) last) where
+    module _ (last : ℕ) (within : m.end < length line) (p : PartEnd space line (m.end + 1) last) where
       abbrev coded : List ℕ
       coded = take (last - (m.end + 1)) (drop (m.end + 1) line)
 
       behind : parts_behind space line m.end ≡ coded ∷ parts_behind space line last
       behind = next_part space line m.end last within p
 
-      pub code_here : {c : CodeRead} → CodeAt coded c
-          → ProfileAt line ps (record { found = c.found; profile = record { measures = m.measures; code = c.words }; end = last })
-      unfolding profile_of
-      code_here k =
-          let here : get_or ps 4 [] ≡ coded = fifth ∙ ap (λ qs. get_or qs 0 []) behind in
-          let same : are_profile ps ≡ is_code coded = fields_by ps four (ap is_code here) in
-          record {
-            found = k.found ∙ sym same;
-            profile = λ e. λ i. record { measures = known.values four i; code = (k.words (sym same ∙ e) ∙ ap code_in (sym here)) i };
-            behind = λ e. ap (drop 1) (sym behind ∙ known.behind four) ∙ drop-drop 1 4 ps;
-          }
+      here : get_or ps 4 [] ≡ coded
+      here = fifth ∙ ap (λ qs. get_or qs 0 []) behind
+
+      pub code_wrong : None ≡ code_at coded → are_profile ps ≡ false
+      unfolding code_at
+      code_wrong e = fields_by ps known.0 (ap is_code here ∙ none_told _ _ e)
+
+      pub code_here : {words : List ℕ} → Some words ≡ code_at coded
+          → ProfileAt line ps (Some (record { profile = record { measures = m.measures; code = words }; end = last }))
+      unfolding code_at profile_of
+      code_here e =
+          let k = some_told _ _ e in (
+            fields_by ps known.0 (ap is_code here ∙ k.0),
+            ap₂ (λ ms ws. record { measures = ms; code = ws }) known.1 (k.1 ∙ ap code_in (sym here)),
+            ap (drop 1) (sym behind ∙ known.2) ∙ drop-drop 1 4 ps,
+          )
 
 -- the day of a line that has none
 pub usual_of_item : (letter : ℕ) → letter ≡ letter_a → 1 ≡ usual_day letter
@@ -197,20 +205,20 @@ usual_of_search letter h = ap (λ t. elim t [ true ↦ 1 | false ↦ 0 ]) (sym (
 
 -- the fields behind a profile: its day
 module _ (line : List ℕ) (end usual : ℕ) where
-  pub no_day : length line ≤ end → word_answer_of (Word usual) ≡ day_in usual (parts_behind space line end)
+  pub no_day : length line ≤ end → Some usual ≡ day_in usual (parts_behind space line end)
   unfolding day_in
   no_day h = ap (day_in usual) (sym (none_behind space line end h))
 
   module _ {last : ℕ} (within : end < length line) (p : PartEnd space line (end + 1) last) where
-    pub more-than-a-day : last < length line → word_answer_of NoWord ≡ day_in usual (parts_behind space line end)
+    pub more-than-a-day : last < length line → None ≡ day_in usual (parts_behind space line end)
     unfolding day_in
     more-than-a-day h = several _ (parts_behind space line last) (some_behind space line last h) ∙ ap (day_in usual) (sym (next_part space line end last within p))
       where
-        several : (text : List ℕ) (qs : List (List ℕ)) → 0 < length qs → word_answer_of NoWord ≡ day_in usual (text ∷ qs)
+        several : (text : List ℕ) (qs : List (List ℕ)) → 0 < length qs → None ≡ day_in usual (text ∷ qs)
         several text [] k = absurd (omega arith)
         several text (q ∷ qs) k = refl
 
-    pub day-here : length line ≤ last → {a : Answer} → a ≡ word_in 5 (2 ^ 16) (take (last - (end + 1)) (drop (end + 1) line))
+    pub day-here : length line ≤ last → {a : Option ℕ} → a ≡ word_in 5 (2 ^ 16) (take (last - (end + 1)) (drop (end + 1) line))
         → a ≡ day_in usual (parts_behind space line end)
     unfolding day_in
     day-here h e =
@@ -222,21 +230,21 @@ module _ (line : List ℕ) (end usual : ℕ) where
 abbrev in_eighth : List (List ℕ) → Bool
 in_eighth qs = eqb (length qs) 8 && is_day (get_or qs 7 [])
 
-abbrev day_by_lem : ℕ → List (List ℕ) → Answer
-day_by_lem usual qs = answer_if (eqb (length qs) 7 || in_eighth qs) (elim (in_eighth qs) [ true ↦ numeral 10 (get_or qs 7 []) | false ↦ usual ])
+abbrev day_by_lem : ℕ → List (List ℕ) → Option ℕ
+day_by_lem usual qs = then_some (eqb (length qs) 7 || in_eighth qs) (elim (in_eighth qs) [ true ↦ numeral 10 (get_or qs 7 []) | false ↦ usual ])
 
 module _ (usual : ℕ) (x y a b c d e : List ℕ) where
   day_by : (qs : List (List ℕ)) → day_in usual qs ≡ day_by_lem usual (x ∷ y ∷ a ∷ b ∷ c ∷ d ∷ e ∷ qs)
-  unfolding day_in word_in answer_if
+  unfolding day_in word_in
   day_by [] = refl
   day_by (text ∷ []) = by (is_day text)
     where
-      by : (t : Bool) → answer_if t (numeral 10 text) ≡ answer_if t (elim t [ true ↦ numeral 10 text | false ↦ usual ])
+      by : (t : Bool) → then_some t (numeral 10 text) ≡ then_some t (elim t [ true ↦ numeral 10 text | false ↦ usual ])
       by true = refl
       by false = refl
   day_by (text ∷ next ∷ qs) =
       let n : ℕ = suc (suc (suc (suc (suc (suc (suc (suc (suc (length qs))))))))) in
-      ap₂ (λ s t. answer_if (s || t && is_day text) (elim (t && is_day text) [ true ↦ numeral 10 text | false ↦ usual ]))
+      ap₂ (λ s t. then_some (s || t && is_day text) (elim (t && is_day text) [ true ↦ numeral 10 text | false ↦ usual ]))
       (sym (ne_eqb n 7 (λ k. omega arith))) (sym (ne_eqb n 8 (λ k. omega arith)))
 
 -- a line whose third field begins ps
@@ -257,17 +265,17 @@ module _ (line : List ℕ) {x y : List ℕ} {ps : List (List ℕ)} (parts : part
   are_profile_lem e = and_second (ended line) (are_profile ps) (sym has_profile_lem ∙ e)
 
   -- behind a profile stands a day or nothing, or else the line is of another form
-  day_behind : (usual : ℕ) → are_profile ps ≡ true → day_in usual (drop 5 ps) ≡ answer_if (has_profile line) (day_or usual line)
+  day_behind : (usual : ℕ) → are_profile ps ≡ true → day_in usual (drop 5 ps) ≡ then_some (has_profile line) (day_or usual line)
   unfolding are_profile day_or has_day parts_in part_at
   day_behind usual e =
       go ps parts (and_second (four_measures point ps) (is_code (get_or ps 4 [])) e)
-      ∙ ap (λ t. answer_if t (day_or usual line)) (whole (ended line) ∙ ap (λ t. ended line && t) (sym e) ∙ sym has_profile_lem)
+      ∙ ap (λ t. then_some t (day_or usual line)) (whole (ended line) ∙ ap (λ t. ended line && t) (sym e) ∙ sym has_profile_lem)
     where
       whole : (t : Bool) → t ≡ (t && true)
       whole true = refl
       whole false = refl
 
-      go : (qs : List (List ℕ)) → parted space line ≡ x ∷ y ∷ qs → is_code (get_or qs 4 []) ≡ true → day_in usual (drop 5 qs) ≡ answer_if (ended line) (day_or usual line)
+      go : (qs : List (List ℕ)) → parted space line ≡ x ∷ y ∷ qs → is_code (get_or qs 4 []) ≡ true → day_in usual (drop 5 qs) ≡ then_some (ended line) (day_or usual line)
       go [] f g = absurd (false≢true (sym no_code ∙ g))
       go (a ∷ []) f g = absurd (false≢true (sym no_code ∙ g))
       go (a ∷ b ∷ []) f g = absurd (false≢true (sym no_code ∙ g))
@@ -302,12 +310,12 @@ module _ (line : List ℕ) {end : ℕ} (p : PartEnd space line 0 end) where
 -- what a letter asks for
 module _ (letter : ℕ) (ps : List (List ℕ)) where
   for_by : {r p : Bool} → eqb letter letter_r ≡ r → are_profile ps ≡ p
-      → elim r [ true ↦ answer_if (eqb (length ps) 0) 0 | false ↦ elim p [ true ↦ day_in (usual_day letter) (drop 5 ps) | false ↦ word_answer_of NoWord ] ] ≡ day_for letter ps
+      → elim r [ true ↦ then_some (eqb (length ps) 0) 0 | false ↦ elim p [ true ↦ day_in (usual_day letter) (drop 5 ps) | false ↦ None ] ] ≡ day_for letter ps
   unfolding day_for
-  for_by e f = λ i. elim (sym e i) [ true ↦ answer_if (eqb (length ps) 0) 0 | false ↦ elim (sym f i) [ true ↦ day_in (usual_day letter) (drop 5 ps) | false ↦ word_answer_of NoWord ] ]
+  for_by e f = λ i. elim (sym e i) [ true ↦ then_some (eqb (length ps) 0) 0 | false ↦ elim (sym f i) [ true ↦ day_in (usual_day letter) (drop 5 ps) | false ↦ None ] ]
 
   module _ (no-removal : letter ≡ letter_r → ⊥) where
-    pub no-profile-for : are_profile ps ≡ false → word_answer_of NoWord ≡ day_for letter ps
+    pub no-profile-for : are_profile ps ≡ false → None ≡ day_for letter ps
     no-profile-for e = for_by (ne_eqb letter letter_r no-removal) e
 
     pub profile-for : are_profile ps ≡ true → day_in (usual_day letter) (drop 5 ps) ≡ day_for letter ps
@@ -317,16 +325,15 @@ module _ (letter : ℕ) (line : List ℕ) (end : ℕ) (removal : letter ≡ lett
   abbrev after : List (List ℕ)
   after = parts_behind space line end
 
-  removal_by : {t : Bool} → eqb (length after) 0 ≡ t → answer_if t 0 ≡ day_for letter after
-  removal_by e = ap (λ t. answer_if t 0) (sym e) ∙ for_by letter after (eq-eqb letter letter_r removal) refl
+  removal_by : {t : Bool} → eqb (length after) 0 ≡ t → then_some t 0 ≡ day_for letter after
+  removal_by e = ap (λ t. then_some t 0) (sym e) ∙ for_by letter after (eq-eqb letter letter_r removal) refl
 
-  pub nothing_more : length line ≤ end → word_answer_of (Word 0) ≡ day_for letter after
-  unfolding answer_if
-  nothing_more h = removal_by (eq-eqb (length after) 0 (ap length (none_behind space line end h)))
-
-  pub something_more : end < length line → word_answer_of NoWord ≡ day_for letter after
-  unfolding answer_if
-  something_more h = removal_by (ne_eqb (length after) 0 (λ f. omega (arith, f, some_behind space line end h)))
+  pub removal_day : then_some (leb (length line) end) 0 ≡ day_for letter after
+  removal_day = by (leb (length line) end) refl
+    where
+      by : (t : Bool) → leb (length line) end ≡ t → then_some t 0 ≡ day_for letter after
+      by true e = removal_by (eq-eqb (length after) 0 (ap length (none_behind space line end (leb-true (length line) end e))))
+      by false e = removal_by (ne_eqb (length after) 0 (λ f. omega (arith, f, some_behind space line end (leb-false (length line) end e))))
 
 -- the command of a letter
 other_letter : (letter other : ℕ) (t : Bool) → (letter ≡ other → ⊥) → (eqb letter other && t) ≡ false
@@ -363,12 +370,12 @@ module _ (letter : ℕ) (text : List ℕ) (day : ℕ) where
         (this_letter letter letter_r e f) value
 
   module _ (no_within : letter ≡ letter_w → ⊥) (no-nearest : letter ≡ letter_n → ⊥) where
-    pub no-tag-is : is_tag text ≡ false → command.Other ≡ command_of letter text day
+    pub no-tag-is : is_tag text ≡ false → None ≡ command_of letter text day
     no-tag-is e =
         of_by (ap (λ t. eqb letter letter_a && t) e ∙ and_false (eqb letter letter_a)) (other_letter letter letter_w _ no_within) (other_letter letter letter_n _ no-nearest)
         (ap (λ t. eqb letter letter_r && t) e ∙ and_false (eqb letter letter_r)) refl
 
-    pub neither-is : (letter ≡ letter_a → ⊥) → (letter ≡ letter_r → ⊥) → command.Other ≡ command_of letter text day
+    pub neither-is : (letter ≡ letter_a → ⊥) → (letter ≡ letter_r → ⊥) → None ≡ command_of letter text day
     neither-is h k =
         of_by (other_letter letter letter_a _ h) (other_letter letter letter_w _ no_within) (other_letter letter letter_n _ no-nearest) (other_letter letter letter_r _ k) refl
 
@@ -380,20 +387,20 @@ first_byte (b ∷ bs) h = refl
 
 -- a later line
 module _ (line : List ℕ) where
-  other_command : has_profile line ≡ false → opens letter_r is_tag line ≡ false → command.Other ≡ command_in line
+  other_command : has_profile line ≡ false → opens letter_r is_tag line ≡ false → None ≡ command_in line
   other_command e r =
-      ap (λ t. elim t as (λ _. Command) [ true ↦ command.Remove (numeral 10 (part_at space line 1)) | false ↦ command.Other ]) (sym (and_false (eqb (parts_in space line) 2)))
+      ap (λ t. elim t as (λ _. Option Command) [ true ↦ Some (command.Remove (numeral 10 (part_at space line 1))) | false ↦ None ]) (sym (and_false (eqb (parts_in space line) 2)))
       ∙ command_by_lem line e refl refl refl refl r
 
   none_open : opens letter_a is_tag line ≡ false → opens letter_w is_number line ≡ false → opens letter_n is_number line ≡ false → opens letter_r is_tag line ≡ false
-      → command.Other ≡ command_in line
+      → None ≡ command_in line
   none_open a w n r = by (has_profile line) refl
     where
-      by : (t : Bool) → has_profile line ≡ t → command.Other ≡ command_in line
+      by : (t : Bool) → has_profile line ≡ t → None ≡ command_in line
       by true e = command_by_lem line e a w n refl refl
       by false e = other_command e r
 
-  pub long_letter : {end : ℕ} → PartEnd space line 0 end → (end ≡ 1 → ⊥) → command.Other ≡ command_in line
+  pub long_letter : {end : ℕ} → PartEnd space line 0 end → (end ≡ 1 → ⊥) → None ≡ command_in line
   unfolding opens part_at
   long_letter {end} p h = none_open (closed letter_a is_tag (omega arith)) (closed letter_w is_number (omega arith)) (closed letter_n is_number (omega arith)) (closed letter_r is_tag (omega arith))
     where
@@ -403,7 +410,7 @@ module _ (line : List ℕ) where
       closed : (b : ℕ) (form : List ℕ → Bool) → 0 < b → opens b form line ≡ false
       closed b form l = other_letter (only_byte (part_at space line 0)) b (form (part_at space line 1)) (λ e. omega (arith, letter, e))
 
-  pub one_field : {end : ℕ} → PartEnd space line 0 end → length line ≤ end → command.Other ≡ command_in line
+  pub one_field : {end : ℕ} → PartEnd space line 0 end → length line ≤ end → None ≡ command_in line
   unfolding parts_in
   one_field {end} p h =
       let one : parts_in space line ≡ 1 = ap length (first_part space line end p ∙ ap (λ ps. take end line ∷ ps) (none_behind space line end h)) in
@@ -427,12 +434,13 @@ module _ (line : List ℕ) where
     not_opened l form h = opens_as l form ∙ other_letter b l (form y) h
 
     -- what the code makes of the day that it finds
-    abbrev told : Answer → Command
-    told a = elim a.refusal [ zero ↦ command_of b y a.number | suc n ↦ command.Other ]
+    abbrev told : Option ℕ → Option Command
+    told None = None
+    told (Some day) = command_of b y day
 
     -- a removal has a tag and nothing behind it
-    removed : b ≡ letter_r → (t : Bool) → eqb (length ps) 0 ≡ t → told (answer_if t 0) ≡ command_in line
-    unfolding answer_if parts_in
+    removed : b ≡ letter_r → (t : Bool) → eqb (length ps) 0 ≡ t → told (then_some t 0) ≡ command_in line
+    unfolding parts_in
     removed f true e =
         let two : parts_in space line ≡ 2 = ap length parts ∙ ap (λ n. suc (suc n)) (eqb-true (length ps) 0 e) in
         sym (remove-is b y 0 refl f refl)
@@ -440,22 +448,21 @@ module _ (line : List ℕ) where
         ∙ command_by_lem line (fails (has_profile line) (λ k. omega (arith, two, profile-seven line k))) refl refl refl (count ∙ e) (opens_as letter_r is_tag ∙ this_letter b letter_r f refl)
     removed f false e = by (has_profile line) refl
       where
-        by : (p : Bool) → has_profile line ≡ p → command.Other ≡ command_in line
+        by : (p : Bool) → has_profile line ≡ p → None ≡ command_in line
         by true k =
             command_by_lem line k (not_opened letter_a is_tag (λ l. omega arith)) (not_opened letter_w is_number (λ l. omega arith)) (not_opened letter_n is_number (λ l. omega arith)) refl
             refl
         by false k = command_by_lem line k refl refl refl (count ∙ e) refl
 
     module _ (no-removal : b ≡ letter_r → ⊥) where
-      day-for : day_for b ps ≡ answer_if (has_profile line) (day_or (usual_day b) line)
-      unfolding answer_if
+      day-for : day_for b ps ≡ then_some (has_profile line) (day_or (usual_day b) line)
       day-for = by (are_profile ps) refl
         where
-          by : (t : Bool) → are_profile ps ≡ t → day_for b ps ≡ answer_if (has_profile line) (day_or (usual_day b) line)
+          by : (t : Bool) → are_profile ps ≡ t → day_for b ps ≡ then_some (has_profile line) (day_or (usual_day b) line)
           by true e = sym (profile-for b ps no-removal e) ∙ day_behind line parts (usual_day b) e
           by false e =
               sym (no-profile-for b ps no-removal e)
-              ∙ ap (λ t. answer_if t (day_or (usual_day b) line)) (sym (has_profile_lem line parts ∙ ap (λ t. ended line && t) e ∙ and_false (ended line)))
+              ∙ ap (λ t. then_some t (day_or (usual_day b) line)) (sym (has_profile_lem line parts ∙ ap (λ t. ended line && t) e ∙ and_false (ended line)))
 
       -- an item's day, or the first day of a search
       dated : has_profile line ≡ true → command_of b y (day_or (usual_day b) line) ≡ command_in line
@@ -474,15 +481,19 @@ module _ (line : List ℕ) where
               ∙ ap (λ v. command_by false (eqb b letter_w && is_number y) (eqb b letter_n && is_number y) false v (day_or 0 line)) second
               ∙ command_by_lem line e (not_opened letter_a is_tag (eqb-false b letter_a f)) (opens_as letter_w is_number) (opens_as letter_n is_number) refl refl
 
-      serves : (t : Bool) → has_profile line ≡ t → told (answer_if t (day_or (usual_day b) line)) ≡ command_in line
-      unfolding answer_if
+      serves : (t : Bool) → has_profile line ≡ t → told (then_some t (day_or (usual_day b) line)) ≡ command_in line
       serves true e = dated e
       serves false e = other_command e (not_opened letter_r is_tag no-removal)
 
     -- the grammar's choice, by the tests that the code makes
-    pub whole_is : (a : Answer) → a ≡ day_for b ps → told a ≡ command_in line
+    pub whole_is : (a : Option ℕ) → a ≡ day_for b ps → told a ≡ command_in line
     whole_is a e = by (eqb b letter_r) refl
       where
         by : (t : Bool) → eqb b letter_r ≡ t → told a ≡ command_in line
         by true f = ap told (e ∙ sym (for_by b ps f refl)) ∙ removed (eqb-true b letter_r f) (eqb (length ps) 0) refl
         by false f = ap told (e ∙ day-for (eqb-false b letter_r f)) ∙ serves (eqb-false b letter_r f) (has_profile line) refl
+
+-- a profile that is there is found
+pub some_profile : (line : List ℕ) (ps : List (List ℕ)) (r : Option ProfileRead) → are_profile ps ≡ true → ProfileAt line ps r → IsSome r
+some_profile line ps None e h = absurd (false≢true (sym h ∙ e))
+some_profile line ps (Some r) e h = refl

@@ -1,3 +1,3 @@
-pub mod Lines
 pub mod Fields
+pub mod Lines
 pub mod Longer

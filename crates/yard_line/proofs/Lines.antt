@@ -6,8 +6,8 @@ use mathlib.Core.List.{List}
 use native.Mathlib.Omega.{arith}
 use lib.Dec.{eqb}
 use borrow.Author.Tests.{eqb-true}
+use Rattle.std.proofs.Common.{Option, Some, None}
 use Rattle.lists.proofs.Tests.{and_first, and_second}
-use Rattle.yard_rules.specs.declared.Header.TheVariants as header
 use Rattle.yard_rules.specs.declared.Command.{Command}
 use Rattle.yard_rules.specs.declared.Command.TheVariants as command
 use Rattle.text_rules.specs.Text.{space, point, parts_in, numeral}
@@ -23,11 +23,11 @@ module _ (line : List ℕ) where
     opens-form e = and_second (eqb (only_byte (field line 0)) letter) (form (field line 1)) e
 
   pub header_by : {s t u : Bool} → eqb (parts_in space line) 2 ≡ s → is_number (field line 0) ≡ t → is_number (field line 1) ≡ u
-      → elim ((s && t) && u) [ true ↦ header.Of (numeral 10 (field line 0)) (numeral 10 (field line 1)) | false ↦ header.Other ] ≡ header_in line
+      → elim ((s && t) && u) [ true ↦ Some (record { order = numeral 10 (field line 0); metric = numeral 10 (field line 1) }) | false ↦ None ] ≡ header_in line
   unfolding header_in
   header_by e f g = λ i. elim ((sym e i && sym f i) && sym g i) [
-    | true ↦ header.Of (numeral 10 (field line 0)) (numeral 10 (field line 1))
-    | false ↦ header.Other
+    | true ↦ Some (record { order = numeral 10 (field line 0); metric = numeral 10 (field line 1) })
+    | false ↦ None
   ]
 
   -- what stands behind a profile: nothing, or a day
@@ -82,19 +82,19 @@ module _ (line : List ℕ) where
     unfolding has_profile
     code-6 = and_second ((((ended && m 2) && m 3) && m 4) && m 5) (is_code (field line 6)) e
 
-  abbrev pub chosen : Bool → Bool → Bool → Bool → Bool → Bool → Command
+  abbrev pub chosen : Bool → Bool → Bool → Bool → Bool → Bool → Option Command
   chosen p a w n two r =
       elim p [
         | true ↦
             elim a [
-              | true ↦ command.Add (numeral 10 (field line 1)) (day_or 1 line)
+              | true ↦ Some (command.Add (numeral 10 (field line 1)) (day_or 1 line))
               | false ↦
                   elim w [
-                    | true ↦ command.Within (numeral 10 (field line 1)) (day_or 0 line)
-                    | false ↦ elim n [ true ↦ command.Nearest (numeral 10 (field line 1)) (day_or 0 line) | false ↦ command.Other ]
+                    | true ↦ Some (command.Within (numeral 10 (field line 1)) (day_or 0 line))
+                    | false ↦ elim n [ true ↦ Some (command.Nearest (numeral 10 (field line 1)) (day_or 0 line)) | false ↦ None ]
                   ]
             ]
-        | false ↦ elim (two && r) [ true ↦ command.Remove (numeral 10 (field line 1)) | false ↦ command.Other ]
+        | false ↦ elim (two && r) [ true ↦ Some (command.Remove (numeral 10 (field line 1))) | false ↦ None ]
       ]
 
   pub command_by_lem : {p a w n two r : Bool} → has_profile line ≡ p → opens letter_a is_tag line ≡ a → opens letter_w is_number line ≡ w

@@ -9,10 +9,9 @@ use lib.Dec.{ltb, eqb}
 use lib.ListN.{length, drop, length-drop, drop_of_length-le}
 use lib.Seq.{drop-cons}
 use borrow.Author.Tests.{eqb-true, eqb-false}
+use Rattle.std.proofs.Common.{None}
 use Rattle.lists.specs.Lists.{total}
 use Rattle.lists.proofs.Tests.{and_first, and_second}
-use Rattle.yard_rules.specs.declared.Header.TheVariants as header
-use Rattle.yard_rules.specs.declared.Command.TheVariants as command
 use Rattle.text_rules.specs.Text.{space, point, minus, onto, parted, part_at, parts_in, is_numeral, numeral}
 use Rattle.text_rules.specs.Fields.{is_tag, is_measure, unsigned, is_negative}
 use Rattle.yard_rules.specs.Line.{field, only_byte, is_below, is_number, is_code, has_day, has_profile, header_in, opens, command_in, letter_a, letter_n, letter_r}
@@ -161,10 +160,10 @@ module _ (line : List ℕ) (long : 96 < length line) where
       (λ e. profile_long p (letter_short letter form h e) (short (field line 1) (opens-form line letter form e)))
 
   -- RULES 18.7: a line may be of any length; one of more than 96 bytes is no command, and no header
-  pub long_command : command_in line ≡ command.Other
+  pub long_command : command_in line ≡ None
   long_command = by (has_profile line) refl
     where
-      unprofiled : (t : Bool) → eqb (parts_in space line) 2 ≡ t → has_profile line ≡ false → command_in line ≡ command.Other
+      unprofiled : (t : Bool) → eqb (parts_in space line) 2 ≡ t → has_profile line ≡ false → command_in line ≡ None
       unprofiled false e p = sym (command_by_lem line p refl refl refl e refl)
       unprofiled true e p =
           sym
@@ -178,7 +177,7 @@ module _ (line : List ℕ) (long : 96 < length line) where
             tag_short (field line 1) (opens-form line letter_r is_tag o),
           ))))
 
-      by : (t : Bool) → has_profile line ≡ t → command_in line ≡ command.Other
+      by : (t : Bool) → has_profile line ≡ t → command_in line ≡ None
       by true p =
           sym
           (command_by_lem line p
@@ -189,10 +188,10 @@ module _ (line : List ℕ) (long : 96 < length line) where
           refl)
       by false p = unprofiled (eqb (parts_in space line) 2) refl p
 
-  pub long_header : header_in line ≡ header.Other
+  pub long_header : header_in line ≡ None
   long_header = by (eqb (parts_in space line) 2) refl (is_number (field line 0)) refl
     where
-      by : (t : Bool) → eqb (parts_in space line) 2 ≡ t → (u : Bool) → is_number (field line 0) ≡ u → header_in line ≡ header.Other
+      by : (t : Bool) → eqb (parts_in space line) 2 ≡ t → (u : Bool) → is_number (field line 0) ≡ u → header_in line ≡ None
       by false e u f = sym (header_by line e refl refl)
       by true e false f = sym (header_by line e f refl)
       by true e true f =

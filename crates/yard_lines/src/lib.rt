@@ -4,66 +4,41 @@
 ghost use Rattle.std.specs.Prelude.{List, [], ◌∷◌, ◌++◌, ℕ, ◌≤◌, length};
 ghost use Rattle.yard_lines.specs.Held.{Holds, Gathers};
 
-// How much of a line is held, and whether it is longer than the area.
-#[derive(Clone, Copy)]
-pub struct Held {
-    pub length: usize,
-    pub over: bool,
-}
-
-// One byte more of the line.
-fn hold(area: &mut [u8], held: Held, b: u8) -> Held
+// One byte more of the line. What is held of it is a number of bytes, and none where the line is longer than the area.
+fn hold(area: &mut [u8], held: Option<usize>, b: u8) -> Option<usize>
     ensures { (line : List ℕ) → Holds area.old held line → Holds area.new result (line ++ (b ∷ [])) }
 {
-    let at = held.length;
-    if held.over {
-        return held;
-    }
+    let at = held?;
     if at < area.len() {
         area[at] = b;
-        return Held {
-            length: at + 1,
-            over: false,
-        };
-    }
-    Held {
-        length: at,
-        over: true,
+        Some(at + 1)
+    } else {
+        None
     }
 }
 
-// A line so far, and the place in the piece where its line feed stands or the piece ends.
+// What is held of a line so far, and the place in the piece where its line feed stands or the piece ends.
 #[derive(Clone, Copy)]
 pub struct Gathered {
-    pub length: usize,
-    pub over: bool,
+    pub held: Option<usize>,
     pub end: usize,
 }
 
 // The bytes of a piece from a place up to a line feed or to its end, held after what is held already.
-pub fn gather(area: &mut [u8], held: Held, piece: &[u8], from: usize) -> Gathered
+pub fn gather(area: &mut [u8], held: Option<usize>, piece: &[u8], from: usize) -> Gathered
     requires { from ≤ length piece.now }
     ensures { Gathers area.old held piece.now from area.new result }
 {
-    let mut length = held.length;
-    let mut over = held.over;
-    let mut i = from;
-    while i < piece.len() {
+    let mut held = held;
+    // By places, as the place of the line feed is the reply.
+    for i in from..piece.len() {
         if piece[i] == b'\n' {
-            return Gathered {
-                length,
-                over,
-                end: i,
-            };
+            return Gathered { held, end: i };
         }
-        let more = hold(area, Held { length, over }, piece[i]);
-        length = more.length;
-        over = more.over;
-        i += 1;
+        held = hold(area, held, piece[i]);
     }
     Gathered {
-        length,
-        over,
-        end: i,
+        held,
+        end: piece.len(),
     }
 }

@@ -1,2 +1,2 @@
 mod Widths
-mod Runs
+pub mod Runs

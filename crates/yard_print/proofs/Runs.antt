@@ -1,11 +1,12 @@
--- Runs of stores: two that adjoin are one, and the last of a run may go first.
-use Prim.Native.Nat.{ℕ, suc, ◌+◌, ◌/◌, ◌%◌, ◌≤◌, ◌<◌}
+-- Runs of stores: two that adjoin are one, the last of a run may go first, and one in the rest of an area is one in it.
+use Prim.Native.Nat.{ℕ, suc, ◌+◌, ◌-◌, ◌/◌, ◌%◌, ◌≤◌, ◌<◌}
 use mathlib.Core.Path.{◌≡◌, refl, ap, sym, ◌∙◌}
 use mathlib.Core.List.{List, [], ◌∷◌, ◌++◌, append_assoc, append-nil}
 use native.Mathlib.Omega.{arith}
 use native.Mathlib.Numerals.{add-one}
-use lib.ListN.{length, set, get_or, take, length-append}
-use lib.Seq.{sets, take-suc, take_all}
+use borrow.Rule.Slice.PartMut.{put_mid}
+use lib.ListN.{length, set, get_or, take, drop, length-append, length-drop, drop_of_length-le}
+use lib.Seq.{sets, sets-eq, take-suc, take_all, drop-drop, length-take-le}
 use Rattle.tree_rules.proofs.Stores.{sets_more, sets_apart}
 use Rattle.text_rules.specs.Text.{digits, decimal, space, line_feed}
 use Rattle.search_rules.specs.Range.{Entry}
@@ -16,10 +17,42 @@ sets_last : (l : List ℕ) (i j : ℕ) (xs : List ℕ) (d : ℕ) → j ≡ i + l
 sets_last l i j xs d e = sets_apart l i j xs (d ∷ []) (omega arith) ∙ sets_more l i j xs (d ∷ []) e
 
 -- a digit stored leaves the digits before it to store
-pub digit_first : (l : List ℕ) (at i j n : ℕ) → i ≡ suc j → sets (set l (at + j) (48 + n % 10)) at (digits j (n / 10)) ≡ sets l at (digits i n)
+pub digit_first : (l : List ℕ) (i j n : ℕ) → i ≡ suc j → sets (set l j (48 + n % 10)) 0 (digits j (n / 10)) ≡ sets l 0 (digits i n)
 unfolding digits
-digit_first l at i j n e =
-    sets_last l at (at + j) (digits j (n / 10)) (48 + n % 10) (omega (arith, length_digits j (n / 10))) ∙ ap (λ k. sets l at (digits k n)) (sym e)
+digit_first l i j n e =
+    sets_last l 0 j (digits j (n / 10)) (48 + n % 10) (omega (arith, length_digits j (n / 10))) ∙ ap (λ k. sets l 0 (digits k n)) (sym e)
+
+-- a run from the start, and what is behind it
+pub front_put : (l xs : List ℕ) (n : ℕ) → n ≡ length xs → n ≤ length l → xs ++ drop n l ≡ sets l 0 xs
+front_put l xs n e h =
+    let all : n ≡ 0 + length xs = omega arith in
+    ap (λ k. xs ++ drop k l) all ∙ sym (sets-eq xs l 0 (omega (arith, e, h)))
+
+-- the digits that fill the front of an area
+pub front_digits : (l : List ℕ) (w n : ℕ) {part : List ℕ} → w ≤ length l → part ≡ digits (length (take w l)) n → part ++ drop w l ≡ sets l 0 (digits w n)
+front_digits l w n h e =
+    ap (λ p. p ++ drop w l) (e ∙ ap (λ k. digits k n) (length-take-le w l h)) ∙ front_put l (digits w n) w (sym (length_digits w n)) h
+
+-- a run that fills an area
+pub filled : (l xs : List ℕ) → length l ≡ length xs → sets l 0 xs ≡ xs
+filled l xs e = sym (front_put l xs (length l) e (omega arith)) ∙ ap (λ r. xs ++ r) (drop_of_length-le l {i = length l} (omega arith)) ∙ append-nil xs
+
+-- a run at the start of the rest of an area
+pub rest_put : (l xs : List ℕ) (at : ℕ) {part : List ℕ} → at + length xs ≤ length l → part ≡ sets (take (length l - at) (drop at l)) 0 xs
+    → put_mid at (length l - at) l part ≡ sets l at xs
+rest_put l xs at {part} h e =
+    let rest : List ℕ = drop at l in
+    let some : length xs ≤ length rest = omega (arith, length-drop at l) in
+    let run : part ≡ xs ++ drop (at + length xs) l =
+    e
+    ∙ ap (λ r. sets r 0 xs) (take_all (length l - at) rest (omega (arith, length-drop at l)))
+    ∙ sym (front_put rest xs (length xs) refl some)
+    ∙ ap (λ r. xs ++ r) (drop-drop (length xs) at l) in
+    ap (put_mid at (length l - at) l) run
+    ∙ ap (λ r. take at l ++ ((xs ++ drop (at + length xs) l) ++ r)) (drop_of_length-le rest {i = length l - at} (omega (arith, length-drop at l)))
+    ∙ ap (λ r. take at l ++ r) (append-nil (xs ++ drop (at + length xs) l))
+    ∙ sym (append_assoc (take at l) xs (drop (at + length xs) l))
+    ∙ sym (sets-eq xs l at h)
 
 -- numbers printed one after the other
 pub spaced_more : (xs ys : List ℕ) → spaced (xs ++ ys) ≡ spaced xs ++ spaced ys

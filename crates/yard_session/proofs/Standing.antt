@@ -2,7 +2,7 @@
 -- pending line after it.
 use Prim.Native.Nat.{ℕ, zero, suc, ◌+◌, ◌≤◌, ◌<◌}
 use mathlib.Core.Path.{◌≡◌, refl, ap, sym, subst, ◌∙◌}
-use mathlib.Core.Bool.{true, false, false≢true}
+use mathlib.Core.Bool.{true, false}
 use mathlib.Core.List.{List, [], ◌∷◌, ◌++◌, append-nil}
 use native.Mathlib.Omega.{arith}
 use native.Mathlib.Numerals.{add-one}
@@ -10,12 +10,12 @@ use lib.Dec.{eqb}
 use lib.ListN.{length, take, drop, length-take}
 use lib.Seq.{sets}
 use borrow.Author.Tests.{ne_eqb}
+use Rattle.std.proofs.Common.{Option, Some, None, min, unwrap_or}
 use Rattle.yard_rules.specs.declared.Stage.{Stage}
 use Rattle.yard_rules.specs.declared.Stage.TheVariants as stage
 use Rattle.text_rules.specs.Text.{line_feed}
 use Rattle.yard_rules.specs.Conversation.{Areas, Yard, LineOutcome, line_outcome, after, after_lines, printed}
 use Rattle.text_rules.proofs.Parts.{Free}
-use Rattle.yard_lines.specs.declared.Held.{Held}
 use Rattle.yard_lines.specs.declared.Gathered.{Gathered}
 use Rattle.yard_lines.specs.Held.{until_feed, Holds, Gathers}
 use Rattle.yard_lines.specs.Pieces.{some_left}
@@ -29,25 +29,28 @@ use Rattle.yard_session.specs.Fed.{Midway, begun, fed, fed_text, last_of, last_l
 use Rattle.yard_session.specs.Matches.{AnsweredAs, Matches, Takes, Ends}
 use Rattle.yard_session.proofs.Feeding.{fed_both, text_both, fed_free, text_free, fed_feed, text_feed, stretch_feed, stretch_end}
 
-nothing_held : (area : List ℕ) → Holds area (record { length = 0; over = false }) []
-nothing_held area = record { room = omega arith; whole = λ e. refl; longer = λ e. absurd (false≢true e) }
+nothing_held : (area : List ℕ) → Holds area (Some 0) []
+nothing_held area = (omega arith, refl)
 
 -- before the first byte
-pub begins : (a : Areas) (area : List ℕ) → Matches (begun a) a area (record { stage = stage.Waiting; number = 1; length = 0; over = false; from = 0; printed = 0 })
+pub begins : (a : Areas) (area : List ℕ) → Matches (begun a) a area (record { stage = stage.Waiting; number = 1; held = Some 0; from = 0; printed = 0 })
 unfolding begun
 begins a area = record { areas_are = refl; stage_is = refl; number_is = refl; line_is = nothing_held area }
 
 -- the line that is held
-pub long_answered : {area line : List ℕ} {h : Held} → 96 ≤ length area → h.over ≡ true → Holds area h line → AnsweredAs [] line
-long_answered {line = line} l e k a number s = sym (long_outcome a number s line (omega (arith, k.longer e)))
-
-pub whole_answered : {area line : List ℕ} {h : Held} → h.over ≡ false → Holds area h line → AnsweredAs (take h.length area) line
-whole_answered e k a number s = ap (line_outcome a number s) (k.whole e)
+pub held_answered : (area : List ℕ) (held : Option ℕ) (line : List ℕ) → 96 ≤ length area → Holds area held line
+    → AnsweredAs (take (min (unwrap_or held 0) (length area)) area) line
+held_answered area None line l k a number s =
+    let none : min 0 (length area) ≡ 0 = omega arith in
+    ap (λ n. line_outcome a number s (take n area)) none ∙ sym (long_outcome a number s line (omega arith))
+held_answered area (Some n) line l k a number s =
+    let all : min n (length area) ≡ n = omega arith in
+    ap (λ n. line_outcome a number s (take n area)) all ∙ ap (line_outcome a number s) k.1
 
 -- a line feed
 pub line_taken : {m : Midway} {areas : Areas} {area : List ℕ} {at : Place} (line : List ℕ) (areas' : Areas) (out later : List ℕ) (r : Stepped) (next : ℕ)
     → Matches m areas area at → AnsweredAs line m.pending → StepLeaves (line_outcome areas at.number at.stage line) areas' out later r
-    → Takes m (line_feed ∷ []) areas' area out later (record { stage = r.stage; number = at.number + 1; length = 0; over = false; from = next; printed = r.length })
+    → Takes m (line_feed ∷ []) areas' area out later (record { stage = r.stage; number = at.number + 1; held = Some 0; from = next; printed = r.length })
 unfolding after
 line_taken {m} {areas} {area} {at} line areas' out later r next st alike says =
     let y : Yard = m.yard in
@@ -56,7 +59,7 @@ line_taken {m} {areas} {area} {at} line areas' out later r next st alike says =
     ∙ ap (λ (a : Areas). line_outcome a at.number at.stage m.pending) st.areas_are
     ∙ ap (λ n. line_outcome y.areas n at.stage m.pending) st.number_is
     ∙ ap (λ (s : Stage). line_outcome y.areas (suc y.lines) s m.pending) st.stage_is in
-    let place : Place = record { stage = r.stage; number = at.number + 1; length = 0; over = false; from = next; printed = r.length } in
+    let place : Place = record { stage = r.stage; number = at.number + 1; held = Some 0; from = next; printed = r.length } in
     record {
       stands =
           subst (λ (n : Midway). Matches n areas' area place) (sym (fed_feed m))
@@ -70,12 +73,12 @@ line_taken {m} {areas} {area} {at} line areas' out later r next st alike says =
     }
 
 -- bytes without a line feed: nothing is printed
-goes_on : {m : Midway} {areas : Areas} {area : List ℕ} {at : Place} (later : List ℕ) (h : Held) (bytes : List ℕ) (next : ℕ) → Free line_feed bytes
+goes_on : {m : Midway} {areas : Areas} {area : List ℕ} {at : Place} (later : List ℕ) (h : Option ℕ) (bytes : List ℕ) (next : ℕ) → Free line_feed bytes
     → Matches m areas area at → Holds later h (m.pending ++ bytes)
-    → Matches (fed m bytes) areas later (record { stage = at.stage; number = at.number; length = h.length; over = h.over; from = next; printed = 0 })
+    → Matches (fed m bytes) areas later (record { stage = at.stage; number = at.number; held = h; from = next; printed = 0 })
 goes_on {m} {areas} {area} {at} later h bytes next f st k =
     subst
-    (λ (n : Midway). Matches n areas later (record { stage = at.stage; number = at.number; length = h.length; over = h.over; from = next; printed = 0 }))
+    (λ (n : Midway). Matches n areas later (record { stage = at.stage; number = at.number; held = h; from = next; printed = 0 }))
     (sym (fed_free m bytes f))
     (record { areas_are = st.areas_are; stage_is = st.stage_is; number_is = st.number_is; line_is = k })
 
@@ -96,14 +99,14 @@ takes_both m xs ys {areas} {area} {out} {later} {r} f t =
 
 -- a piece from a place on: to its end where no line feed follows, and else through the line feed
 module _ {m : Midway} {areas : Areas} {area : List ℕ} {at : Place} (later : List ℕ) (g : Gathered) (piece : List ℕ) (from : ℕ)
-    (inside : from < length piece) (gathers : Gathers area (record { length = at.length; over = at.over }) piece from later g)
+    (inside : from < length piece) (gathers : Gathers area at.held piece from later g)
     (st : Matches m areas area at) where
   abbrev gathered : Place
-  gathered = record { stage = at.stage; number = at.number; length = g.length; over = g.over; from = length piece; printed = 0 }
+  gathered = record { stage = at.stage; number = at.number; held = g.held; from = length piece; printed = 0 }
 
   goes_until : Matches (fed m (until_feed (drop from piece))) areas later gathered
   goes_until =
-      goes_on later (record { length = g.length; over = g.over }) (until_feed (drop from piece)) (length piece) (until_free (drop from piece)) st (gathers.holds m.pending st.line_is)
+      goes_on later g.held (until_feed (drop from piece)) (length piece) (until_free (drop from piece)) st (gathers.holds m.pending st.line_is)
 
   pub piece_ends : (out : List ℕ) → length piece ≤ g.end → Takes m (stretch piece from (length piece)) areas later out out gathered
   piece_ends out h =
@@ -127,25 +130,24 @@ some_last zero line h = refl
 some_last (suc n) [] h = absurd (omega arith)
 some_last (suc n) (b ∷ bs) h = refl
 
-pub long_last : {area line : List ℕ} {h : Held} (lines : ℕ) → h.over ≡ true → Holds area h line → last_of lines line ≡ line ∷ []
-long_last {line = line} lines e k = some_last lines line (omega (arith, k.longer e))
-
-pub byte_last : {area line : List ℕ} {h : Held} (lines : ℕ) → h.over ≡ false → 0 < h.length → Holds area h line → last_of lines line ≡ line ∷ []
-byte_last {area} {line} {h} lines e n k =
-    some_last lines line (omega (arith, ap length (k.whole e), length-take h.length area, k.room))
-
 empty_last : (lines : ℕ) → last_of lines [] ≡ elim (eqb (suc lines) 1) [ true ↦ [] ∷ [] | false ↦ [] ]
 unfolding last_of some_left
 empty_last zero = refl
 empty_last (suc n) = ap (λ b. elim b [ true ↦ [] ∷ [] | false ↦ [] ]) (sym (ne_eqb (suc (suc n)) 1 (λ e. omega arith)))
 
-pub first_last : {area line : List ℕ} {h : Held} (number lines : ℕ) → h.over ≡ false → h.length ≡ 0 → Holds area h line → number ≡ suc lines
+pub long_last : (area line : List ℕ) (lines : ℕ) → Holds area None line → last_of lines line ≡ line ∷ []
+long_last area line lines k = some_last lines line (omega (arith, k))
+
+pub byte_last : (area line : List ℕ) (n lines : ℕ) → 0 < n → Holds area (Some n) line → last_of lines line ≡ line ∷ []
+byte_last area line n lines h k = some_last lines line (omega (arith, ap length k.1, length-take n area, k.0))
+
+pub first_last : (area line : List ℕ) (n number lines : ℕ) → n ≡ 0 → Holds area (Some n) line → number ≡ suc lines
     → last_of lines line ≡ elim (eqb number 1) [ true ↦ line ∷ [] | false ↦ [] ]
-first_last {area} {line} {h} number lines e z k n =
-    let none : [] ≡ line = ap (λ i. take i area) (sym z) ∙ k.whole e in
+first_last area line n number lines z k e =
+    let none : [] ≡ line = ap (λ i. take i area) (sym z) ∙ k.1 in
     ap (last_of lines) (sym none)
     ∙ empty_last lines
-    ∙ ap (λ (i : ℕ). elim (eqb i 1) [ true ↦ [] ∷ [] | false ↦ [] ]) (sym n)
+    ∙ ap (λ (i : ℕ). elim (eqb i 1) [ true ↦ [] ∷ [] | false ↦ [] ]) (sym e)
     ∙ ap (λ (l : List ℕ). elim (eqb number 1) [ true ↦ l ∷ [] | false ↦ [] ]) none
 
 -- the end of the input

@@ -17,7 +17,7 @@ pub record Matches (m : Midway) (areas : Areas) (area : List ℕ) (at : Place) :
   pub areas_are : areas ≡ m.yard.areas
   pub stage_is : at.stage ≡ m.yard.stage
   pub number_is : at.number ≡ suc m.yard.lines
-  pub line_is : Holds area (record { length = at.length; over = at.over }) m.pending
+  pub line_is : Holds area at.held m.pending
 
 -- after some bytes of the input
 pub record Takes (m : Midway) (bytes : List ℕ) (areas : Areas) (area out after : List ℕ) (r : Place) : Type 0 where

@@ -3,10 +3,9 @@ use Prim.Native.Nat.{ℕ, ◌<◌}
 use mathlib.Core.Path.{◌≡◌, refl, ap, sym, ◌∙◌}
 use mathlib.Core.List.{List, []}
 use lib.ListN.{length}
+use Rattle.std.proofs.Common.{Option, None}
 use Rattle.metric_rules.specs.declared.Profile.{Profile}
-use Rattle.yard_rules.specs.declared.Header.TheVariants as header
 use Rattle.yard_rules.specs.declared.Command.{Command}
-use Rattle.yard_rules.specs.declared.Command.TheVariants as command
 use Rattle.yard_rules.specs.declared.Stage.{Stage}
 use Rattle.yard_rules.specs.declared.Stage.TheVariants as stage
 use Rattle.text_rules.specs.Text.{parted, parts_in}
@@ -14,15 +13,15 @@ use Rattle.yard_rules.specs.Line.{has_day, has_profile, header_in, command_in, p
 use Rattle.yard_rules.specs.Conversation.{Areas, areas_after, text_after, header_outcome, command_outcome, line_outcome}
 use Rattle.yard_line.proofs.Longer.{long_command, long_header}
 
-empty_header : header_in [] ≡ header.Other
+empty_header : header_in [] ≡ None
 unfolding header_in parts_in parted
 empty_header = refl
 
-empty_command : command_in [] ≡ command.Other
+empty_command : command_in [] ≡ None
 unfolding command_in has_day has_profile parts_in parted
 empty_command = refl
 
-other_alike : (a : Areas) (number : ℕ) (p q : Profile) → command_outcome a number command.Other p ≡ command_outcome a number command.Other q
+other_alike : (a : Areas) (number : ℕ) (p q : Profile) → command_outcome a number None p ≡ command_outcome a number None q
 unfolding command_outcome areas_after text_after
 other_alike a number p q = refl
 
@@ -30,7 +29,7 @@ pub long_outcome : (a : Areas) (number : ℕ) (s : Stage) (line : List ℕ) → 
 unfolding line_outcome
 long_outcome a number stage.Waiting line l = ap (header_outcome a number) (long_header line l ∙ sym empty_header)
 long_outcome a number stage.Serving line l =
-    ap (λ (c : Command). command_outcome a number c (profile_in line)) (long_command line l)
+    ap (λ (c : Option Command). command_outcome a number c (profile_in line)) (long_command line l)
     ∙ other_alike a number (profile_in line) (profile_in [])
-    ∙ ap (λ (c : Command). command_outcome a number c (profile_in [])) (sym empty_command)
+    ∙ ap (λ (c : Option Command). command_outcome a number c (profile_in [])) (sym empty_command)
 long_outcome a number stage.Ended line l = refl

@@ -6,12 +6,12 @@ use mathlib.Core.List.{List, [], ◌∷◌}
 use native.Mathlib.Omega.{arith}
 use lib.ListN.{length}
 use borrow.Author.Tests.{lt-leb, le-leb}
+use Rattle.std.proofs.Common.{Some, None}
 use Rattle.metric_rules.specs.Row.{Row}
 use Rattle.search_rules.specs.Range.{Entry}
 use Rattle.table_rules.specs.Refusals.{bad_order, unless}
 use Rattle.table_rules.specs.Table.{Table}
 use Rattle.table_rules.specs.Fresh.{fresh_refusal, fresh_table, table_after_fresh}
-use Rattle.yard_rules.specs.declared.Header.TheVariants as header
 use Rattle.yard_rules.specs.declared.Stage.TheVariants as stage
 use Rattle.yard_rules.specs.Line.{letter_f, question_mark}
 use Rattle.yard_rules.specs.Reply.{reply_line}
@@ -49,7 +49,7 @@ module _ (order metric : ℕ) (t : Table) where
 
 module _ (order metric : ℕ) (t : Table) (work : List Row) (result : List Entry) (number : ℕ) (out : List ℕ) where
   header_outcome_at : (n : ℕ) → header_refusal t order metric ≡ n
-      → header_outcome (lent t work result) number (header.Of order metric)
+      → header_outcome (lent t work result) number (Some (record { order = order; metric = metric }))
       ≡ elim n [
         | zero ↦ record { areas = lent (table_after_fresh order (yard_space metric) t) work result; stage = stage.Serving; text = [] }
         | suc k ↦ record { areas = lent t work result; stage = stage.Ended; text = reply_line letter_f (suc k ∷ []) }
@@ -65,7 +65,7 @@ module _ (order metric : ℕ) (t : Table) (work : List Row) (result : List Entry
 
   -- an accepted header
   pub header_outcome_served : (t' : Table) (n : ℕ) → n ≡ header_refusal t order metric → t' ≡ table_after_header order metric t → n ≡ 0
-      → StepLeaves (header_outcome (lent t work result) number (header.Of order metric)) (lent t' work result) out out (record { stage = stage.Serving; length = 0 })
+      → StepLeaves (header_outcome (lent t work result) number (Some (record { order = order; metric = metric }))) (lent t' work result) out out (record { stage = stage.Serving; length = 0 })
   header_outcome_served t' n e f z =
       let r : header_refusal t order metric ≡ 0 = sym e ∙ z in
       subst (λ (s : LineOutcome). StepLeaves s (lent t' work result) out out (record { stage = stage.Serving; length = 0 })) (sym (header_outcome_at 0 r))
@@ -74,7 +74,7 @@ module _ (order metric : ℕ) (t : Table) (work : List Row) (result : List Entry
   -- a refused one
   pub header_outcome_ended : (t' : Table) (after : List ℕ) (m n : ℕ) → n ≡ header_refusal t order metric → t' ≡ table_after_header order metric t → (n ≡ 0 → ⊥)
       → Puts out after m (reply_line letter_f (n ∷ []))
-      → StepLeaves (header_outcome (lent t work result) number (header.Of order metric)) (lent t' work result) out after (record { stage = stage.Ended; length = m })
+      → StepLeaves (header_outcome (lent t work result) number (Some (record { order = order; metric = metric }))) (lent t' work result) out after (record { stage = stage.Ended; length = m })
   header_outcome_ended t' after m zero e f z p = absurd (z refl)
   header_outcome_ended t' after m (suc k) e f z p =
       subst (λ (s : LineOutcome). StepLeaves s (lent t' work result) out after (record { stage = stage.Ended; length = m })) (sym (header_outcome_at (suc k) (sym e)))
@@ -82,6 +82,6 @@ module _ (order metric : ℕ) (t : Table) (work : List Row) (result : List Entry
 
 -- a first line of another form
 pub other_ended : (t : Table) (work : List Row) (result : List Entry) (number : ℕ) (out after : List ℕ) (m : ℕ) → Puts out after m (reply_line question_mark (number ∷ []))
-    → StepLeaves (header_outcome (lent t work result) number header.Other) (lent t work result) out after (record { stage = stage.Ended; length = m })
+    → StepLeaves (header_outcome (lent t work result) number None) (lent t work result) out after (record { stage = stage.Ended; length = m })
 unfolding header_outcome other_text
 other_ended t work result number out after m p = record { areas_are = refl; stage_is = refl; text_is = p }

@@ -1,35 +1,18 @@
--- `text_read::part_end` meets its contract: no separator has been passed.
-use Prim.Native.Nat.{◌-◌}
-use mathlib.Core.Path.{◌≡◌}
-use native.Mathlib.Omega.{arith}
-use Rattle.text_read.proofs.Finding.{free_more, ends_at_separator, ends_at_end}
+-- `text_read::part_end` meets its contract: the first place of a separator is where the part ends.
+use Rattle.std.proofs.Common.{◌≡◌, ◌∙◌, rules}
+use Rattle.std.proofs.lemmas.Iterator.{IsFirst-from_position, YieldsList-from_slice}
+use borrow.Author.Tests.{tests}
+use Rattle.text_read.proofs.Finding.{rest_whole, free_before, ends_at_separator, ends_at_end}
 use Rattle.text_read.proofs.part_end.Goals as goal
 
-pub loop-i-init : goal.loop-i-init
-loop-i-init c =
-    let none : c.args.from - c.args.from ≡ 0 = omega arith in
-    (omega arith, omega arith, rw none tt)
+pub returns-in-Some : goal.returns-in-Some
+returns-in-Some c =
+    let separator = c.args.separator in
+    let first = IsFirst-from_position _ _ _ (λ b. b ≡ separator) (λ b. b ≡ separator → ⊥) c.in-Some.ensures.ran (YieldsList-from_slice _ (c.iter.ensures.rest ∙ rest_whole c.args.from _)) (λ x q k. search (rules, tests)) (λ x q k. search (rules, tests)) in
+    ends_at_separator separator _ c.args.from _ c.requires first.0 (first.1 0) (free_before separator _ _ first.2)
 
-pub bounds-text-i : goal.bounds-text-i
-bounds-text-i c = omega arith
-
-pub returns-then-text-i : goal.returns-then-text-i
-returns-then-text-i c =
-    let at = c.before.before.before in
-    ends_at_separator _ _ at.args.from at.loop-i.i at.loop-i.invariant.0 (omega arith) at.loop-i.invariant.2 c.if-text-i.true
-
-pub overflow_add-i : goal.overflow_add-i
-overflow_add-i c = omega arith
-
-pub loop-i-smaller : goal.loop-i-smaller
-loop-i-smaller c = omega arith
-
-pub loop-i-preserved : goal.loop-i-preserved
-loop-i-preserved c =
-    let at = c.before.before.before in
-    (omega arith, omega arith, free_more _ _ at.args.from at.loop-i.i at.loop-i.invariant.0 (omega arith) at.loop-i.invariant.2 c.if-text-i.false)
-
-pub returns : goal.returns
-returns c =
-    let at = c.before in
-    ends_at_end _ _ at.args.from at.loop-i.i at.loop-i.invariant.0 (omega arith) at.loop-i.invariant.2
+pub returns-in-None : goal.returns-in-None
+returns-in-None c =
+    let separator = c.args.separator in
+    let none = IsFirst-from_position _ _ _ (λ b. b ≡ separator) (λ b. b ≡ separator → ⊥) c.in-None.ensures.ran (YieldsList-from_slice _ (c.iter.ensures.rest ∙ rest_whole c.args.from _)) (λ x q k. search (rules, tests)) (λ x q k. search (rules, tests)) in
+    ends_at_end separator _ c.args.from c.requires (free_before separator _ _ none)

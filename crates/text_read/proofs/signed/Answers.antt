@@ -1,18 +1,14 @@
--- `text_read::signed` meets its contract: one sign covers all digits.
-use mathlib.Core.Path.{◌∙◌}
-use native.Mathlib.Omega.{arith}
-use mir.Syntax.{w32}
-use mir.Facts.{to_z-of_z, to_z_pos}
-use Rattle.text_rules.proofs.Signs.{negated, negated_fits}
-use Rattle.text_read.proofs.Forms.{size_small, negative_size, plain_size}
+-- `text_read::signed` meets its contract: seven digits fit 32 bits, with either sign.
+use Rattle.std.proofs.Common.{arith}
+use Rattle.std.proofs.lemmas.Grind.{common_steps}
+use Rattle.std.proofs.lemmas.Int.{ints}
+use Rattle.text_read.specs.Found.{signed}
 use Rattle.text_read.proofs.signed.Goals as goal
 
 pub returns-then-negative : goal.returns-then-negative
-returns-then-negative c =
-    let small = size_small c.in-Number.is c.requires in
-    negative_size c.in-Number.is c.if-negative.true (to_z-of_z {w = w32} (negated_fits c.in-Number.n (omega arith)) ∙ negated c.in-Number.n (omega arith))
+unfolding signed
+returns-then-negative c = grind (arith, ints, common_steps)
 
-pub returns : goal.returns
-returns c =
-    let small = size_small c.in-Number.is c.requires in
-    plain_size c.in-Number.is c.if-negative.false (to_z_pos w32 (omega arith))
+pub returns-else-negative : goal.returns-else-negative
+unfolding signed
+returns-else-negative c = grind (arith, ints, common_steps)

@@ -1,19 +1,11 @@
 -- `yard_session::held_line` meets its contract: a line that is longer than the area is no command, and any other one is held whole.
-use native.Mathlib.Omega.{arith}
-use mathlib.Core.Path.{sym}
-use lib.ListN.{length-take}
-use lib.Seq.{length-take-le}
-use Rattle.yard_session.proofs.Standing.{long_answered, whole_answered}
+use Rattle.std.proofs.Common.{length, take, min, ap, subst, ◌∙◌, sym}
+use Rattle.yard_session.specs.Matches.{AnsweredAs}
+use Rattle.yard_session.proofs.Standing.{held_answered}
 use Rattle.yard_session.proofs.held_line.Goals as goal
 
-pub returns-then-over : goal.returns-then-over
-returns-then-over c = record { result_in_bounds = omega arith; by_index = λ line h. long_answered c.requires c.if-over.true h }
-
-pub slice_bounds-result-end-then-n-area : goal.slice_bounds-result-end-then-n-area
-slice_bounds-result-end-then-n-area c = sym (length-take-le _ _ (omega arith))
-
-pub returns-then-n-area : goal.returns-then-n-area
-returns-then-n-area c = record { result_in_bounds = simp length-take (omega arith); by_index = λ line h. whole_answered c.if-over.false h }
-
-pub returns : goal.returns
-returns c = record { result_in_bounds = omega arith; by_index = λ line h. absurd (omega (arith, h.room)) }
+pub returns-clause-by_index : goal.returns-clause-by_index
+returns-clause-by_index c =
+    let area = c.args.area.now in
+    let count = c.min.ensures ∙ ap (λ n. min n (length area)) c.unwrap_or-length.ensures in
+    λ line h. subst (λ n. AnsweredAs (take n area) line) (sym count) (held_answered area c.args.held line c.requires h)

@@ -7,13 +7,13 @@ pub returns-then-refusal-eq0 : goal.returns-then-refusal-eq0
 returns-then-refusal-eq0 c =
     let a = c.args in
     let s = c.set_up-refusal in
-    λ work result number. header_outcome_served a.order a.metric a.table.now work result number a.out.now s.new.table s.result s.ensures.reply s.ensures.table c.if-refusal-eq0.true
+    λ work result number. header_outcome_served a.header.order a.header.metric a.table.now work result number a.out.now s.new.table s.result s.ensures.reply s.ensures.table c.if-refusal-eq0.true
 
 pub returns : goal.returns
 returns c =
     let a = c.args in
     let s = c.set_up-refusal in
-    let p = c.put_one-length in
+    let p = c.put_one in
     λ work result number.
-    header_outcome_ended a.order a.metric a.table.now work result number a.out.now s.new.table p.new.out p.result s.result s.ensures.reply s.ensures.table c.if-refusal-eq0.false
+    header_outcome_ended a.header.order a.header.metric a.table.now work result number a.out.now s.new.table p.new.out p.result s.result s.ensures.reply s.ensures.table c.if-refusal-eq0.false
     p.ensures.0
