@@ -100,16 +100,29 @@ carry() {
     ! grep -E '^declare ' "$lowered" | grep -qv '@llvm\.' || stop 'the module calls a function that it does not have'
     ! grep -E '^@' "$lowered" | grep -qvE ' constant \[[0-9]+ x i8\] c"' ||
         stop 'the module has other data of its own than constant bytes'
+    ! grep -oE '(load|store) \{[^}]*\}' "$lowered" |
+        grep -qvE '^load \{ (i8, ptr|ptr, i64|i(8|32|64), i(8|32|64)) \}$' ||
+        stop 'the module loads or stores a pair of another kind'
     # 1. Layout, triple and processor are left to the target.
     # 2. The wrappers that spell x86-64's C calls are no longer seen from outside, and so dropped.
     # 3. The proved functions below them have others, which are seen.
+    # 4. A byte and an address that come back together lie eight bytes apart, as the module stores them: read as a pair
+    #    they would lie four apart where an address has 32 bits. So each is read by itself.
+    # 5. Whether two places overlap is asked of their addresses as numbers of 64 bits, whatever the address has.
     {
         sed -E '/^target (datalayout|triple) /d
             s/ ?"(target-cpu|target-features|tune-cpu|probe-stack|stack-probe-size)"="[^"]*"//g
-            s/^define (.* @vpindex_)/define internal \1/' "$lowered"
+            s/^define (.* @vpindex_)/define internal \1/
+            s/^  (%r[0-9]+) = load \{ i8, ptr \}, ptr (%r[0-9]+), align [0-9]+$/  \1.byte = load i8, ptr \2, align 1\
+  \1.place = getelementptr i8, ptr \2, i64 8\
+  \1.address = load ptr, ptr \1.place, align 4\
+  \1.half = insertvalue { i8, ptr } poison, i8 \1.byte, 0\
+  \1 = insertvalue { i8, ptr } \1.half, ptr \1.address, 1/
+            s/ = ptrtoaddr ptr (%[a-z]+[0-9]+) to i64$/ = ptrtoint ptr \1 to i64/' "$lowered"
         spelled
     } > "$module"
-    # 4. On ARM a line says that no float is passed, so that programs link with it which pass theirs in either way.
+    ! grep -qE 'load \{ i8, ptr \}|ptrtoaddr' "$module" || stop 'a pair or an address is read as on x86-64'
+    # 6. On ARM a line says that no float is passed, so that programs link with it which pass theirs in either way.
     case $words in
         *gnueabihf* | *-eabi*) echo 'module asm ".eabi_attribute Tag_ABI_VFP_args, 3"' >> "$module" ;;
     esac

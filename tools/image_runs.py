@@ -214,22 +214,17 @@ def output():
 
 
 def constants(form):
-    """The image with a byte behind it, its length, and the number of lengths from 0 to one more than that."""
-    image, name = image_of(form, 0), "" if form == LAST_FORM else f"FORM_{form}_"
-    return [
-        f"// Of form {form}.",
-        f"pub const {name}LENGTH: usize = {len(image)};",
-        "",
-        f"pub const {name}CUTS: usize = {len(image) + 2};",
-        "",
-        *constant(f"{name}IMAGE", "u8", image + bytes(1)),
-    ]
+    """The image with a byte behind it."""
+    return [f"// Of form {form}.", *constant(f"FORM_{form}", "u8", image_of(form, 0) + bytes(1))]
 
 
 def source():
     lines = [
         "// A sound image of each form, all of the same slots, and behind it one byte that is no part of it, as",
-        "// tools/image_runs.py writes them: its length, the lengths from 0 to one more than that, and the bytes.",
+        "// tools/image_runs.py writes them.",
+        "",
+        "// The bytes of the image of the form that is written.",
+        f"pub const LENGTH: usize = {len(image_of(LAST_FORM, 0))};",
         "",
     ]
     return "\n".join(lines + [line for form in reversed(range(len(FORMS))) for line in constants(form)])

@@ -9,7 +9,7 @@ import struct
 import sys
 from pathlib import Path
 
-from layout import constant
+from layout import constant, field
 
 CRATE = Path(__file__).resolve().parent.parent / "crates" / "metric_vectors"
 LOW, HIGH = -(2**31), 2**31 - 1
@@ -100,17 +100,12 @@ def tags():
 
 
 def table(items, tag_list):
-    lines = ["// The vectors, as tools/metric_vectors.py writes them.", f"pub const COUNT: usize = {len(items)};", ""]
-    lines += ["// The objects' fields, and below them the rows of the same objects."]
-    lines += constant("TAGS", "u64", [o[0] for o in items])
-    lines += constant("MEASURES", "i32", [m for o in items for m in o[1][0]])
-    lines += constant("CODES", "u64", [c for o in items for c in o[1][1]])
-    lines += constant("THRESHOLDS", "u32", [o[2] for o in items])
-    lines += constant("MARKS", "u32", [o[3] for o in items])
-    lines += constant("DAYS", "u32", [o[4] for o in items])
-    lines += constant("WORDS", "u32", [w for o in items for w in row(*o)])
-    lines += ["// Numbers that are tags, or nearly.", f"pub const NEAR_COUNT: usize = {len(tag_list)};", ""]
-    lines += constant("NEAR_TAGS", "u64", tag_list)
+    lines = ["// The vectors, as tools/metric_vectors.py writes them.", "use crate::Object;", "use metric_rules::Profile;", "", f"pub const OBJECTS: [Object; {len(items)}] = ["]
+    for item in items:
+        tag, (measures, code), threshold, mark, day = item
+        lines += ["    Object {", f"        tag: {tag},", "        profile: Profile {", *field("measures", measures, " " * 12), *field("code", code, " " * 12), "        },"]
+        lines += [f"        threshold: {threshold},", f"        mark: {mark},", f"        day: {day},", *field("row", row(*item), " " * 8), "    },"]
+    lines += ["];", "", "// Numbers that are tags, or nearly.", *constant("NEAR_TAGS", "u64", tag_list)]
     return "\n".join(lines[:-1]) + "\n"
 
 

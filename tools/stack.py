@@ -25,7 +25,7 @@ WORD = 8
 DEPTHS = {
     "tree_build::build_part": 13,
     "tree_range::range_tree": 11,
-    "tree_range_batch::range_together": 13,
+    "tree_range_batch::tree_together": 13,
     "tree_nearest::nearest_tree": 11,
     "image_layout::first_fault": 14,  # it is called for an empty half too
     "tree_sort::sort": 9,             # halves of 4,095 rows, down to 16

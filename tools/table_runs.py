@@ -4,16 +4,16 @@
 Writes crates/table_runs/src/steps.rt (the steps) and crates/table_runs/stdout (what the program must print).
 With --check it writes nothing and fails where a file differs from what it would write.
 
-A step is an operation and two numbers: fresh (order, metric), add or remove (first national, how many), range with the largest radius (first day), nearest
+A step is an operation and two numbers: fresh (order, metric), add or remove (first national, how many), range with the largest radius (first day, 0), nearest
 (first day, k). An item's day is its national. The program makes every table with the same weights. Nothing that it prints depends on them.
 """
 import sys
 from pathlib import Path
 
-from layout import constant
-
 CRATE = Path(__file__).resolve().parent.parent / "crates" / "table_runs"
 FRESH, ADD, REMOVE, RANGE, NEAREST = range(5)
+# Of each operation the name of its step in the program, and how many of the two numbers it has.
+STEPS = (("Fresh", 2), ("Add", 2), ("Remove", 2), ("Range", 1), ("Nearest", 2))
 NO_BUCKET = 0
 
 
@@ -149,10 +149,11 @@ def output(steps):
 
 
 def source(steps):
-    lines = ["// The steps, as tools/table_runs.py writes them.", f"pub const COUNT: usize = {len(steps)};", ""]
-    for name, at in (("KINDS", 0), ("FIRST", 1), ("SECOND", 2)):
-        lines += constant(name, "u32", [s[at] for s in steps])
-    return "\n".join(lines[:-1]) + "\n"
+    lines = ["// The steps, as tools/table_runs.py writes them.", "use crate::Step;", "", f"pub const STEPS: [Step; {len(steps)}] = ["]
+    for kind, *numbers in steps:
+        name, count = STEPS[kind]
+        lines.append(f"    Step::{name}({', '.join(map(str, numbers[:count]))}),")
+    return "\n".join(lines) + "\n];\n"
 
 
 def main():

@@ -1,12 +1,11 @@
 // A sound image of each form, all of the same slots, and behind it one byte that is no part of it, as
-// tools/image_runs.py writes them: its length, the lengths from 0 to one more than that, and the bytes.
+// tools/image_runs.py writes them.
 
-// Of form 2.
+// The bytes of the image of the form that is written.
 pub const LENGTH: usize = 370;
 
-pub const CUTS: usize = 372;
-
-pub const IMAGE: [u8; 371] = [
+// Of form 2.
+pub const FORM_2: [u8; 371] = [
     2, 0, 2, 0, 1, 100, 0, 1, 1, 0, 1, 0, 2, 0, 1, 0, 4, 0, 2, 0, 8, 64, 54, 231, 189, 32, 0, 0, 9,
     64, 54, 231, 189, 32, 0, 0, 26, 64, 54, 231, 189, 32, 0, 0, 10, 64, 54, 231, 189, 32, 0, 0, 11,
     64, 54, 231, 189, 32, 0, 0, 24, 64, 54, 231, 189, 32, 0, 0, 40, 64, 54, 231, 189, 32, 0, 0, 64,
@@ -24,11 +23,7 @@ pub const IMAGE: [u8; 371] = [
 ];
 
 // Of form 1.
-pub const FORM_1_LENGTH: usize = 356;
-
-pub const FORM_1_CUTS: usize = 358;
-
-pub const FORM_1_IMAGE: [u8; 357] = [
+pub const FORM_1: [u8; 357] = [
     2, 0, 1, 0, 1, 100, 0, 1, 1, 0, 1, 0, 2, 0, 1, 0, 4, 0, 2, 0, 8, 64, 54, 231, 189, 32, 0, 0, 9,
     64, 54, 231, 189, 32, 0, 0, 26, 64, 54, 231, 189, 32, 0, 0, 10, 64, 54, 231, 189, 32, 0, 0, 11,
     64, 54, 231, 189, 32, 0, 0, 24, 64, 54, 231, 189, 32, 0, 0, 40, 64, 54, 231, 189, 32, 0, 0, 64,
@@ -45,11 +40,7 @@ pub const FORM_1_IMAGE: [u8; 357] = [
 ];
 
 // Of form 0.
-pub const FORM_0_LENGTH: usize = 352;
-
-pub const FORM_0_CUTS: usize = 354;
-
-pub const FORM_0_IMAGE: [u8; 353] = [
+pub const FORM_0: [u8; 353] = [
     2, 0, 0, 0, 1, 0, 1, 0, 2, 0, 1, 0, 4, 0, 2, 0, 8, 64, 54, 231, 189, 32, 0, 0, 9, 64, 54, 231,
     189, 32, 0, 0, 26, 64, 54, 231, 189, 32, 0, 0, 10, 64, 54, 231, 189, 32, 0, 0, 11, 64, 54, 231,
     189, 32, 0, 0, 24, 64, 54, 231, 189, 32, 0, 0, 40, 64, 54, 231, 189, 32, 0, 0, 64, 66, 15, 0,

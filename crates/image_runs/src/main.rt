@@ -6,7 +6,7 @@
 
 mod bytes;
 
-use bytes::{CUTS, FORM_0_CUTS, FORM_0_LENGTH, FORM_1_CUTS, FORM_1_LENGTH, LENGTH};
+use bytes::{FORM_0, FORM_1, FORM_2, LENGTH};
 use metric_rules::{ROW_WIDTH, Row};
 use std::io;
 
@@ -15,221 +15,164 @@ const ROWS: usize = 11;
 
 const SHORT_ROWS: usize = 10;
 
-// The metric's byte in an image.
+// The metric's byte in an image, and how many bytes order and metric take.
 const METRIC_AT: usize = 1;
 
-// What form 2 has from byte 2 on where every weight is 1: the form and the weights.
-const ONES: [u8; 6] = [2, 0, 1, 1, 1, 1];
+const START: usize = 2;
 
-// The form alone, and day 1.
+// What follows in form 2, and the weights of form 0, which has none.
 const FORM: [u8; 2] = [2, 0];
 
+const ONES: [u8; 4] = [1, 1, 1, 1];
+
+// The day of a record of an older form, which has none.
 const DAY: [u8; 2] = [1, 0];
 
-// The bytes of a record in form 2, of the seven, and of the seven in an older form.
+// The bytes of a record in form 2, of the seven, and of both in an older form.
 const RECORD: usize = 42;
 
 const RECORDS: usize = 294;
 
+const OLDER_RECORD: usize = 40;
+
 const OLDER_RECORDS: usize = 280;
 
-fn print_place(rt: &impl Print, n: usize) -> io::Result<()> {
-    print!(rt; "{n}")
-}
-
-fn print_end(rt: &impl Print) -> io::Result<()> {
-    println!(rt)
-}
-
-fn same(a: &[u8], b: &[u8]) -> bool {
-    a == b
-}
+const BITS: [u8; 8] = [1, 2, 4, 8, 16, 32, 64, 128];
 
 // Whether the first is a record of form 2, and the second the same record in an older form, which has day 1.
 fn is_record(written: &[u8], older: &[u8]) -> bool {
-    let day = DAY;
-    if written.len() != RECORD {
-        return false;
-    }
-    same(&written[0..40], older) & same(&written[40..42], &day)
+    written
+        .strip_suffix(&DAY)
+        .is_some_and(|words| words == older)
 }
 
 // The same of all seven.
 fn are_records(written: &[u8], older: &[u8]) -> bool {
-    if written.len() != RECORDS {
-        return false;
-    }
-    if older.len() != OLDER_RECORDS {
-        return false;
-    }
-    is_record(&written[0..42], &older[0..40])
-        & is_record(&written[42..84], &older[40..80])
-        & is_record(&written[84..126], &older[80..120])
-        & is_record(&written[126..168], &older[120..160])
-        & is_record(&written[168..210], &older[160..200])
-        & is_record(&written[210..252], &older[200..240])
-        & is_record(&written[252..294], &older[240..280])
+    let mut pairs = written.chunks(RECORD).zip(older.chunks(OLDER_RECORD));
+    written.len() == RECORDS
+        && older.len() == OLDER_RECORDS
+        && pairs.all(|(record, older)| is_record(record, older))
 }
 
-// Whether these bytes are the translation of an image of form 0 to form 2.
-fn is_translation_of_form_0(written: &[u8], image: &[u8]) -> bool {
-    let ones = ONES;
-    if written.len() != LENGTH {
-        return false;
-    }
-    if image.len() != FORM_0_LENGTH {
-        return false;
-    }
-    same(&written[0..2], &image[0..2])
-        & same(&written[2..8], &ones)
-        & same(&written[8..76], &image[4..72])
-        & are_records(&written[76..], &image[72..])
+// The records of both, where the first begins as the translation of an image in an older form does: with the image's
+// order and metric, then form 2, these weights, and the image's sizes and tags.
+fn records_of<'a>(
+    written: &'a [u8],
+    image: &'a [u8],
+    weights: &[u8],
+) -> Option<(&'a [u8], &'a [u8])> {
+    let (start, rest) = image.split_at_checked(START)?;
+    let (_, rest) = rest.split_at_checked(FORM.len())?;
+    let (front, older) = rest.split_at_checked(rest.len().checked_sub(OLDER_RECORDS)?)?;
+    let behind_form = written.strip_prefix(start)?.strip_prefix(&FORM)?;
+    Some((
+        behind_form.strip_prefix(weights)?.strip_prefix(front)?,
+        older,
+    ))
 }
 
-// Whether they are that of an image of form 1.
-fn is_translation_of_form_1(written: &[u8], image: &[u8]) -> bool {
-    let form = FORM;
-    if written.len() != LENGTH {
-        return false;
-    }
-    if image.len() != FORM_1_LENGTH {
-        return false;
-    }
-    same(&written[0..2], &image[0..2])
-        & same(&written[2..4], &form)
-        & same(&written[4..76], &image[4..76])
-        & are_records(&written[76..], &image[76..])
-}
-
-fn print_mark(rt: &impl Print, written: &[u8], image: &[u8]) -> io::Result<()> {
-    if same(written, image) {
-        print!(rt; "=")?;
-    } else if is_translation_of_form_0(written, image) | is_translation_of_form_1(written, image) {
-        print!(rt; "+")?;
-    } else {
-        print!(rt; "!")?;
-    }
-    Ok(())
+// Whether bytes are the translation to form 2 of an image in an older form: in form 1 the weights are the image's own.
+fn is_translation(written: &[u8], image: &[u8], weights: &[u8]) -> bool {
+    records_of(written, image, weights).is_some_and(|(records, older)| are_records(records, older))
 }
 
 // How the table, written, gives these bytes back.
-fn print_written(rt: &impl Print, table: &[Row], image: &[u8]) -> io::Result<()> {
-    let mut written = [0u8; LENGTH];
-    let reply = vpindex::vpindex_write(table, &mut written);
-    if (reply.refusal == 0) & (reply.length as usize == LENGTH) {
-        print_mark(rt, &written, image)?;
+fn mark(table: &[Row], image: &[u8]) -> char {
+    let mut area = [0u8; LENGTH];
+    let length = vpindex::vpindex_write(table, &mut area).length as usize;
+    let Some(written) = area.get(..length) else {
+        return '!';
+    };
+    if written == image {
+        '='
+    } else if is_translation(written, image, &ONES) || is_translation(written, image, &[]) {
+        '+'
     } else {
-        print!(rt; "!")?;
+        '!'
     }
-    Ok(())
 }
 
-// A slot behind a colon, where it is not 0.
-fn print_slot(rt: &impl Print, slot: u32) -> io::Result<()> {
-    if slot != 0 {
-        print!(rt; ":{slot}")?;
-    }
-    Ok(())
-}
-
+// The refusal, with the slot behind a colon where it is not 0.
 fn print_reply(rt: &impl Print, table: &mut [Row], image: &[u8]) -> io::Result<()> {
     let reply = vpindex::vpindex_load(table, image);
     print!(rt; " {}", reply.refusal)?;
-    print_slot(rt, reply.slot)?;
+    if reply.slot != 0 {
+        print!(rt; ":{}", reply.slot)?;
+    }
     if reply.refusal == 0 {
-        print_written(rt, table, image)?;
+        print!(rt; "{}", mark(table, image))?;
     }
     Ok(())
 }
 
-// The reply to the first n bytes.
-fn print_front(rt: &impl Print, table: &mut [Row], bytes: &[u8], n: usize) -> io::Result<()> {
-    if n <= bytes.len() {
-        print_reply(rt, table, &bytes[0..n])?;
-    }
-    Ok(())
-}
-
-// The image and the byte behind it, cut to n bytes.
-fn print_cut_of(rt: &impl Print, image: &[u8], n: usize) -> io::Result<()> {
+// The replies to the first n bytes.
+fn print_cut(rt: &impl Print, bytes: &[u8], n: usize) -> io::Result<()> {
     let mut short = [[0u32; ROW_WIDTH]; SHORT_ROWS];
     let mut table = [[0u32; ROW_WIDTH]; ROWS];
-    print_front(rt, &mut short, image, n)?;
-    print_front(rt, &mut table, image, n)
-}
-
-fn print_cut(rt: &impl Print, form: u8, n: usize) -> io::Result<()> {
-    if form == 0 {
-        let image = bytes::FORM_0_IMAGE;
-        print_cut_of(rt, &image, n)?;
-    } else if form == 1 {
-        let image = bytes::FORM_1_IMAGE;
-        print_cut_of(rt, &image, n)?;
-    } else {
-        let image = bytes::IMAGE;
-        print_cut_of(rt, &image, n)?;
+    if let Some(image) = bytes.get(..n) {
+        print_reply(rt, &mut short, image)?;
+        print_reply(rt, &mut table, image)?;
     }
     Ok(())
 }
 
-fn flipped(byte: u8, bit: u32) -> u8 {
-    byte ^ (1u8 << (bit % 8))
+// An image, with the byte behind it, cut at every length.
+fn print_cuts(rt: &impl Print, bytes: &[u8]) -> io::Result<()> {
+    for n in 0..=bytes.len() {
+        print!(rt; "{n}")?;
+        print_cut(rt, bytes, n)?;
+        println!(rt)?;
+    }
+    Ok(())
 }
 
-// The image by this metric, with one bit of one byte flipped.
-fn print_flip(rt: &impl Print, form: u8, metric: u8, at: usize, bit: u32) -> io::Result<()> {
+// The reply to an image, without the byte behind it, with one bit of one byte flipped.
+fn print_flip<const N: usize>(
+    rt: &impl Print,
+    sound: [u8; N],
+    at: usize,
+    bit: u8,
+) -> io::Result<()> {
     let mut table = [[0u32; ROW_WIDTH]; ROWS];
-    if form == 0 {
-        let mut image = bytes::FORM_0_IMAGE;
-        image[METRIC_AT] = metric;
-        image[at % FORM_0_LENGTH] = flipped(image[at % FORM_0_LENGTH], bit);
-        print_front(rt, &mut table, &image, FORM_0_LENGTH)?;
-    } else if form == 1 {
-        let mut image = bytes::FORM_1_IMAGE;
-        image[METRIC_AT] = metric;
-        image[at % FORM_1_LENGTH] = flipped(image[at % FORM_1_LENGTH], bit);
-        print_front(rt, &mut table, &image, FORM_1_LENGTH)?;
-    } else {
-        let mut image = bytes::IMAGE;
-        image[METRIC_AT] = metric;
-        image[at % LENGTH] = flipped(image[at % LENGTH], bit);
-        print_front(rt, &mut table, &image, LENGTH)?;
+    let mut bytes = sound;
+    if let Some(byte) = bytes.get_mut(at) {
+        *byte ^= bit;
+    }
+    if let Some((_, image)) = bytes.split_last() {
+        print_reply(rt, &mut table, image)?;
     }
     Ok(())
 }
 
-fn print_flips(rt: &impl Print, form: u8, metric: u8, at: usize) -> io::Result<()> {
-    for bit in 0..8 {
-        print_flip(rt, form, metric, at, bit)?;
+fn print_byte<const N: usize>(rt: &impl Print, sound: [u8; N], at: usize) -> io::Result<()> {
+    print!(rt; "{at}")?;
+    for bit in BITS {
+        print_flip(rt, sound, at, bit)?;
+    }
+    println!(rt)
+}
+
+// Of every byte of an image each bit flipped.
+fn print_flips<const N: usize>(rt: &impl Print, sound: [u8; N]) -> io::Result<()> {
+    for at in 0..N.saturating_sub(1) {
+        print_byte(rt, sound, at)?;
     }
     Ok(())
 }
 
-fn print_cut_lines(rt: &impl Print, form: u8, cuts: usize) -> io::Result<()> {
-    for n in 0..cuts {
-        print_place(rt, n)?;
-        print_cut(rt, form, n)?;
-        print_end(rt)?;
-    }
-    Ok(())
-}
-
-fn print_flip_lines(rt: &impl Print, form: u8, metric: u8, length: usize) -> io::Result<()> {
-    for at in 0..length {
-        print_place(rt, at)?;
-        print_flips(rt, form, metric, at)?;
-        print_end(rt)?;
-    }
-    Ok(())
+fn print_flips_by(rt: &impl Print, metric: u8) -> io::Result<()> {
+    let mut image = FORM_2;
+    image[METRIC_AT] = metric;
+    print_flips(rt, image)
 }
 
 fn main(rt: HostRuntime) -> io::Result<()> {
-    print_cut_lines(&rt, 2, CUTS)?;
-    print_flip_lines(&rt, 2, 0, LENGTH)?;
-    print_flip_lines(&rt, 2, 1, LENGTH)?;
-    print_flip_lines(&rt, 2, 2, LENGTH)?;
-    print_cut_lines(&rt, 1, FORM_1_CUTS)?;
-    print_flip_lines(&rt, 1, 0, FORM_1_LENGTH)?;
-    print_cut_lines(&rt, 0, FORM_0_CUTS)?;
-    print_flip_lines(&rt, 0, 0, FORM_0_LENGTH)
+    print_cuts(&rt, &FORM_2)?;
+    print_flips_by(&rt, 0)?;
+    print_flips_by(&rt, 1)?;
+    print_flips_by(&rt, 2)?;
+    print_cuts(&rt, &FORM_1)?;
+    print_flips(&rt, FORM_1)?;
+    print_cuts(&rt, &FORM_0)?;
+    print_flips(&rt, FORM_0)
 }

@@ -4,28 +4,54 @@
 
 mod steps;
 
-ghost use Rattle.std.specs.Prelude.{◌≤◌};
-
 use metric_rules::{Profile, ROW_WIDTH, Row, Weights};
 use search_rules::Entry;
-use std::io;
-use steps::COUNT;
-use table_views::word_at;
+use std::{fmt, io};
+use steps::STEPS;
+use table_rules::{Added, Removed, Searched};
+use table_views::{BUILT_AT, LIVE_AT, ORDER_AT};
 
 // Country 36.
 const COUNTRY: u64 = 36_000_000_000_000;
 
-// The rows of a table of order 12.
+// The weights of every table.
+const WEIGHTS: Weights = Weights {
+    each: [10, 1, 100, 0],
+};
+
+// The rows of a table of order 12, the largest.
 const TABLE_ROWS: usize = 8205;
 
 const WORK_ROWS: usize = 4096;
 
-fn print_number(rt: &impl Print, n: u64) -> io::Result<()> {
-    print!(rt; " {n}")
+const MOST_ORDER: u32 = 12;
+
+// A step: a fresh table of an order and a metric; adds or removals, by the first national and their number; a range
+// from a day on with the largest radius; the nearest from a day on, so many.
+#[derive(Clone, Copy)]
+pub enum Step {
+    Fresh(u32, u32),
+    Add(u32, u32),
+    Remove(u32, u32),
+    Range(u32),
+    Nearest(u32, u32),
 }
 
-// What is printed of a step.
-#[derive(Clone, Copy)]
+impl Step {
+    // The number that is printed for its kind.
+    fn kind(self) -> u32 {
+        match self {
+            Step::Fresh(_, _) => 0,
+            Step::Add(_, _) => 1,
+            Step::Remove(_, _) => 2,
+            Step::Range(_) => 3,
+            Step::Nearest(_, _) => 4,
+        }
+    }
+}
+
+// What is printed of a step: its last reply, and the distances of all its calls if it is of changes.
+#[derive(Clone, Copy, Default)]
 pub struct Last {
     pub refusal: u32,
     pub second: u32,
@@ -33,17 +59,61 @@ pub struct Last {
     pub total: u64,
 }
 
-fn last_of(refusal: u32, second: u32, distances: u32, total: u64) -> Last {
-    Last {
-        refusal,
-        second,
-        distances,
-        total,
+impl Last {
+    // This reply, after calls of so many distances.
+    fn after(self, so_far: u64) -> Last {
+        Last {
+            total: so_far.wrapping_add(u64::from(self.distances)),
+            ..self
+        }
+    }
+}
+
+impl From<Added> for Last {
+    fn from(reply: Added) -> Last {
+        Last {
+            refusal: reply.refusal,
+            second: reply.bucket,
+            distances: reply.distances,
+            total: 0,
+        }
+    }
+}
+
+impl From<Removed> for Last {
+    fn from(reply: Removed) -> Last {
+        Last {
+            refusal: reply.refusal,
+            second: 0,
+            distances: reply.distances,
+            total: 0,
+        }
+    }
+}
+
+impl From<Searched> for Last {
+    fn from(reply: Searched) -> Last {
+        Last {
+            refusal: reply.refusal,
+            second: reply.found,
+            distances: reply.distances,
+            total: 0,
+        }
+    }
+}
+
+impl fmt::Display for Last {
+    fn fmt<W: fmt::Write>(&self, f: &mut fmt::Formatter<W>) -> fmt::Result {
+        write!(
+            f,
+            "{} {} {} {}",
+            self.refusal, self.second, self.distances, self.total
+        )
     }
 }
 
 fn tag_at(national: u32) -> u64 {
-    COUNTRY + national as u64
+    COUNTRY + u64::from(national)
 }
 
 // A number as a day; every one here is of 16 bits.
@@ -53,7 +123,7 @@ fn day_at(n: u32) -> u16 {
 
 // Profiles that differ in measures and in codes, with ties among them.
 fn profile_at(national: u32) -> Profile {
-    let n = national as u64;
+    let n = u64::from(national);
     Profile {
         measures: [
             (national % 97) as i32,
@@ -65,105 +135,56 @@ fn profile_at(national: u32) -> Profile {
     }
 }
 
-// One add of kind 1 or removal of kind 2, after calls of so many distances together.
-fn change(table: &mut [Row], work: &mut [Row], kind: u32, national: u32, so_far: u64) -> Last {
-    let tag = tag_at(national);
-    if kind == 1 {
-        let r = vpindex::vpindex_add(table, work, tag, profile_at(national), day_at(national));
-        let total = std::num::wrapping_add_u64(so_far, r.distances as u64);
-        return last_of(r.refusal, r.bucket, r.distances, total);
-    }
-    let r = vpindex::vpindex_remove(table, work, tag);
-    let total = std::num::wrapping_add_u64(so_far, r.distances as u64);
-    last_of(r.refusal, 0, r.distances, total)
-}
-
-fn change_all(table: &mut [Row], work: &mut [Row], kind: u32, first: u32, count: u32) -> Last {
-    let mut last = last_of(0, 0, 0, 0);
-    let mut i = 0;
-    while i < count {
-        let national = std::num::wrapping_add_u32(first, i);
-        last = change(table, work, kind, national, last.total);
-        i += 1;
+// So many calls, each with the next national.
+fn change<F: FnMut(u32) -> Last>(first: u32, count: u32, mut call: F) -> Last
+    requires { F.IsAlwaysCallable call }
+{
+    let mut last = Last::default();
+    for i in 0..count {
+        last = call(first.wrapping_add(i)).after(last.total);
     }
     last
 }
 
-fn search(table: &[Row], res: &mut [Entry], kind: u32, first: u32, k: u32) -> Last {
-    let query = profile_at(0);
-    if kind == 3 {
-        let r = vpindex::vpindex_range(table, res, query, 0xffff_ffff, day_at(first));
-        return last_of(r.refusal, r.found, r.distances, 0);
+fn perform(table: &mut [Row], work: &mut [Row], res: &mut [Entry], step: Step) -> Last {
+    match step {
+        Step::Fresh(order, metric) => Last {
+            refusal: vpindex::vpindex_fresh(table, order, metric, WEIGHTS),
+            ..Last::default()
+        },
+        Step::Add(first, count) => change(first, count, |n| {
+            vpindex::vpindex_add(table, work, tag_at(n), profile_at(n), day_at(n)).into()
+        }),
+        Step::Remove(first, count) => change(first, count, |n| {
+            vpindex::vpindex_remove(table, work, tag_at(n)).into()
+        }),
+        Step::Range(first_day) => {
+            vpindex::vpindex_range(table, res, profile_at(0), u32::MAX, day_at(first_day)).into()
+        }
+        Step::Nearest(first_day, k) => {
+            vpindex::vpindex_nearest(table, res, profile_at(0), k, day_at(first_day)).into()
+        }
     }
-    let r = vpindex::vpindex_nearest(table, res, query, k, day_at(first));
-    last_of(r.refusal, r.found, r.distances, 0)
 }
 
-fn perform(
-    table: &mut [Row],
-    work: &mut [Row],
-    res: &mut [Entry],
-    kind: u32,
-    first: u32,
-    second: u32,
-) -> Last {
-    if kind == 0 {
-        let weights = Weights {
-            each: [10, 1, 100, 0],
-        };
-        return last_of(
-            vpindex::vpindex_fresh(table, first, second, weights),
-            0,
-            0,
-            0,
-        );
-    }
-    if kind <= 2 {
-        return change_all(table, work, kind, first, second);
-    }
-    search(table, res, kind, first, second)
-}
-
-// The buckets of a table of this order; of no order there are as many as of the last.
-fn bucket_count(order: u32) -> usize
-    ensures { result ≤ 13 }
-{
-    if order < 12 { order as usize + 1 } else { 13 }
-}
-
-// Built and live of each bucket.
+// Built and live of each bucket. A header row that shows no order counts as that of the largest.
 fn print_sizes(rt: &impl Print, table: &[Row]) -> io::Result<()> {
-    if table.len() < 14 {
+    let Some((header, sizes)) = table.split_first() else {
         return Ok(());
-    }
-    let count = bucket_count(word_at(table[0], 0));
-    let mut k = 0;
-    while k < count {
-        let sizes = table[k + 1];
-        print_number(rt, word_at(sizes, 0) as u64)?;
-        print_number(rt, word_at(sizes, 1) as u64)?;
-        k += 1;
+    };
+    let last = header[ORDER_AT].min(MOST_ORDER) as usize;
+    for row in sizes.iter().take(last + 1) {
+        print!(rt; " {} {}", row[BUILT_AT], row[LIVE_AT])?;
     }
     Ok(())
 }
 
-fn print_step(rt: &impl Print, kind: u32, last: Last, table: &[Row]) -> io::Result<()> {
-    print!(rt; "{kind}")?;
-    print_number(rt, last.refusal as u64)?;
-    print_number(rt, last.second as u64)?;
-    print_number(rt, last.distances as u64)?;
-    print_number(rt, last.total)?;
-    print_sizes(rt, table)?;
-    println!(rt)
-}
-
 fn run(rt: &impl Print, table: &mut [Row], work: &mut [Row], res: &mut [Entry]) -> io::Result<()> {
-    let mut i = 0;
-    while i < COUNT {
-        let kind = steps::KINDS[i];
-        let last = perform(table, work, res, kind, steps::FIRST[i], steps::SECOND[i]);
-        print_step(rt, kind, last, table)?;
-        i += 1;
+    for step in STEPS {
+        let last = perform(table, work, res, step);
+        print!(rt; "{} {last}", step.kind())?;
+        print_sizes(rt, table)?;
+        println!(rt)?;
     }
     Ok(())
 }

@@ -8,4 +8,4 @@ use Rattle.yard.proofs.main.Goals as goal
 
 pub converse-requires : goal.converse-requires
 unfolding room first_slot table_rows work_rows most_yard_order lent
-converse-requires c = (search rules, search rules, search rules, search rules, record { table = omega arith; work = omega arith; result = omega arith })
+converse-requires c = (search rules, search rules, search rules, record { table = omega arith; work = omega arith; result = omega arith })
