@@ -16,8 +16,8 @@ use metric::distance_between;
 use metric_rules::Row;
 use search_rules::Entry;
 
-// The place of the entry with the least first word. The steps here are those of tree_arrange over another layout: there a
-// row is moved, here an entry that names an image's slot. Each is a line or two.
+// The place of the entry with the least first word. The steps here are those of tree_arrange over another layout: there
+// a row is moved, here an entry that names an image's slot. Each is a line or two.
 fn least_at(entries: &[Entry]) -> usize
     requires { 1 ≤ length entries.now }
     ensures { (result < length entries.now)

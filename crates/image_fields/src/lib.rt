@@ -16,8 +16,8 @@ use table_checks::size_passes;
 use table_order::Order;
 use validity::{valid_day, valid_measures, valid_tag};
 
-// Every bucket's sizes, and the live items in all, in one pass, as table_checks has them of a table. One function over a
-// closure would need built_in and live_in, or built_of and live_of, as conditions on what the closure returns.
+// Every bucket's sizes, and the live items in all, in one pass, as table_checks has them of a table. One function over
+// a closure would need built_in and live_in, or built_of and live_of, as conditions on what the closure returns.
 pub fn sizes_pass(image: Image) -> bool
     ensures { let read = image.entry.bytes.now in
         result ≡ sizes_pass (order_in read) (built_in read) (live_in read) }

@@ -12,8 +12,8 @@ use search_rules::Entry;
 use table_checks::Checked;
 
 // The live ones of the table's rows from `first` to before `end`, behind the first n entries. The reply is the number
-// of entries there now. Of a live row image_test keeps its tag and place in one word, and table_buckets the row: the walk
-// is four lines, and what is kept differs.
+// of entries there now. Of a live row image_test keeps its tag and place in one word, and table_buckets the row: the
+// walk is four lines, and what is kept differs.
 fn enter_live(table: &[Row], first: usize, end: usize, entries: &mut [Entry], n: usize) -> usize
     requires { (first ≤ end)
         × (end ≤ length table.now)

@@ -26,7 +26,8 @@ pub fn zero_behind(area: &mut [Entry], n: usize)
     zero_entries(&mut area[n..]);
 }
 
-// A refusal returns its number and zeros. The number is any, as the contract has it: a Refusal would be a narrower type.
+// A refusal returns its number and zeros. The number is any, as the contract has it: a Refusal would be a narrower
+// type.
 pub fn refused(refusal: u32) -> Searched
     ensures { result ≡ record { refusal = refusal; found = 0; distances = 0 } }
 {

@@ -32,8 +32,8 @@ fn put_length(part: &mut [u8], n: u32)
     put::<LENGTH_BYTES>(part, 0, n);
 }
 
-// The snapshot in its part: 23 and 24, then 6, then the image and its length. The writer's reply is C's, with a refusal's
-// number.
+// The snapshot in its part: 23 and 24, then 6, then the image and its length. The writer's reply is C's, with a
+// refusal's number.
 fn save_part(table: &[Row], part: &mut [u8]) -> Written
     ensures reply { result ≡ write_reply table.now (behind_length part.old) }
     ensures area { part.new ≡ part_after_save table.now part.old }

@@ -15,8 +15,8 @@ use table_order::Order;
 use table_rules::Added;
 use validity::{valid_day, valid_measures, valid_tag};
 
-// The table's order, or the first refusal that applies, in the call's order. An item's tag, profile and day go on as C's
-// call has them.
+// The table's order, or the first refusal that applies, in the call's order. An item's tag, profile and day go on as
+// C's call has them.
 #[tactic(auto, unfolding(table_rules::specs::Add::add_refusal))]
 fn add_check(
     table: &[Row],

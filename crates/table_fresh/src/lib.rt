@@ -68,8 +68,8 @@ fn fresh_check(rows: usize, order: u32, space: Space) -> Result<Order, Refusal>
     Ok(order)
 }
 
-// The refusal, 0 if accepted: a number, as vpindex_fresh replies it and yard prints it. Nothing of the table is read but
-// its length.
+// The refusal, 0 if accepted: a number, as vpindex_fresh replies it and yard prints it. Nothing of the table is read
+// but its length.
 #[tactic(auto, unfolding(table_rules::specs::Fresh::table_after_fresh))]
 pub fn fresh(table: &mut [Row], order: u32, space: Space) -> u32
     ensures reply { result ≡ fresh_refusal (length table.old) order space }

@@ -69,8 +69,8 @@ fn lots_check<'a>(
 }
 
 // The entries drafted by every radius in turn, each with its summary; the lots by the radius at place `at` are listed.
-// The lent areas stay arguments: each contract over a struct of them, lent on, would also have to say that it still holds
-// the same three, and by value it would call what they are left with exit.0 and exit.1.0.
+// The lent areas stay arguments: each contract over a struct of them, lent on, would also have to say that it still
+// holds the same three, and by value it would call what they are left with exit.0 and exit.1.0.
 fn draft_each(
     table: Checked<'_>,
     entries: &mut [Entry],

@@ -13,8 +13,8 @@ pub struct Order {
     pub t: u32,
 }
 
-// A contract asks of an order no more than that what is worked out fits its type; that it is at most 12 is said of a table
-// (OfOrder, Passed), whose order it is.
+// A contract asks of an order no more than that what is worked out fits its type; that it is at most 12 is said of a
+// table (OfOrder, Passed), whose order it is.
 impl Order {
     // 0 and 12 are constants of the order itself.
     pub const LEAST: u32 = 0;

@@ -131,8 +131,8 @@ fn order_parts(area: &mut [Entry], found: &Numbers, n: usize, part: usize) -> bo
     ensures fits { result ≡ every (λ hits. leb hits part) (take n found.now) }
     ensures parts { result ≡ true → (j : ℕ) → j < n → Ordered part found.now area.old area.new j }
 {
-    // Not by chunks_mut: where the area is shorter than the queries are many a part has no entry, and there are no chunks
-    // of none.
+    // Not by chunks_mut: where the area is shorter than the queries are many a part has no entry, and there are no
+    // chunks of none.
     for j in 0..n {
         let start = j * part;
         let end = start + part;

@@ -1,5 +1,5 @@
-// The calls of the index for C: each is the call of crates/vpindex that has its name, and has its contract. A crate is a
-// library or exports to C, and C has a function for each call: so each stands in both crates.
+// The calls of the index for C: each is the call of crates/vpindex that has its name, and has its contract. A crate is
+// a library or exports to C, and C has a function for each call: so each stands in both crates.
 #![tactic(auto)]
 
 ghost use Rattle.std.specs.Prelude.{◌≡◌, length};

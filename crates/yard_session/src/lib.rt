@@ -79,7 +79,8 @@ pub fn take_line(
     from: usize,
     at: Place,
 ) -> Place
-    requires { (96 ≤ length area.old) × (length area.old < 2 ^ 32) × (at.number < 2 ^ 64 - 1) × (from < length piece.now) }
+    requires { (96 ≤ length area.old) × (length area.old < 2 ^ 32)
+        × (at.number < 2 ^ 64 - 1) × (from < length piece.now) }
     ensures same { SameAreas lent.old lent.new }
     ensures from_lt_from { (from < result.from) × (result.from ≤ length piece.now) × (result.number ≤ at.number + 1)
         × (result.printed ≤ length lent.old.out.now) }
