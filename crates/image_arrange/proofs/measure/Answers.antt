@@ -3,7 +3,7 @@ use native.Mathlib.Omega.{arith}
 use mathlib.Core.Path.{◌≡◌, refl, sym, ◌∙◌, ap, subst}
 use mathlib.Core.List.{List, [], ◌∷◌, map}
 use Prim.Native.Nat.{ℕ, ◌%◌, ◌<◌}
-use lib.ListN.{length, length-map, get_or, length-set}
+use lib.ListN.{length, length-map, get_or}
 use Rattle.lists.specs.Lists.{All}
 use Rattle.lists.proofs.Lists.{all_at}
 use Rattle.metric_rules.specs.Row.{Row, profile_of}
@@ -35,13 +35,13 @@ module _ (slot : ℕ → Row) (dist : Profile → Profile → ℕ) (v : Row) (n 
       ∙ sym (get_or_mapped (measuredIn slot dist v) old i [] [] h)
 
 pub loop-entry-init : goal.loop-entry-init
-loop-entry-init c = (refl, refl)
+loop-entry-init c = refl
 
 pub slot-row-requires : goal.slot-row-requires
 slot-row-requires c =
     let a = c.args in
     let l = c.loop-entry in
-    place_within (slot_in a.slots) (distance (space_of a.header.now)) a.v a.slots.count a.entries.now l.entries l.entry-index c.requires (omega arith) l.invariant.1
+    place_within (slot_in a.slots) (distance (space_of a.header.now)) a.v a.slots.count a.entries.now l.entries l.entry-index c.requires (omega arith) l.invariant
 
 pub loop-entry-preserved : goal.loop-entry-preserved
 loop-entry-preserved c =
@@ -51,13 +51,11 @@ loop-entry-preserved c =
     let h : i < length a.entries.now = omega arith in
     let slot : ℕ → Row = slot_in a.slots in
     let dist : Profile → Profile → ℕ = distance (space_of a.header.now) in
-    let x : Entry = get_or (get_or l.entries i []) 0 0 ∷ c.from.result ∷ [] in (
-      simp length-set l.invariant.0,
-      written_step a.entries.now (map (measuredIn slot dist a.v) a.entries.now) (length-map a.entries.now (measuredIn slot dist a.v)) []
-          l.entries x i h l.invariant.1
-          (measured_at slot dist a.v a.slots.count a.entries.now l.entries i c.from.result h l.invariant.1
-          (c.from.ensures ∙ c.distance_between.ensures ∙ ap (λ (r : Row). dist (profile_of a.v) (profile_of r)) c.slot-row.ensures)),
-    )
+    let x : Entry = get_or (get_or l.entries i []) 0 0 ∷ c.from.result ∷ [] in
+    written_step a.entries.now (map (measuredIn slot dist a.v) a.entries.now) (length-map a.entries.now (measuredIn slot dist a.v)) []
+    l.entries x i h l.invariant
+    (measured_at slot dist a.v a.slots.count a.entries.now l.entries i c.from.result h l.invariant
+    (c.from.ensures ∙ c.distance_between.ensures ∙ ap (λ (r : Row). dist (profile_of a.v) (profile_of r)) c.slot-row.ensures))
 
 pub returns : goal.returns
 returns c =
@@ -65,4 +63,4 @@ returns c =
     let l = c.loop-entry in
     let slot : ℕ → Row = slot_in a.slots in
     let dist : Profile → Profile → ℕ = distance (space_of a.header.now) in
-    l.invariant.1 ∙ written_all a.entries.now (map (measuredIn slot dist a.v) a.entries.now) (length-map a.entries.now (measuredIn slot dist a.v)) [] l.entry-index (omega arith)
+    l.invariant ∙ written_all a.entries.now (map (measuredIn slot dist a.v) a.entries.now) (length-map a.entries.now (measuredIn slot dist a.v)) [] l.entry-index (omega arith)

@@ -1,6 +1,6 @@
 -- `image_fill::fill_room` meets its contract. The loop's invariant: the first i rows are those of the room.
 use Rattle.std.proofs.Common.{◌≡◌, ℕ, ◌-◌, ◌≤◌, [], length, get_or, replicate, refl, sym, ◌∙◌, arith}
-use lib.ListN.{length-append, length-replicate, length-set}
+use lib.ListN.{length-append, length-replicate}
 use Rattle.metric_rules.specs.Row.{zero_row}
 use Rattle.image_read.specs.declared.slots.Slots.{Slots}
 use Rattle.image_read.specs.Slots.{slots_at}
@@ -14,7 +14,7 @@ long slots n h =
     omega (arith, length-append (slots_at slots) (replicate (n - slots.count) zero_row), slots_length slots, length-replicate (n - slots.count) zero_row)
 
 pub loop-i-init : goal.loop-i-init
-loop-i-init c = (refl, refl)
+loop-i-init c = refl
 
 pub loop-i-preserved : goal.loop-i-preserved
 loop-i-preserved c =
@@ -25,17 +25,12 @@ loop-i-preserved c =
     let whole : length new ≡ n = long a.slots n c.requires in
     let here : c.slot_or_zero.result ≡ get_or new l.i [] =
     c.slot_or_zero.ensures
-    ∙ sym (padded_at (slots_at a.slots) (n - a.slots.count) l.i zero_row [] (omega (arith, slots_length a.slots, c.requires))) in (
-      length-set l.rows l.i c.slot_or_zero.result ∙ l.invariant.0,
-      written_more a.rows.now new l.rows l.i [] c.slot_or_zero.result (omega arith) (omega (arith, whole)) here l.invariant.1,
-    )
-
-pub shape_of-rows : goal.shape_of-rows
-shape_of-rows c = c.loop-i.invariant.0
+    ∙ sym (padded_at (slots_at a.slots) (n - a.slots.count) l.i zero_row [] (omega (arith, slots_length a.slots, c.requires))) in
+    written_more a.rows.now new l.rows l.i [] c.slot_or_zero.result (omega arith) (omega (arith, whole)) here l.invariant
 
 pub returns : goal.returns
 returns c =
     let a = c.args in
     let l = c.loop-i in
     let new = target a.slots (length a.rows.now) in
-    l.invariant.1 ∙ written_all a.rows.now new l.i (omega arith) (omega (arith, long a.slots (length a.rows.now) c.requires))
+    l.invariant ∙ written_all a.rows.now new l.i (omega arith) (omega (arith, long a.slots (length a.rows.now) c.requires))

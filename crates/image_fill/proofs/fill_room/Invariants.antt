@@ -10,4 +10,4 @@ target slots n = slots_at slots ++ replicate (n - slots.count) zero_row
 
 abbrev pub invariant-loop-i : goal.invariant-loop-i
 invariant-loop-i l =
-    (length l.rows ≡ length l.initial.rows) × (l.rows ≡ paste l.initial.rows 0 (target l.slots (length l.initial.rows)) l.i)
+    l.rows ≡ paste l.initial.rows 0 (target l.slots (length l.initial.rows)) l.i

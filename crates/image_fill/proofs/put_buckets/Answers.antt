@@ -28,12 +28,12 @@ pub loop-k-init : goal.loop-k-init
 unfolding slots_before total count_from
 loop-k-init c =
     let image = c.args.image.image.bytes.now in
-    (refl, refl, c.requires, ap (foldl (put image) c.args.table.now) (buckets_all (order_in image)))
+    (refl, c.requires, ap (foldl (put image) c.args.table.now) (buckets_all (order_in image)))
 
 pub put_bucket-requires : goal.put_bucket-requires
 put_bucket-requires c =
     let image = c.args.image in
-    (of_header image c.loop-k.invariant.2, omega (arith, image.image.headed.order), c.bucket-bucket.ensures.room)
+    (of_header image c.loop-k.invariant.1, omega (arith, image.image.headed.order), c.bucket-bucket.ensures.room)
 
 pub loop-k-preserved : goal.loop-k-preserved
 loop-k-preserved c =
@@ -44,19 +44,15 @@ loop-k-preserved c =
     let e = c.bucket-bucket.ensures in
     let made : stored.new.table ≡ put image l.table l.k =
     stored.ensures ∙ ap₂ (λ slots live. put_bucket l.k slots live l.table) e.rows e.sizes.1 in (
-      stored.auto.table ∙ l.invariant.0,
-      omega (arith, before_more image l.k, l.invariant.1, e.sizes.0),
-      rw made (lent_put l.invariant.2 l.k (omega arith) (bucket_in image l.k) (live_in image l.k) (roomy c.args.image l.k (omega arith))),
+      omega (arith, before_more image l.k, l.invariant.0, e.sizes.0),
+      rw made (lent_put l.invariant.1 l.k (omega arith) (bucket_in image l.k) (live_in image l.k) (roomy c.args.image l.k (omega arith))),
       ap (λ (u : Table). foldl (put image) u (buckets_from t (l.k + 1))) made
           ∙ ap (foldl (put image) l.table) (sym (buckets_next t l.k (omega arith)))
-          ∙ l.invariant.3,
+          ∙ l.invariant.2,
     )
-
-pub shape_of-table : goal.shape_of-table
-shape_of-table c = c.loop-k.invariant.0
 
 pub returns : goal.returns
 returns c =
     let image = c.args.image.image.bytes.now in
     let l = c.loop-k in
-    ap (foldl (put image) l.table) (sym (buckets_end (order_in image) l.k (omega arith))) ∙ l.invariant.3
+    ap (foldl (put image) l.table) (sym (buckets_end (order_in image) l.k (omega arith))) ∙ l.invariant.2

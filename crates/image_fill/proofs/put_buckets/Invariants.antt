@@ -1,4 +1,4 @@
-use Rattle.std.proofs.Common.{◌≡◌, ℕ, List, length}
+use Rattle.std.proofs.Common.{◌≡◌, ℕ, List}
 use mathlib.Core.List.{foldl}
 use Rattle.table_rules.specs.Geometry.{buckets_of}
 use Rattle.table_rules.specs.Table.{Table, put_bucket}
@@ -13,7 +13,6 @@ put image u k = put_bucket k (bucket_in image k) (live_in image k) u
 abbrev pub invariant-loop-k : goal.invariant-loop-k
 invariant-loop-k l =
     let image = l.image.image.bytes.now in
-    (length l.table ≡ length l.initial.table)
-    × (l.first ≡ slots_before image l.k)
+    (l.first ≡ slots_before image l.k)
     × OfOrder l.table (order_in image)
     × (foldl (put image) l.table (buckets_from (order_in image) l.k) ≡ foldl (put image) l.initial.table (buckets_of (order_in image)))

@@ -1,7 +1,7 @@
 -- The buckets from k on have the first fault, and `first` is the first slot of bucket k.
 use Rattle.std.proofs.Common.{◌≡◌, ℕ, ◌+◌, ◌≤◌, List, map, get_or, drop, Bor, refl, sym, ap, ◌∙◌, arith}
 use Rattle.std.proofs.lemmas.Result.{err_from_is_err_and}
-use lib.Seq.{length-take-le, length_front}
+use lib.Seq.{length-take-le}
 use Rattle.lists.specs.Lists.{count_from, total}
 use Rattle.metric_rules.specs.Row.{Row}
 use Rattle.metric_rules.specs.Distance.{space_of}
@@ -41,17 +41,17 @@ module _ (image : List ℕ) (row : Row) (k : ℕ) (told all : Loaded) (h : k ≤
 
 pub loop-k-init : goal.loop-k-init
 unfolding slots_before count_from total
-loop-k-init c = (refl, refl, refl)
+loop-k-init c = (refl, refl)
 
 pub slice_bounds-tree_fault-end : goal.slice_bounds-tree_fault-end
 slice_bounds-tree_fault-end c =
     let l = c.loop-k in
-    omega (arith, l.invariant.0, c.requires.0, few c.args.image l.k _ (omega arith) c.bucket.ensures.sizes.0)
+    omega (arith, l.auto.entries, c.requires.0, few c.args.image l.k _ (omega arith) c.bucket.ensures.sizes.0)
 
 pub slice_bounds-tree_fault-end-in-loop-k : goal.slice_bounds-tree_fault-end-in-loop-k
 slice_bounds-tree_fault-end-in-loop-k c =
     let l = c.loop-k in
-    sym (length-take-le _ _ (omega (arith, l.invariant.0, c.requires.0, few c.args.image l.k _ (omega arith) c.bucket.ensures.sizes.0)))
+    sym (length-take-le _ _ (omega (arith, l.auto.entries, c.requires.0, few c.args.image l.k _ (omega arith) c.bucket.ensures.sizes.0)))
 
 pub tree_fault-requires : goal.tree_fault-requires
 tree_fault-requires c =
@@ -59,7 +59,7 @@ tree_fault-requires c =
     let whole = c.args.image.whole in
     let image = c.args.image.image.bytes.now in
     bucket_asks image c.bucket.result.slots l.k (now_same c.bucket.ensures.place.0) (all_few image whole.order whole.sizes) l.entries _ refl
-    (omega (arith, l.invariant.0, c.requires.0, few c.args.image l.k _ (omega arith) c.bucket.ensures.sizes.0)) c.requires.1
+    (omega (arith, l.auto.entries, c.requires.0, few c.args.image l.k _ (omega arith) c.bucket.ensures.sizes.0)) c.requires.1
 
 pub returns-in_err-tree_fault : goal.returns-in_err-tree_fault
 returns-in_err-tree_fault c =
@@ -70,8 +70,8 @@ returns-in_err-tree_fault c =
     let fault = c.in_err-tree_fault.field-0.0 in
     rw (r.1, r.2)
     (stops image c.args.row.now l.k _ _ (omega arith)
-    (bucket_tests image c.bucket.result.slots l.k (now_same e.place.0) (space_of c.args.row.now) _ (omega arith) (e.place.1 ∙ l.invariant.1) e.rows c.in_err-tree_fault.ensures)
-    l.invariant.2 (fault_refused fault))
+    (bucket_tests image c.bucket.result.slots l.k (now_same e.place.0) (space_of c.args.row.now) _ (omega arith) (e.place.1 ∙ l.invariant.0) e.rows c.in_err-tree_fault.ensures)
+    l.invariant.1 (fault_refused fault))
 
 pub loop-k-preserved : goal.loop-k-preserved
 loop-k-preserved c =
@@ -79,11 +79,10 @@ loop-k-preserved c =
     let e = c.bucket.ensures in
     let t = c.tree_fault in
     let image = c.args.image.image.bytes.now in (
-      length_front l.entries t.new.entries c.bucket.result.slots.count t.auto.entries ∙ l.invariant.0,
-      omega (arith, before_more image l.k, l.invariant.1, e.sizes.0),
+      omega (arith, before_more image l.k, l.invariant.0, e.sizes.0),
       goes image c.args.row.now l.k _ _ (omega arith)
-          (bucket_tests image c.bucket.result.slots l.k (now_same e.place.0) (space_of c.args.row.now) _ (omega arith) (e.place.1 ∙ l.invariant.1) e.rows c.in_ok-tree_fault.ensures)
-          l.invariant.2 refl,
+          (bucket_tests image c.bucket.result.slots l.k (now_same e.place.0) (space_of c.args.row.now) _ (omega arith) (e.place.1 ∙ l.invariant.0) e.rows c.in_ok-tree_fault.ensures)
+          l.invariant.1 refl,
     )
 
 pub returns : goal.returns
@@ -91,4 +90,4 @@ unfolding no_fault
 returns c =
     let image = c.args.image.image.bytes.now in
     let l = c.loop-k in
-    fault_none (faults image c.args.row.now) (buckets_of (order_in image)) l.k (omega (arith, buckets_length (order_in image))) l.invariant.2
+    fault_none (faults image c.args.row.now) (buckets_of (order_in image)) l.k (omega (arith, buckets_length (order_in image))) l.invariant.1

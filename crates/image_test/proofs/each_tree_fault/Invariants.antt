@@ -1,4 +1,4 @@
-use Rattle.std.proofs.Common.{◌≡◌, ℕ, List, length, map, drop}
+use Rattle.std.proofs.Common.{◌≡◌, ℕ, List, map, drop}
 use Rattle.metric_rules.specs.Row.{Row}
 use Rattle.metric_rules.specs.Distance.{space_of}
 use Rattle.table_rules.specs.Geometry.{buckets_of}
@@ -14,6 +14,5 @@ faults image row = bucket_fault (space_of row) image
 abbrev pub invariant-loop-k : goal.invariant-loop-k
 invariant-loop-k l =
     let image = l.image.image.bytes.now in
-    (length l.entries ≡ length l.initial.entries)
-    × (l.first ≡ slots_before image l.k)
+    (l.first ≡ slots_before image l.k)
     × (first_of (map (faults image l.row) (drop l.k (buckets_of (order_in image)))) ≡ first_of (map (faults image l.row) (buckets_of (order_in image))))

@@ -1,10 +1,10 @@
 -- The entries in front are those of the live slots passed.
 use native.Mathlib.Omega.{arith}
-use mathlib.Core.Path.{◌≡◌, refl, sym, ◌∙◌, ap, subst, subst₂}
+use mathlib.Core.Path.{◌≡◌, sym, ◌∙◌, ap, subst, subst₂}
 use mathlib.Core.Bool.{true, false}
 use mathlib.Core.List.{List}
 use Prim.Native.Nat.{ℕ, ◌+◌, ◌<◌, ◌^◌}
-use lib.ListN.{length, length-set}
+use lib.ListN.{length}
 use Rattle.metric_rules.specs.Row.{Row, tag_of, is_live}
 use Rattle.search_rules.specs.Range.{Entry}
 use Rattle.image_entries.specs.Entries.{tag_entry, counted_entries}
@@ -22,10 +22,10 @@ room c =
     let slot : ℕ → Row = slot_in c.args.slots in
     let live = c.is_live in
     let is : is_live (slot l.i) ≡ true = sym (live.ensures ∙ ap is_live c.slot-row.ensures) ∙ c.if-is_live.true in
-    omega (arith, c.requires.1, l.invariant.0, live_room slot l.entries l.count l.i c.args.slots.count l.invariant.1 (omega arith) is)
+    omega (arith, c.requires.1, l.auto.entries, live_room slot l.entries l.count l.i c.args.slots.count l.invariant (omega arith) is)
 
 pub loop-i-init : goal.loop-i-init
-loop-i-init c = (refl, entered_none (slot_in c.args.slots) c.args.entries.now)
+loop-i-init c = entered_none (slot_in c.args.slots) c.args.entries.now
 
 pub tag_entry-requires : goal.tag_entry-requires
 tag_entry-requires c =
@@ -56,17 +56,13 @@ loop-i-preserved c =
           let x : w.tag_entry.result ≡ tag_entry (tag_of (slot l.i)) l.i =
           w.tag_entry.ensures ∙ ap (λ (t : ℕ). tag_entry t l.i) (w.tag_of.ensures ∙ ap tag_of row.ensures) in
           let space : l.count < length l.entries =
-          omega (arith, c.requires.1, l.invariant.0, live_room slot l.entries l.count l.i c.args.slots.count l.invariant.1 (omega arith) is) in (
-            ap length w.entries-is ∙ length-set l.entries l.count w.tag_entry.result ∙ l.invariant.0,
-            subst₂ (λ (es : List Entry) (n : ℕ). Entered slot es n (l.i + 1)) (sym w.entries-is) (sym w.count-is)
-                (entered_live slot l.entries l.count l.i w.tag_entry.result l.invariant.1 is space x),
-          )
+          omega (arith, c.requires.1, l.auto.entries, live_room slot l.entries l.count l.i c.args.slots.count l.invariant (omega arith) is) in
+          subst₂ (λ (es : List Entry) (n : ℕ). Entered slot es n (l.i + 1)) (sym w.entries-is) (sym w.count-is)
+          (entered_live slot l.entries l.count l.i w.tag_entry.result l.invariant is space x)
       | else-is_live w ↦
-          let is : is_live (slot l.i) ≡ false = sym mark ∙ w.if-is_live.false in (
-            ap length w.entries-is ∙ l.invariant.0,
-            subst₂ (λ (es : List Entry) (n : ℕ). Entered slot es n (l.i + 1)) (sym w.entries-is) (sym w.count-is)
-                (entered_dead slot l.entries l.count l.i l.invariant.1 is),
-          )
+          let is : is_live (slot l.i) ≡ false = sym mark ∙ w.if-is_live.false in
+          subst₂ (λ (es : List Entry) (n : ℕ). Entered slot es n (l.i + 1)) (sym w.entries-is) (sym w.count-is)
+          (entered_dead slot l.entries l.count l.i l.invariant is)
     ]
 
 pub returns : goal.returns
@@ -75,4 +71,4 @@ returns c =
     let slot : ℕ → Row = slot_in c.args.slots in
     let done : l.i ≡ c.args.slots.count = omega arith in
     let all = ap (counted_entries slot is_live) done in
-    record { counted = l.invariant.1.counted ∙ ap length all; entered = l.invariant.1.front ∙ all }
+    record { counted = l.invariant.counted ∙ ap length all; entered = l.invariant.front ∙ all }
