@@ -1,16 +1,22 @@
 -- Where each part of an image begins, and that the parts put one after the other are the image.
 use Prim.Native.Nat.{ℕ, ◌+◌}
-use mathlib.Core.Path.{◌≡◌, ap, ◌∙◌}
+use mathlib.Core.Path.{◌≡◌, refl, ap, ◌∙◌}
 use mathlib.Core.List.{List, ◌∷◌, ◌++◌}
 use native.Mathlib.Omega.{arith}
 use lib.ListN.{length, length-append}
 use lib.Seq.{sets}
+use Rattle.lists.specs.Lists.{total}
 use Rattle.table_rules.specs.Table.{Table, order_of, table_space, built_of, live_of}
-use Rattle.image_rules.specs.Bytes.{written_form, header_fields, header_bytes, sizes_end}
+use Rattle.image_rules.specs.Bytes.{written_form, start_fields, weight_fields, header_fields, header_bytes, sizes_end}
 use Rattle.image_rules.specs.Write.{header_bytes_of, sizes_of, tags_of, records_of, all_slots, image_as, image_of}
 use Rattle.image_rules.proofs.Bytes.{length_fields}
 use Rattle.image_rules.proofs.Lengths.{length_sizes}
 use Rattle.tree_rules.proofs.Stores.{sets_more}
+
+-- the header that is written is of eight bytes
+pub eight : header_bytes written_form ≡ 8
+unfolding header_bytes header_fields start_fields weight_fields written_form total
+eight = refl
 
 -- the four parts of an image
 module _ (t : Table) where

@@ -11,36 +11,29 @@ use Rattle.table_rules.specs.Table.{Table, put_sizes}
 use Rattle.table_order.proofs.Orders.{room_fits}
 use Rattle.image_read.specs.Slots.{slots_at}
 use Rattle.image_read.proofs.Places.{slots_length}
+use Rattle.table_buckets.specs.OfOrder.{OfOrder}
 use Rattle.table_buckets.proofs.Places.{sizes_inside, room_inside, room_given_back}
 use Rattle.image_fill.proofs.put_bucket.Goals as goal
 
+-- the part lent is the bucket's room
+part_lent :
+    {t : Table} {order : ℕ} (of : OfOrder t order) (k first size : ℕ) → k ≤ order → first ≡ first_slot order k → size ≡ room k
+    → length (take (first + size - first) (drop first t)) ≡ room k
+part_lent {t} of k first size h f e =
+    omega (arith, length-take (first + size - first) (drop first t), length-drop first t, room_inside of k h)
+
 pub overflow_add-end : goal.overflow_add-end
-overflow_add-end c =
-    let inside : first_slot c.args.order.t c.args.k + room c.args.k ≤ length c.args.table.now =
-    room_inside c.requires.0 c.args.k c.requires.1 in
-    omega (arith, inside, c.first_slot-first.ensures, c.room.ensures)
+overflow_add-end c = omega (arith, room_inside c.requires.0 c.args.k c.requires.1, c.first_slot-first.ensures, c.room.ensures)
 
 pub offset_bounds-table-first : goal.offset_bounds-table-first
-offset_bounds-table-first c =
-    let inside : first_slot c.args.order.t c.args.k + room c.args.k ≤ length c.args.table.now =
-    room_inside c.requires.0 c.args.k c.requires.1 in
-    omega (arith, inside, c.first_slot-first.ensures)
+offset_bounds-table-first c = omega (arith, room_inside c.requires.0 c.args.k c.requires.1, c.first_slot-first.ensures)
 
 pub slice_bounds-fill_room-end : goal.slice_bounds-fill_room-end
-slice_bounds-fill_room-end c =
-    let inside : first_slot c.args.order.t c.args.k + room c.args.k ≤ length c.args.table.now =
-    room_inside c.requires.0 c.args.k c.requires.1 in
-    omega (arith, inside, c.first_slot-first.ensures, c.room.ensures)
+slice_bounds-fill_room-end c = omega (arith, room_inside c.requires.0 c.args.k c.requires.1, c.first_slot-first.ensures, c.room.ensures)
 
 pub fill_room-requires : goal.fill_room-requires
 fill_room-requires c =
-    let inside : first_slot c.args.order.t c.args.k + room c.args.k ≤ length c.args.table.now =
-    room_inside c.requires.0 c.args.k c.requires.1 in
-    -- the part lent is the bucket's room
-    let part : (first size : ℕ) → first ≡ first_slot c.args.order.t c.args.k → size ≡ room c.args.k
-    → length (take (first + size - first) (drop first c.args.table.now)) ≡ room c.args.k = λ first size f e. let t : Table = c.args.table.now in
-    omega (arith, length-take (first + size - first) (drop first t), length-drop first t, inside) in
-    omega (arith, part _ _ c.first_slot-first.ensures c.room.ensures, c.requires.2)
+    omega (arith, part_lent c.requires.0 c.args.k _ _ c.requires.1 c.first_slot-first.ensures c.room.ensures, c.requires.2)
 
 -- the slots are few
 pub overflow_cast-bucket : goal.overflow_cast-bucket
@@ -56,11 +49,6 @@ put_sizes-requires c =
 
 pub returns : goal.returns
 returns c =
-    let inside : first_slot c.args.order.t c.args.k + room c.args.k ≤ length c.args.table.now =
-    room_inside c.requires.0 c.args.k c.requires.1 in
-    let part : (first size : ℕ) → first ≡ first_slot c.args.order.t c.args.k → size ≡ room c.args.k
-    → length (take (first + size - first) (drop first c.args.table.now)) ≡ room c.args.k = λ first size f e. let t : Table = c.args.table.now in
-    omega (arith, length-take (first + size - first) (drop first t), length-drop first t, inside) in
     let k = c.args.k in
     let t = c.args.table.now in
     let bucket = c.args.bucket in
@@ -70,7 +58,7 @@ returns c =
     let f = c.fill_room in
     let long = slots_length bucket.slots in
     let rest : length (take (first.result + size.result - first.result) (drop first.result t)) - bucket.slots.count ≡ room k - length slots =
-    omega (arith, part first.result size.result first.ensures size.ensures, long) in
+    omega (arith, part_lent c.requires.0 k first.result size.result c.requires.1 first.ensures size.ensures, long) in
     let block : f.new.rows ≡ slots ++ replicate (room k - length slots) zero_row =
     f.ensures ∙ ap (λ (n : ℕ). slots ++ replicate n zero_row) rest in
     c.put_sizes.ensures
