@@ -70,7 +70,12 @@ header_outcome a number (Some header) =
     elim (header_refusal a.table header.order header.metric) [
       | zero ↦
           record {
-            areas = record { table = table_after_fresh header.order (yard_space header.metric) a.table; work = a.work; result = a.result };
+            areas =
+                record {
+                  table = table_after_fresh header.order (yard_space header.metric) a.table;
+                  work = a.work;
+                  result = a.result;
+                };
             stage = stage.Serving;
             text = [];
           }
@@ -94,7 +99,8 @@ areas_after a (Some (command.Remove tag)) p =
     }
 areas_after a (Some (command.Within radius firstDay)) p =
     record { table = a.table; work = a.work; result = result_after_range a.table a.result p radius firstDay }
-areas_after a (Some (command.Nearest k firstDay)) p = record { table = a.table; work = a.work; result = result_after_nearest a.table a.result p k firstDay }
+areas_after a (Some (command.Nearest k firstDay)) p =
+    record { table = a.table; work = a.work; result = result_after_nearest a.table a.result p k firstDay }
 areas_after a None p = a
 
 -- RULES 18.3, and what is printed: a search's entries are those of the result area after it
@@ -102,13 +108,16 @@ unfoldable pub text_after : Areas → ℕ → Option Command → Profile → Lis
 text_after a number (Some (command.Add tag day)) p = add_text (add_reply a.table a.work tag p day)
 text_after a number (Some (command.Remove tag)) p = remove_text (remove_reply a.table a.work tag)
 text_after a number (Some (command.Within radius firstDay)) p =
-    search_text letter_w (range_reply a.table a.result p radius firstDay) (result_after_range a.table a.result p radius firstDay)
+    search_text letter_w (range_reply a.table a.result p radius firstDay)
+    (result_after_range a.table a.result p radius firstDay)
 text_after a number (Some (command.Nearest k firstDay)) p =
-    search_text letter_n (nearest_reply a.table a.result p k firstDay) (result_after_nearest a.table a.result p k firstDay)
+    search_text letter_n (nearest_reply a.table a.result p k firstDay)
+    (result_after_nearest a.table a.result p k firstDay)
 text_after a number None p = other_text number
 
 unfoldable pub command_outcome : Areas → ℕ → Option Command → Profile → LineOutcome
-command_outcome a number c p = record { areas = areas_after a c p; stage = stage.Serving; text = text_after a number c p }
+command_outcome a number c p =
+    record { areas = areas_after a c p; stage = stage.Serving; text = text_after a number c p }
 
 -- RULES 18.7, a line by its number: one that is `?` counts, and the header is line 1
 unfoldable pub line_outcome : Areas → ℕ → Stage → List ℕ → LineOutcome

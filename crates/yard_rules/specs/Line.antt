@@ -1,6 +1,7 @@
 -- RULES 18: the form of a line, and what a line of that form says. Every line of bytes is a header or not, and a
 -- command or not.
-use Rattle.std.specs.Prelude.{ℕ, ◌^◌, Bool, true, false, ◌&&◌, ◌||◌, List, [], ◌∷◌, length, get_or, take, drop, ltb, eqb, Option, Some, None}
+use Rattle.std.specs.Prelude.{ℕ, ◌^◌, Bool, true, false, ◌&&◌, ◌||◌, List, [], ◌∷◌, length, get_or, take, drop, ltb}
+use Rattle.std.specs.Prelude.{eqb, Option, Some, None}
 use Rattle.metric_rules.specs.declared.Profile.{Profile}
 use Rattle.yard_rules.specs.declared.Header.{Header}
 use Rattle.yard_rules.specs.declared.Command.{Command}
@@ -29,7 +30,10 @@ is_code text = eqb (only_byte text) minus || is_numeral 16 32 32 text
 
 unfoldable pub code_in : List ℕ → List ℕ
 code_in text =
-    elim (eqb (only_byte text) minus) [ true ↦ 0 ∷ 0 ∷ [] | false ↦ numeral 16 (take 16 text) ∷ numeral 16 (drop 16 text) ∷ [] ]
+    elim (eqb (only_byte text) minus) [
+      | true ↦ 0 ∷ 0 ∷ []
+      | false ↦ numeral 16 (take 16 text) ∷ numeral 16 (drop 16 text) ∷ []
+    ]
 
 -- RULES 18.6: fields are parted by one space
 abbrev pub field : List ℕ → ℕ → List ℕ
@@ -108,9 +112,15 @@ command_in line =
             | false ↦
                 elim (opens letter_w is_number line) [
                   | true ↦ Some (command.Within number (day_or 0 line))
-                  | false ↦ elim (opens letter_n is_number line) [ true ↦ Some (command.Nearest number (day_or 0 line)) | false ↦ None ]
+                  | false ↦ elim (opens letter_n is_number line) [
+                    | true ↦ Some (command.Nearest number (day_or 0 line))
+                    | false ↦ None
+                  ]
                 ]
           ]
       | false ↦
-          elim (eqb (parts_in space line) 2 && opens letter_r is_tag line) [ true ↦ Some (command.Remove number) | false ↦ None ]
+          elim (eqb (parts_in space line) 2 && opens letter_r is_tag line) [
+            | true ↦ Some (command.Remove number)
+            | false ↦ None
+          ]
     ]
