@@ -18,7 +18,8 @@ use table_rebuild::{build_bucket, clear};
 
 // D ← Unbuild(B_k) ∪ Unbuild(B_other), the live items of bucket k first; both become null, and B_target ← Build(D).
 fn unite(buckets: &mut Buckets, k: u32, other: u32, target: u32, work: &mut [Row]) -> u32
-    requires { (k ≤ buckets.old.order.t) × (other ≤ buckets.old.order.t) × (target ≤ buckets.old.order.t)
+    requires { BuiltFits buckets.old.rows.now buckets.old.order.t
+        × (k ≤ buckets.old.order.t) × (other ≤ buckets.old.order.t) × (target ≤ buckets.old.order.t)
         × (length (live_items buckets.old.rows.now (k ∷ other ∷ [])) ≤ room target)
         × (work_rows buckets.old.order.t ≤ length work.old) }
     ensures same_area { buckets.new.rows.ghost_name ≡ buckets.old.rows.ghost_name }
@@ -36,7 +37,8 @@ fn unite(buckets: &mut Buckets, k: u32, other: u32, target: u32, work: &mut [Row
 
 // D ← Unbuild(B_k); B_k becomes null, and B_target ← Build(D).
 fn move_down(buckets: &mut Buckets, k: u32, target: u32, work: &mut [Row]) -> u32
-    requires { (k ≤ buckets.old.order.t) × (target ≤ buckets.old.order.t)
+    requires { BuiltFits buckets.old.rows.now buckets.old.order.t
+        × (k ≤ buckets.old.order.t) × (target ≤ buckets.old.order.t)
         × (length (live_items buckets.old.rows.now (k ∷ [])) ≤ room target)
         × (work_rows buckets.old.order.t ≤ length work.old) }
     ensures same_area { buckets.new.rows.ghost_name ≡ buckets.old.rows.ghost_name }

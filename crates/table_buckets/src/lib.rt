@@ -5,9 +5,9 @@ ghost use Rattle.std.specs.Prelude.{◌≡◌, [], ◌+◌, ◌≤◌, ◌<◌, 
 ghost use Rattle.std.proofs.lemmas.List.Edits.{sets};
 ghost use Rattle.lists.specs.Lists.{select};
 ghost use Rattle.metric_rules.specs.Row.{is_live};
-ghost use Rattle.table_rules.specs.Geometry.{sizes_row};
-ghost use Rattle.table_rules.specs.Table.{in_use, live_of, live_slots, pair_row, put_sizes, put_bucket};
-ghost use Rattle.table_buckets.specs.OfOrder.{BuiltFits};
+ghost use Rattle.table_rules.specs.Geometry.{room, sizes_row};
+ghost use Rattle.table_rules.specs.Table.{built_of, in_use, live_of, live_slots, pair_row, put_sizes, put_bucket};
+ghost use Rattle.table_buckets.specs.OfOrder.{OfOrder};
 
 use metric_rules::{ROW_WIDTH, Row};
 use row_store::zero_rows;
@@ -57,13 +57,12 @@ fn gather_live(gathered: &mut Gathered, slots: &[Row])
     }
 }
 
-// The buckets of a table lent for a change. Its order is known, its rows are as many as the order needs, and the slots
-// that each bucket's build filled lie in its room.
+// The buckets of a table lent for a change. Its order is known, and its rows are as many as the order needs.
 #[derive(Drop)]
 pub struct Buckets<'a> {
     pub rows: &'a mut [Row],
     pub order: Order,
-    ghost built_fits: { BuiltFits rows.now order.t },
+    ghost of_order: { OfOrder rows.now order.t },
 }
 
 impl<'a> Buckets<'a> {
@@ -100,7 +99,7 @@ impl<'a> Buckets<'a> {
 
     // The live items of bucket k, in slot order, behind the rows gathered before.
     pub fn gather(&self, k: u32, gathered: &mut Gathered)
-        requires { (k ≤ self.now.order.t)
+        requires { (k ≤ self.now.order.t) × (built_of self.now.rows.now k ≤ room k)
             × (gathered.old.n + length (live_slots self.now.rows.now k) ≤ length gathered.old.work.now) }
         ensures same_area { gathered.new.work.ghost_name ≡ gathered.old.work.ghost_name }
         ensures n { gathered.new.n ≡ gathered.old.n + length (live_slots self.now.rows.now k) }

@@ -10,6 +10,7 @@ ghost use Rattle.table_rules.specs.Geometry.{most_order, room, work_rows};
 ghost use Rattle.table_rules.specs.Table.{order_of, emptied, cleared};
 ghost use Rattle.table_rules.specs.Rebuild.{live_items};
 ghost use Rattle.table_rules.specs.Add.{add_refusal, lowest_empty, add_bucket, add_target, added};
+ghost use Rattle.table_buckets.specs.OfOrder.{BuiltFits};
 
 use metric_rules::{Profile, Row};
 use row_store::new_row;
@@ -35,7 +36,7 @@ fn lowest_empty(buckets: &Buckets) -> u32
 // Lines 6 and 7, D ← D ∪ Unbuild(B_i): the live items of buckets 0 to k - 1, in slot order, behind the rows gathered
 // before.
 fn gather_below(buckets: &Buckets, k: u32, gathered: &mut Gathered)
-    requires { (k ≤ buckets.now.order.t + 1)
+    requires { BuiltFits buckets.now.rows.now buckets.now.order.t × (k ≤ buckets.now.order.t + 1)
         × (gathered.old.n + length (live_items buckets.now.rows.now (count_from 0 k)) ≤ length gathered.old.work.now) }
     ensures same_area { gathered.new.work.ghost_name ≡ gathered.old.work.ghost_name }
     ensures n { gathered.new.n ≡ gathered.old.n + length (live_items buckets.now.rows.now (count_from 0 k)) }

@@ -32,7 +32,8 @@ fn fill(slots: &mut [Row], rows: &mut [Row], header: &Row) -> u64
 
 // The rest of the work area's first rows zeroed, where n of them are zero already.
 pub fn clear(work: &mut [Row], order: Order, n: usize)
-    requires { (order.t ≤ most_order) × (work_rows order.t ≤ length work.old) × (n ≤ work_rows order.t) × (take n work.old ≡ replicate n zero_row) }
+    requires { (order.t ≤ most_order) × (work_rows order.t ≤ length work.old) × (n ≤ work_rows order.t)
+        × (take n work.old ≡ replicate n zero_row) }
     ensures { work.new ≡ cleared zero_row (work_rows order.t) work.old }
 {
     let end = order.work_rows();

@@ -37,7 +37,7 @@ rebuilt_here : (c : Else-room-live) {r : Rebuilt} → Rebuilds c.args.table.now 
 rebuilt_here c step = rebuilds (omega (arith, c.live-live.ensures, c.if-live-eq0.false)) (quarter c) step
 
 pub invariant_of-buckets : goal.invariant_of-buckets
-invariant_of-buckets c = record { built_fits = c.requires.0 }
+invariant_of-buckets c = record { of_order = c.requires.0.lent }
 
 pub returns-then-live-eq0 : goal.returns-then-live-eq0
 unfolding emptied
@@ -65,7 +65,7 @@ pub unite-requires : goal.unite-requires
 unite-requires c =
     let at = (goal.at.unite-requires c).Else-room-live in
     let s = c in
-    (omega (arith, c.requires.1.in_order, c.requires.0.lent.known), omega (arith, c.requires.1.in_order, c.requires.0.lent.known), omega (arith, c.requires.1.in_order, c.requires.0.lent.known), fits_in_k (sparse at) _ (omega (arith, deep (sparse at))), s.requires.2)
+    (c.requires.0, omega (arith, c.requires.1.in_order, c.requires.0.lent.known), omega (arith, c.requires.1.in_order, c.requires.0.lent.known), omega (arith, c.requires.1.in_order, c.requires.0.lent.known), fits_in_k (sparse at) _ (omega (arith, deep (sparse at))), s.requires.2)
 
 pub returns-then-room-live-2 : goal.returns-then-room-live-2
 returns-then-room-live-2 c =
@@ -85,7 +85,7 @@ unite-requires-then-in_use c =
     let test = c in
     let at = (goal.at.unite-requires-then-in_use c).Else-room-live in
     let s = c in
-    (omega (arith, c.requires.1.in_order, c.requires.0.lent.known), omega (arith, c.requires.1.in_order, c.requires.0.lent.known), omega (arith, c.requires.1.in_order, c.requires.0.lent.known), fits_lower (sparse at) _ (omega (arith, deep (sparse at))) (omega (arith, c.room-then-in_use.ensures, c.live.ensures, c.if-room-live-2.false)), s.requires.2)
+    (c.requires.0, omega (arith, c.requires.1.in_order, c.requires.0.lent.known), omega (arith, c.requires.1.in_order, c.requires.0.lent.known), omega (arith, c.requires.1.in_order, c.requires.0.lent.known), fits_lower (sparse at) _ (omega (arith, deep (sparse at))) (omega (arith, c.room-then-in_use.ensures, c.live.ensures, c.if-room-live-2.false)), s.requires.2)
 
 pub returns-then-in_use : goal.returns-then-in_use
 returns-then-in_use c =
@@ -107,7 +107,7 @@ pub unite-requires-then-in_use-2 : goal.unite-requires-then-in_use-2
 unite-requires-then-in_use-2 c =
     let at = (goal.at.unite-requires-then-in_use-2 c).Else-room-live in
     let s = c in
-    (omega (arith, c.requires.1.in_order, c.requires.0.lent.known), omega (arith, c.requires.1.in_order, c.requires.0.lent.known), omega (arith, c.requires.1.in_order, c.requires.0.lent.known), fits_lower (sparse at) _ (omega (arith, deep (sparse at))) (second_few (sparse at)), s.requires.2)
+    (c.requires.0, omega (arith, c.requires.1.in_order, c.requires.0.lent.known), omega (arith, c.requires.1.in_order, c.requires.0.lent.known), omega (arith, c.requires.1.in_order, c.requires.0.lent.known), fits_lower (sparse at) _ (omega (arith, deep (sparse at))) (second_few (sparse at)), s.requires.2)
 
 pub returns-then-in_use-2 : goal.returns-then-in_use-2
 returns-then-in_use-2 c =
@@ -123,7 +123,7 @@ pub move_down-requires : goal.move_down-requires
 move_down-requires c =
     let at = (goal.at.move_down-requires c).Else-room-live in
     let s = c in
-    (omega (arith, c.requires.1.in_order, c.requires.0.lent.known), omega (arith, c.requires.1.in_order, c.requires.0.lent.known), alone_fits (sparse at) _ (omega arith), s.requires.2)
+    (c.requires.0, omega (arith, c.requires.1.in_order, c.requires.0.lent.known), omega (arith, c.requires.1.in_order, c.requires.0.lent.known), alone_fits (sparse at) _ (omega arith), s.requires.2)
 
 pub returns : goal.returns
 returns c =

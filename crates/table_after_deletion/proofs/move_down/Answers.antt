@@ -17,17 +17,18 @@ use Rattle.table_after_deletion.proofs.move_down.Goals.{Start}
 fit : (c : Start) → Fits c.args.buckets.now.rows.now c.args.buckets.now.order.t (c.args.k ∷ []) c.args.target c.args.work.now
 fit c =
     record {
-      built_fits = c.args.buckets.now.built_fits;
-      inside = (omega (arith, c.requires.0, c.args.buckets.now.built_fits.lent.known), tt);
-      reached = c.requires.1;
-      room_for = c.requires.2;
-      roomy = c.requires.3;
+      built_fits = c.requires.0;
+      inside = (omega (arith, c.requires.1, c.requires.0.lent.known), tt);
+      reached = c.requires.2;
+      room_for = c.requires.3;
+      roomy = c.requires.4;
     }
 
 pub gather-requires : goal.gather-requires
 gather-requires c = (
-  c.requires.0,
-  omega (arith, few (fit (goal.at.gather-requires c).Start), ap length (items_one c.args.buckets.now.rows.now c.args.k), c.requires.3),
+  c.requires.1,
+  c.requires.0.built c.args.k c.requires.1,
+  omega (arith, few (fit (goal.at.gather-requires c).Start), ap length (items_one c.args.buckets.now.rows.now c.args.k), c.requires.4),
 )
 
 pub build_bucket-requires : goal.build_bucket-requires
@@ -36,9 +37,9 @@ build_bucket-requires c =
     let made = one_gathered c.args.buckets.now.rows.now c.args.k c.args.work.now g.new.gathered.n g.new.gathered.work.now g.ensures.n g.ensures.work in
     let room : length g.new.gathered.work.now ≡ length c.args.work.now =
     ap length g.ensures.work ∙ length-sets c.args.work.now 0 (live_slots c.args.buckets.now.rows.now c.args.k) in (
-      omega (arith, c.requires.1, c.empty.ensures.same_order),
-      omega (arith, made.number, c.requires.2),
-      omega (arith, room, c.requires.3, ap work_rows c.empty.ensures.same_order),
+      omega (arith, c.requires.2, c.empty.ensures.same_order),
+      omega (arith, made.number, c.requires.3),
+      omega (arith, room, c.requires.4, ap work_rows c.empty.ensures.same_order),
     )
 
 pub returns : goal.returns

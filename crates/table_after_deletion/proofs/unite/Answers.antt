@@ -18,11 +18,11 @@ use Rattle.table_after_deletion.proofs.unite.Goals.{After-gather-2, After-empty-
 fit : (c : Start) → Fits c.args.buckets.now.rows.now c.args.buckets.now.order.t (c.args.k ∷ c.args.other ∷ []) c.args.target c.args.work.now
 fit c =
     record {
-      built_fits = c.args.buckets.now.built_fits;
-      inside = (omega (arith, c.requires.0, c.args.buckets.now.built_fits.lent.known), (omega (arith, c.requires.1, c.args.buckets.now.built_fits.lent.known), tt));
-      reached = c.requires.2;
-      room_for = c.requires.3;
-      roomy = c.requires.4;
+      built_fits = c.requires.0;
+      inside = (omega (arith, c.requires.1, c.requires.0.lent.known), (omega (arith, c.requires.2, c.requires.0.lent.known), tt));
+      reached = c.requires.3;
+      room_for = c.requires.4;
+      roomy = c.requires.5;
     }
 
 -- the items of both buckets together
@@ -44,21 +44,23 @@ made c =
 
 pub gather-requires : goal.gather-requires
 gather-requires c = (
-  c.requires.0,
-  omega (arith, few (fit (goal.at.gather-requires c).Start), both (goal.at.gather-requires c).Start, c.requires.4),
+  omega (arith, c.requires.1, c.requires.2),
+  c.requires.0.built _ (omega (arith, c.requires.1, c.requires.2)),
+  omega (arith, few (fit (goal.at.gather-requires c).Start), both (goal.at.gather-requires c).Start, c.requires.5),
 )
 
 pub gather-requires-2 : goal.gather-requires-2
 gather-requires-2 c =
     let g = c.gather in
     let room : length g.new.gathered.work.now ≡ length c.args.work.now =
-    ap length g.ensures.work ∙ length-sets c.args.work.now 0 (live_slots c.args.buckets.now.rows.now c.args.k) in (
-      c.requires.1,
-      omega (arith, few (fit (goal.at.gather-requires-2 c).Start), both (goal.at.gather-requires-2 c).Start, c.requires.4, g.ensures.n, room),
+    ap length g.ensures.work ∙ simp length-sets in (
+      omega (arith, c.requires.1, c.requires.2),
+      c.requires.0.built _ (omega (arith, c.requires.1, c.requires.2)),
+      omega (arith, few (fit (goal.at.gather-requires-2 c).Start), both (goal.at.gather-requires-2 c).Start, c.requires.5, g.ensures.n, room),
     )
 
 pub empty-requires-2 : goal.empty-requires-2
-empty-requires-2 c = omega (arith, c.requires.1, c.empty.ensures.same_order)
+empty-requires-2 c = omega (arith, c.requires.2, c.empty.ensures.same_order)
 
 -- both emptied buckets keep the order
 same : (c : After-empty-2) → c.empty-2.new.self.order.t ≡ c.args.buckets.now.order.t
@@ -71,9 +73,9 @@ build_bucket-requires c =
     let m = made (goal.at.build_bucket-requires c).After-gather-2 in
     let room : length c.gather-2.new.gathered.work.now ≡ length c.args.work.now =
     ap length m.stored ∙ length-sets c.args.work.now 0 (live_items c.args.buckets.now.rows.now (c.args.k ∷ c.args.other ∷ [])) in (
-      omega (arith, c.requires.2, order),
-      omega (arith, m.number, c.requires.3),
-      omega (arith, room, c.requires.4, ap work_rows order),
+      omega (arith, c.requires.3, order),
+      omega (arith, m.number, c.requires.4),
+      omega (arith, room, c.requires.5, ap work_rows order),
     )
 
 pub returns : goal.returns

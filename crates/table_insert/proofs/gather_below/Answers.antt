@@ -25,7 +25,7 @@ gather-requires c =
     let inside : l.i ≤ c.args.buckets.now.order.t = omega arith in
     let room : length l.gathered.work.now ≡ length before.work.now =
     ap length l.invariant.1 ∙ length-sets before.work.now before.n (live_items t (count_from 0 l.i)) in
-    (inside, omega (arith, room, items_within t l.i c.args.k (omega arith)))
+    (inside, c.requires.0.built l.i inside, omega (arith, room, items_within t l.i c.args.k (omega arith)))
 
 pub loop-i-preserved : goal.loop-i-preserved
 loop-i-preserved c =

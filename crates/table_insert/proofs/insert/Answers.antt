@@ -25,13 +25,14 @@ pub bounds-work-0 : goal.bounds-work-0
 bounds-work-0 c = omega (arith, (few (ok c.requires.1)).0, some_gathered (ok c.requires.1), (changes (ok c.requires.1)).roomy)
 
 pub invariant_of-buckets : goal.invariant_of-buckets
-invariant_of-buckets c = record { built_fits = built_fits (ok c.requires.1) c.args.order.t c.requires.0 }
+invariant_of-buckets c = record { of_order = (built_fits (ok c.requires.1) c.args.order.t c.requires.0).lent }
 
 pub gather_below-requires : goal.gather_below-requires
 gather_below-requires c =
     let s = c in
     let w : List Row = s.args.work.now in
     let l = c.lowest_empty-k in (
+      built_fits (ok c.requires.1) s.args.order.t s.requires.0,
       omega (arith, l.ensures, lowest_within s.args.table.now, s.requires.0),
       omega (arith, number-gathered (ok c.requires.1) l.ensures refl, (few (ok c.requires.1)).0, (changes (ok c.requires.1)).roomy, length-set w 0 c.new_row.result),
     )

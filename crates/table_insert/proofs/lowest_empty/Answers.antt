@@ -7,10 +7,10 @@ use Rattle.table_insert.proofs.Below.{empty_here, empty_later, none_empty, from_
 use Rattle.table_insert.proofs.lowest_empty.Goals as goal
 
 pub buckets-all-requires : goal.buckets-all-requires
-buckets-all-requires c = omega (arith, c.args.buckets.now.built_fits.lent.most)
+buckets-all-requires c = omega (arith, c.args.buckets.now.of_order.most)
 
 pub loop-k-init : goal.loop-k-init
-loop-k-init c = from_lowest c.args.buckets.now.rows.now c.args.buckets.now.order.t c.args.buckets.now.built_fits.lent.known
+loop-k-init c = from_lowest c.args.buckets.now.rows.now c.args.buckets.now.order.t c.args.buckets.now.of_order.known
 
 pub returns-then-not-in_use : goal.returns-then-not-in_use
 returns-then-not-in_use c =

@@ -12,24 +12,24 @@ use Rattle.table_buckets.proofs.Places.{sizes_inside, room_inside, lent_slots}
 use Rattle.table_buckets.proofs.Buckets.gather.Goals as goal
 
 pub built_of-requires : goal.built_of-requires
-built_of-requires c = sizes_inside c.args.self.now.built_fits.lent c.args.k c.requires.0
+built_of-requires c = sizes_inside c.args.self.now.of_order c.args.k c.requires.0
 
 pub overflow_add-end : goal.overflow_add-end
-overflow_add-end c = omega (arith, c.args.self.now.built_fits.built c.args.k c.requires.0, room_inside c.args.self.now.built_fits.lent c.args.k c.requires.0)
+overflow_add-end c = omega (arith, room_inside c.args.self.now.of_order c.args.k c.requires.0)
 
 pub offset_bounds-self-first : goal.offset_bounds-self-first
-offset_bounds-self-first c = omega (arith, c.args.self.now.built_fits.built c.args.k c.requires.0, room_inside c.args.self.now.built_fits.lent c.args.k c.requires.0)
+offset_bounds-self-first c = omega (arith, room_inside c.args.self.now.of_order c.args.k c.requires.0)
 
 pub slice_bounds-gather_live-end : goal.slice_bounds-gather_live-end
-slice_bounds-gather_live-end c = omega (arith, c.args.self.now.built_fits.built c.args.k c.requires.0, room_inside c.args.self.now.built_fits.lent c.args.k c.requires.0)
+slice_bounds-gather_live-end c = omega (arith, room_inside c.args.self.now.of_order c.args.k c.requires.0)
 
 pub gather_live-requires : goal.gather_live-requires
 unfolding live_slots
 gather_live-requires c =
     let before = c.args.gathered.now in
     subst⁻¹ (λ (rows : List Row). before.n + length (select is_live rows) ≤ length before.work.now)
-    (lent_slots c.args.self.now.built_fits.lent c.args.k c.first_slot-first.result c.built_of.result c.first_slot-first.ensures c.built_of.ensures)
-    c.requires.1
+    (lent_slots c.args.self.now.of_order c.args.k c.first_slot-first.result c.built_of.result c.first_slot-first.ensures c.built_of.ensures)
+    c.requires.2
 
 pub returns : goal.returns
 unfolding live_slots
@@ -39,7 +39,7 @@ returns c =
     let f = c.first_slot-first in
     let b = c.built_of in
     let e : select is_live (take (f.result + b.result - f.result) (drop f.result c.args.self.now.rows.now)) ≡ live_slots c.args.self.now.rows.now c.args.k =
-    ap (select is_live) (lent_slots c.args.self.now.built_fits.lent c.args.k f.result b.result f.ensures b.ensures) in
+    ap (select is_live) (lent_slots c.args.self.now.of_order c.args.k f.result b.result f.ensures b.ensures) in
     record {
       same_area = g.ensures.same_area;
       n = g.ensures.n ∙ ap (λ (l : List Row). before.n + length l) e;

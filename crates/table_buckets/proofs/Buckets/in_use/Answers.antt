@@ -3,4 +3,4 @@ use Rattle.table_buckets.proofs.Places.{sizes_inside}
 use Rattle.table_buckets.proofs.Buckets.in_use.Goals as goal
 
 pub in_use-requires : goal.in_use-requires
-in_use-requires c = sizes_inside c.args.self.now.built_fits.lent c.args.k c.requires
+in_use-requires c = sizes_inside c.args.self.now.of_order c.args.k c.requires

@@ -3,4 +3,4 @@ use Rattle.table_buckets.proofs.Places.{sizes_inside}
 use Rattle.table_buckets.proofs.Buckets.live.Goals as goal
 
 pub live_of-requires : goal.live_of-requires
-live_of-requires c = sizes_inside c.args.self.now.built_fits.lent c.args.k c.requires
+live_of-requires c = sizes_inside c.args.self.now.of_order c.args.k c.requires
