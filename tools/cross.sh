@@ -94,7 +94,8 @@ shapes() {
 
 # Whatever the module is expected to be, and is changed to, stands here.
 carry() {
-    ! grep -qE '(ptrtoint|inttoptr|addrspacecast|asm )' "$lowered" || stop 'the module turns an address into a number'
+    ! grep -qE '(ptrtoint|ptrtoaddr|inttoptr|addrspacecast|asm )' "$lowered" ||
+        stop 'the module turns an address into a number'
     ! grep -E 'getelementptr ' "$lowered" | grep -qvE 'getelementptr (inbounds )?(nuw )?i8, ptr ' ||
         stop 'the module finds a place by something else than bytes'
     ! grep -E '^declare ' "$lowered" | grep -qv '@llvm\.' || stop 'the module calls a function that it does not have'
@@ -108,7 +109,6 @@ carry() {
     # 3. The proved functions below them have others, which are seen.
     # 4. A byte and an address that come back together lie eight bytes apart, as the module stores them: read as a pair
     #    they would lie four apart where an address has 32 bits. So each is read by itself.
-    # 5. Whether two places overlap is asked of their addresses as numbers of 64 bits, whatever the address has.
     {
         sed -E '/^target (datalayout|triple) /d
             s/ ?"(target-cpu|target-features|tune-cpu|probe-stack|stack-probe-size)"="[^"]*"//g
@@ -117,12 +117,11 @@ carry() {
   \1.place = getelementptr i8, ptr \2, i64 8\
   \1.address = load ptr, ptr \1.place, align 4\
   \1.half = insertvalue { i8, ptr } poison, i8 \1.byte, 0\
-  \1 = insertvalue { i8, ptr } \1.half, ptr \1.address, 1/
-            s/ = ptrtoaddr ptr (%[a-z]+[0-9]+) to i64$/ = ptrtoint ptr \1 to i64/' "$lowered"
+  \1 = insertvalue { i8, ptr } \1.half, ptr \1.address, 1/' "$lowered"
         spelled
     } > "$module"
-    ! grep -qE 'load \{ i8, ptr \}|ptrtoaddr' "$module" || stop 'a pair or an address is read as on x86-64'
-    # 6. On ARM a line says that no float is passed, so that programs link with it which pass theirs in either way.
+    ! grep -q 'load { i8, ptr }' "$module" || stop 'a pair is read as on x86-64'
+    # 5. On ARM a line says that no float is passed, so that programs link with it which pass theirs in either way.
     case $words in
         *gnueabihf* | *-eabi*) echo 'module asm ".eabi_attribute Tag_ABI_VFP_args, 3"' >> "$module" ;;
     esac

@@ -49,10 +49,10 @@ cxx17() {
         "$out/program"
 }
 installed() { sh tools/try_install.sh "$out/first.c"; }
-# The archive needs nothing of the system but the C library's memory functions.
+# The archive needs nothing of the system but the C library's memset and memcpy.
 needs() {
     nm -u "$VPINDEX_LIB_DIR/libvpindex.a" > "$out/undefined" &&
-        ! grep ' U ' "$out/undefined" | grep -Ev ' mem(set|cpy|move|cmp)$'
+        ! grep ' U ' "$out/undefined" | grep -Ev ' mem(set|cpy)$'
 }
 list() { sh examples/list.sh "$@"; }
 # How many bytes the page has, and where it is, is not looked at.

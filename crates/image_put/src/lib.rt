@@ -21,7 +21,9 @@ pub fn put<const W: usize>(image: &mut [u8], at: usize, n: u32)
     requires { (W ≤ 4) × (at + W ≤ length image.old) }
     ensures { image.new ≡ sets image.old at (bytes_of W n) }
 {
-    image[at..at + W].copy_from_slice(&n.to_le_bytes()[..W]);
+    for (i, byte) in n.to_le_bytes()[..W].iter().enumerate() {
+        image[at + i] = *byte;
+    }
 }
 
 // Words, one after the other.

@@ -36,11 +36,11 @@ fn measure(dst: &mut [Row], src: &mut [Row], v: Row, header: &Row) -> u64
     ensures counted { result ≡ length src.old }
 {
     let mut count: u64 = 0;
-    for row in src.iter_mut() {
+    for (i, row) in src.iter_mut().enumerate() {
         row[THRESHOLD_AT] = distance_between(header, v, *row);
+        dst[i] = *row;
         count += 1;
     }
-    dst.copy_from_slice(src);
     count
 }
 

@@ -1,13 +1,13 @@
--- `image_put::put` meets its contract: the bytes that are copied are the number's lowest.
-use Rattle.std.proofs.Common.{◌≡◌, ℕ, zero, suc, ◌+◌, ◌≤◌, List, length, take, refl, sym, ◌∙◌, arith, w32}
+-- `image_put::put` meets its contract: the bytes that are written, one behind the other, are the number's lowest.
+use Rattle.std.proofs.Common.{◌≡◌, ℕ, zero, suc, ◌+◌, ◌≤◌, ◌<◌, List, [], ◌∷◌, length, take, set, get_or, refl, sym, ◌∙◌, ap, arith, w32}
 use Rattle.std.specs.Int.{to_le_bytes}
 use Rattle.std.proofs.Math.Nat.{div-div-eq-div-mul}
-use Rattle.std.proofs.Math.Seq.{take_all}
-use Rattle.std.proofs.lemmas.List.Edits.{sets, sets-eq}
-use Rattle.std.proofs.lemmas.Slice.{put_mid-paste}
-use borrow.Rule.Slice.PartMut.{put_mid}
+use native.Mathlib.Numerals.{add-one}
+use lib.ListN.{length-take}
+use lib.Seq.{take-suc, take_all}
+use Rattle.std.proofs.lemmas.List.Edits.{sets}
+use Rattle.tree_rules.proofs.Stores.{sets_more}
 use Rattle.image_rules.specs.Bytes.{bytes_of}
-use Rattle.image_rules.proofs.Bytes.{length_bytes_lem}
 use Rattle.image_put.proofs.put.Goals as goal
 
 low_bytes : (w n : ℕ) → w ≤ 4 → take w (to_le_bytes w32 n) ≡ bytes_of w n
@@ -19,18 +19,24 @@ low_bytes (suc (suc (suc zero))) n h = simp div-div-eq-div-mul
 low_bytes (suc (suc (suc (suc zero)))) n h = simp div-div-eq-div-mul
 low_bytes (suc (suc (suc (suc (suc w))))) n h = absurd (omega arith)
 
-copied : (n w k : ℕ) (bytes : List ℕ) → bytes ≡ to_le_bytes w32 n → k ≡ w → w ≤ 4 → take k bytes ≡ bytes_of w n
-copied n w k bytes e same h = rw (e, same) (low_bytes w n h)
+lowest : (n w : ℕ) (bytes : List ℕ) → bytes ≡ to_le_bytes w32 n → w ≤ 4 → take w bytes ≡ bytes_of w n
+lowest n w bytes e h = rw e (low_bytes w n h)
 
--- bytes that are put in the place of as many
-placed : (l bytes : List ℕ) (at w k : ℕ) → k ≡ w → length bytes ≡ w → at + w ≤ length l → put_mid at k l bytes ≡ sets l at bytes
-placed l bytes at w k e f h =
-    put_mid-paste at k l bytes bytes w refl (sym e) (sym f)
-    ∙ rw (take_all w bytes (omega arith)) (rw (sym f) (sym (sets-eq bytes l at (omega arith))))
+-- one byte more is written behind those before
+one_more : (image before bytes : List ℕ) (at i : ℕ) → i < length bytes → before ≡ sets image at (take i bytes) → set before (at + i) (get_or bytes i 0) ≡ sets image at (take (i + 1) bytes)
+one_more image before bytes at i h was =
+    let count : length (take i bytes) ≡ i = omega (arith, length-take i bytes) in
+    rw was (sets_more image at (at + i) (take i bytes) (get_or bytes i 0 ∷ []) (omega arith))
+    ∙ ap (sets image at) (sym (ap (λ (k : ℕ). take k bytes) (add-one i) ∙ take-suc bytes i 0 h))
+
+pub loop-i-preserved : goal.loop-i-preserved
+loop-i-preserved g c =
+    let l = c.loop-i in
+    one_more c.args.image.now l.image (take g.row.W c.to_le_bytes.result) c.args.at l.i (omega (arith, c.loop-i-test.true)) l.invariant
 
 pub returns : goal.returns
 returns g c =
-    let a = c.args in
-    let bytes : c.copy_from_slice.new.self ≡ bytes_of g.row.W a.n =
-    c.copy_from_slice.ensures.after ∙ copied a.n g.row.W _ _ c.to_le_bytes.ensures (omega arith) c.requires.0 in
-    rw bytes (placed a.image.now (bytes_of g.row.W a.n) a.at g.row.W _ (omega arith) (length_bytes_lem g.row.W a.n) c.requires.1)
+    let l = c.loop-i in
+    let bytes = take g.row.W c.to_le_bytes.result in
+    l.invariant
+    ∙ ap (sets c.args.image.now c.args.at) (take_all l.i bytes (omega (arith, c.loop-i-test.false)) ∙ lowest c.args.n g.row.W c.to_le_bytes.result c.to_le_bytes.ensures c.requires.0)

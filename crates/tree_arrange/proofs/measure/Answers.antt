@@ -29,27 +29,28 @@ module _ (space : Space) (v : Row) (old : List Row) where
   measure_step : (whole rows : List Row) (i : ℕ) (x : Row) → length whole ≡ length old → i < length old → rows ≡ written_to whole (new space v old) i → x ≡ get_or (new space v old) i [] → set rows i x ≡ written_to whole (new space v old) (i + 1)
   measure_step whole rows i x n h e q = written_step whole (new space v old) (new_length ∙ sym n) [] rows x i (omega arith) e q
 
-pub loop-row-init : goal.loop-row-init
-loop-row-init c = (refl, refl)
+pub loop-i-init : goal.loop-i-init
+loop-i-init c = (refl, refl, refl)
 
-pub loop-row-preserved : goal.loop-row-preserved
-loop-row-preserved c =
+pub loop-i-preserved : goal.loop-i-preserved
+loop-i-preserved c =
     let a = c.args in
-    let l = c.loop-row in
-    let h : l.row-index < length a.src.now = omega arith in
-    let d = set (get_or l.src l.row-index []) 10 c.distance_between.result in (
+    let l = c.loop-i in
+    let h : l.i < length a.src.now = omega arith in
+    let d = set (get_or l.src l.i []) 10 c.distance_between.result in
+    let x = measured_row (space_of a.header.now) a.v a.src.now l.src l.i c.distance_between.result h l.invariant.1 c.distance_between.ensures in (
       omega arith,
-      measure_step (space_of a.header.now) a.v a.src.now a.src.now l.src l.row-index d refl h l.invariant.1
-          (measured_row (space_of a.header.now) a.v a.src.now l.src l.row-index c.distance_between.result h l.invariant.1 c.distance_between.ensures),
+      measure_step (space_of a.header.now) a.v a.src.now a.src.now l.src l.i d refl h l.invariant.1 x,
+      measure_step (space_of a.header.now) a.v a.src.now a.dst.now l.dst l.i d c.requires h l.invariant.2 x,
     )
 
 pub returns : goal.returns
 unfolding new
 returns c =
     let a = c.args in
-    let l = c.loop-row in
-    record {
-      measured = l.invariant.1 ∙ written_all a.src.now (new (space_of a.header.now) a.v a.src.now) (new_length (space_of a.header.now) a.v a.src.now) [] l.row-index (omega arith);
-      copied = c.copy_from_slice.ensures.after;
-      counted = omega arith;
-    }
+    let l = c.loop-i in
+    let rows = new (space_of a.header.now) a.v a.src.now in
+    let long = new_length (space_of a.header.now) a.v a.src.now in
+    let s : l.src ≡ rows = l.invariant.1 ∙ written_all a.src.now rows long [] l.i (omega arith) in
+    let d : l.dst ≡ rows = l.invariant.2 ∙ written_all a.dst.now rows (long ∙ sym c.requires) [] l.i (omega arith) in
+    record { measured = s; copied = d ∙ sym s; counted = omega arith }

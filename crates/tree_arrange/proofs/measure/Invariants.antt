@@ -11,6 +11,8 @@ use Rattle.tree_arrange.proofs.measure.Given as goal
 unfoldable pub new : Space → Row → List Row → List Row
 new space v old = map (measured_from (distance space) v) old
 
-abbrev pub invariant-loop-row : goal.invariant-loop-row
-invariant-loop-row l =
-    (l.count ≡ l.row-index) × (l.src ≡ written_to l.initial.src (new (space_of l.header) l.v l.initial.src) l.row-index)
+abbrev pub invariant-loop-i : goal.invariant-loop-i
+invariant-loop-i l =
+    (l.count ≡ l.i)
+    × (l.src ≡ written_to l.initial.src (new (space_of l.header) l.v l.initial.src) l.i)
+    × (l.dst ≡ written_to l.initial.dst (new (space_of l.header) l.v l.initial.src) l.i)
