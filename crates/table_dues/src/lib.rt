@@ -10,7 +10,7 @@ ghost use Rattle.refusals.specs.Number.{refusal_in};
 ghost use Rattle.table_rules.specs.Refusals.{not_live, unless};
 ghost use Rattle.dues_rules.specs.Board.{board, rate_by, dues_by};
 ghost use Rattle.dues_rules.specs.Listed.{no_dues, most_listed, weight_at, weights_at, is_found, is_weight, pays};
-ghost use Rattle.dues_rules.specs.Listed.{dues_of, dues_refusal, dues_reply, dues_after};
+ghost use Rattle.dues_rules.specs.Listed.{dues_of, weights_refusal, weights_reply, area_after, dues_reply, dues_after};
 
 use dues_rules::Dues;
 use metric_rules::Row;
@@ -107,14 +107,14 @@ fn weigh(table: Checked<'_>, tags: &[u64], held: &mut [u32]) -> Result<(), Refus
     Ok(())
 }
 
-// What each listed tag pays is held, or what stops the call: after the table's 21, 39, 6.
-#[tactic(auto, unfolding(dues_rules::specs::Listed::dues_refusal, dues_rules::specs::Listed::weights_refusal))]
-fn hold(table: &[Row], tags: &[u64], dues: &[u32], held: &mut [u32]) -> Result<(), Refusal>
-    ensures refusal { refusal_in result ≡ dues_refusal table.now tags.now dues.now }
-    ensures held { IfOk result (λ u. held.new ≡ sets held.old 0 (dues_of (weights_at table.now tags.now))) }
+// What each listed tag pays is held, or what stops the call: 21, 39, 6.
+#[tactic(auto, unfolding(dues_rules::specs::Listed::weights_refusal))]
+fn hold(table: Checked<'_>, tags: &[u64], dues: &[u32], held: &mut [u32]) -> Result<(), Refusal>
+    ensures refusal { refusal_in result
+        ≡ weights_refusal (weights_at table.entry.rows.now tags.now) (length dues.now) }
+    ensures held { IfOk result (λ u. held.new ≡ sets held.old 0 (dues_of (weights_at table.entry.rows.now tags.now))) }
     ensures room { IfOk result (λ u. (length tags.now ≤ most_listed) × (length tags.now ≤ length dues.now)) }
 {
-    let table = read_check(table)?;
     weigh(table, tags, held)?;
     if dues.len() < tags.len() {
         return Err(Refusal::NoRoom);
@@ -129,14 +129,18 @@ fn pay(held: &[u32], dues: &mut [u32]) -> u64
     ensures sum { result ≡ total held.now }
     ensures area { dues.new ≡ sets dues.old 0 held.now }
 {
-    dues[..held.len()].copy_from_slice(held);
+    for (i, cents) in held.iter().enumerate() {
+        dues[i] = *cents;
+    }
     held.iter().map(|cents| u64::from(*cents)).sum()
 }
 
-// The dues of a list: every table, every list of tags and every dues area, of any length and content.
-pub fn dues(table: &[Row], tags: &[u64], dues: &mut [u32]) -> Dues
-    ensures reply { result ≡ dues_reply table.now tags.now dues.old }
-    ensures area { dues.new ≡ dues_after table.now tags.now dues.old }
+// The dues of a list over a table that passed its tests, which go first: the room for what is held is made after them.
+fn listed(table: Checked<'_>, tags: &[u64], dues: &mut [u32]) -> Dues
+    ensures reply { let weights = weights_at table.entry.rows.now tags.now in
+        result ≡ weights_reply (weights_refusal weights (length dues.old)) weights }
+    ensures area { let weights = weights_at table.entry.rows.now tags.now in
+        dues.new ≡ area_after (weights_refusal weights (length dues.old)) weights dues.old }
 {
     let mut held = [0u32; MOST_LISTED];
     match hold(table, tags, dues, &mut held[..]) {
@@ -148,5 +152,19 @@ pub fn dues(table: &[Row], tags: &[u64], dues: &mut [u32]) -> Dues
             refusal: 0,
             total: pay(&held[..tags.len()], dues),
         },
+    }
+}
+
+// The dues of a list: every table, every list of tags and every dues area, of any length and content.
+pub fn dues(table: &[Row], tags: &[u64], dues: &mut [u32]) -> Dues
+    ensures reply { result ≡ dues_reply table.now tags.now dues.old }
+    ensures area { dues.new ≡ dues_after table.now tags.now dues.old }
+{
+    match read_check(table) {
+        Err(refusal) => Dues {
+            refusal: u32::from(refusal),
+            total: 0,
+        },
+        Ok(table) => listed(table, tags, dues),
     }
 }

@@ -5,11 +5,13 @@ use Rattle.std.proofs.lemmas.Iterator.Adapters.{at_most_from_yields_List, fits_f
 use Rattle.std.proofs.lemmas.Iterator.Consumers.{sum_by_from_yields_List}
 use Rattle.std.proofs.lemmas.List.Sums.{sum_by-cons}
 use Rattle.std.specs.List.{sum_by}
-use Prim.Native.Nat.{ℕ, ◌+◌}
+use Prim.Native.Nat.{ℕ, ◌+◌, ◌<◌}
 use mathlib.Core.Path.{◌≡◌, refl, sym, ap, ◌∙◌}
-use mathlib.Core.List.{List, [], ◌∷◌, ◌++◌}
-use lib.ListN.{drop, length}
-use lib.Seq.{sets-eq}
+use mathlib.Core.List.{List, [], ◌∷◌}
+use lib.ListN.{length, get_or, set, take, length-take}
+use lib.Seq.{sets, take-suc, take_all}
+use native.Mathlib.Numerals.{add-one}
+use Rattle.tree_rules.proofs.Stores.{sets_more}
 use Rattle.lists.specs.Lists.{total}
 use Rattle.table_dues.proofs.pay.Goals as goal
 
@@ -29,10 +31,22 @@ returns-clause-sum c =
     (YieldsList-from_map _ (λ n. n) (YieldsList-from_slice c.args.held.now cc) c.map.ensures.closure (λ x r q k. search rules))
     ∙ summed c.args.held.now
 
+-- one number more is written behind those before
+one_more : (dues before held : List ℕ) (i n : ℕ) → i < length held → n ≡ get_or held i 0 → before ≡ sets dues 0 (take i held) → set before i n ≡ sets dues 0 (take (i + 1) held)
+one_more dues before held i n h e was =
+    let count : length (take i held) ≡ i = omega (arith, length-take i held) in
+    rw (was, e) (sets_more dues 0 i (take i held) (get_or held i 0 ∷ []) (omega arith))
+    ∙ ap (sets dues 0) (sym (ap (λ (k : ℕ). take k held) (add-one i) ∙ take-suc held i 0 h))
+
+pub loop-i-init : goal.loop-i-init
+loop-i-init c = refl
+
+pub loop-i-preserved : goal.loop-i-preserved
+loop-i-preserved c =
+    let l = c.loop-i in
+    one_more c.args.dues.now l.dues c.args.held.now l.i (get_or c.args.held.now l.i 0) (omega arith) refl l.invariant
+
 pub returns-clause-area : goal.returns-clause-area
 returns-clause-area c =
-    let held = c.args.held.now in
-    let dues = c.args.dues.now in
-    let n : 0 + length held ≡ length held = omega arith in
-    ap (λ (ns : List ℕ). ns ++ drop (length held) dues) c.copy_from_slice.ensures.after
-    ∙ sym (sets-eq held dues 0 (omega (arith, c.requires.room)) ∙ ap (λ (k : ℕ). held ++ drop k dues) n)
+    let l = c.loop-i in
+    l.invariant ∙ ap (sets c.args.dues.now 0) (take_all l.i c.args.held.now (omega arith))
