@@ -75,13 +75,15 @@ fn each_tree_fault(image: WholeImage, row: &Row, entries: &mut [Entry]) -> Resul
     Ok(())
 }
 
-// The first fault of the trees of an image whose fields pass. The array is all the room that this takes.
+// The first fault of the trees of an image whose fields pass. The array is all the room that this takes. Only within
+// its caller does the compiler zero the array once.
+#[inline(always)]
 pub fn trees_fault(image: WholeImage, row: &Row) -> Result<(), Fault>
     requires { all_fields_pass image.image.bytes.now ≡ true }
     ensures { let read = image.entry.image.bytes.now in
         loaded_of result ≡ trees_reply (space_of row.now) (order_in read) (bucket_in read) }
 {
-    let mut entries = [[0; 2]; ENTRIES];
+    let mut entries = [[0u64; 2]; ENTRIES];
     let fault = each_tree_fault(image, row, &mut entries[..]);
     let live = live_fault(image.slots(), &mut entries[..]);
     earlier(live, fault)

@@ -28,7 +28,13 @@ use validity::valid_measures;
 fn count_reported(slots: &[Row], query: &Row) -> usize
     ensures { result ≡ reported_in (may_report query.now) slots.now }
 {
-    slots.iter().filter(|row| may_report(query, **row)).count()
+    let mut found: usize = 0;
+    for row in slots {
+        if may_report(query, *row) {
+            found += 1;
+        }
+    }
+    found
 }
 
 // How many slots of all buckets it may report.
