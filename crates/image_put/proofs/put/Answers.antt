@@ -39,4 +39,4 @@ returns g c =
     let l = c.loop-i in
     let bytes = take g.row.W c.to_le_bytes.result in
     l.invariant
-    ∙ ap (sets c.args.image.now c.args.at) (take_all l.i bytes (omega (arith, c.loop-i-test.false)) ∙ lowest c.args.n g.row.W c.to_le_bytes.result c.to_le_bytes.ensures c.requires.0)
+    ∙ ap (sets c.args.image.now c.args.at) (take_all l.i bytes (omega (arith, c.loop-i-test.false)) ∙ lowest _ g.row.W c.to_le_bytes.result c.to_le_bytes.ensures c.requires.0 ∙ ap (bytes_of g.row.W) (omega arith))
