@@ -6,12 +6,11 @@ use Rattle.std.proofs.lemmas.Iterator.Consumers.{sum_by_from_yields_List}
 use Rattle.std.proofs.lemmas.List.Sums.{sum_by-cons}
 use Rattle.std.specs.List.{sum_by}
 use Prim.Native.Nat.{ℕ, ◌+◌, ◌<◌}
-use mathlib.Core.Path.{◌≡◌, refl, sym, ap, ◌∙◌}
+use mathlib.Core.Path.{◌≡◌, refl, sym, ap, ap₂, ◌∙◌}
 use mathlib.Core.List.{List, [], ◌∷◌}
-use lib.ListN.{length, get_or, set, take, length-take}
-use lib.Seq.{sets, take-suc, take_all}
-use native.Mathlib.Numerals.{add-one}
-use Rattle.tree_rules.proofs.Stores.{sets_more}
+use lib.ListN.{length, get_or, set}
+use lib.Seq.{paste}
+use Rattle.std.proofs.lemmas.List.Edits.{sets-eq, paste_none, paste_more, paste_all}
 use Rattle.lists.specs.Lists.{total}
 use Rattle.table_dues.proofs.pay.Goals as goal
 
@@ -31,22 +30,25 @@ returns-clause-sum c =
     (YieldsList-from_map _ (λ n. n) (YieldsList-from_slice c.args.held.now cc) c.map.ensures.closure (λ x r q k. search rules))
     ∙ summed c.args.held.now
 
--- one number more is written behind those before
-one_more : (dues before held : List ℕ) (i n : ℕ) → i < length held → n ≡ get_or held i 0 → before ≡ sets dues 0 (take i held) → set before i n ≡ sets dues 0 (take (i + 1) held)
-one_more dues before held i n h e was =
-    let count : length (take i held) ≡ i = omega (arith, length-take i held) in
-    rw (was, e) (sets_more dues 0 i (take i held) (get_or held i 0 ∷ []) (omega arith))
-    ∙ ap (sets dues 0) (sym (ap (λ (k : ℕ). take k held) (add-one i) ∙ take-suc held i 0 h))
-
 pub loop-i-init : goal.loop-i-init
-loop-i-init c = refl
+loop-i-init c = paste_none c.args.dues.now 0 c.args.held.now
 
 pub loop-i-preserved : goal.loop-i-preserved
 loop-i-preserved c =
     let l = c.loop-i in
-    one_more c.args.dues.now l.dues c.args.held.now l.i (get_or c.args.held.now l.i 0) (omega arith) refl l.invariant
+    let held = c.args.held.now in
+    let here : l.i < length held = omega arith in
+    let inside : 0 + l.i < length c.args.dues.now = omega (arith, here, c.requires.room) in
+    let place : 0 + l.i ≡ l.i = omega arith in
+    ap₂ (λ (dues : List ℕ) (i : ℕ). set dues i (get_or held l.i 0)) l.invariant (sym place) ∙ paste_more c.args.dues.now 0 held l.i 0 inside here
 
 pub returns-clause-area : goal.returns-clause-area
 returns-clause-area c =
     let l = c.loop-i in
-    l.invariant ∙ ap (sets c.args.dues.now 0) (take_all l.i c.args.held.now (omega arith))
+    let held = c.args.held.now in
+    let dues = c.args.dues.now in
+    let all : l.i ≡ length held = omega arith in
+    l.invariant
+    ∙ ap (paste dues 0 held) all
+    ∙ paste_all dues 0 held (length held) refl
+    ∙ sym (sets-eq held dues 0 (omega (arith, c.requires.room)))
