@@ -28,8 +28,8 @@ fn unite(buckets: &mut Buckets, k: u32, other: u32, target: u32, work: &mut [Row
     ensures counted { result ≡ (united buckets.old.rows.now (k ∷ other ∷ []) target).distances }
 {
     let mut gathered = Gathered { work, n: 0 };
-    buckets.gather(k, &mut gathered);
-    buckets.gather(other, &mut gathered);
+    buckets.gather_fitting(k, &mut gathered);
+    buckets.gather_fitting(other, &mut gathered);
     buckets.empty(k);
     buckets.empty(other);
     build_bucket(buckets, target, gathered)
@@ -47,7 +47,7 @@ fn move_down(buckets: &mut Buckets, k: u32, target: u32, work: &mut [Row]) -> u3
     ensures counted { result ≡ (moved buckets.old.rows.now k target).distances }
 {
     let mut moving = Gathered { work, n: 0 };
-    buckets.gather(k, &mut moving);
+    buckets.gather_fitting(k, &mut moving);
     buckets.empty(k);
     build_bucket(buckets, target, moving)
 }

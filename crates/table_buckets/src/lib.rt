@@ -97,8 +97,25 @@ impl<'a> Buckets<'a> {
         put_sizes(table, k, 0, 0);
     }
 
-    // The live items of bucket k, in slot order, behind the rows gathered before.
+    // The live items of bucket k, in slot order, behind the rows gathered before. Whatever its built size says, its
+    // built slots go no further than the table. The calls know more of them, and go by the next.
+    #[tactic(auto, using(crate::proofs::Places::room_inside))]
     pub fn gather(&self, k: u32, gathered: &mut Gathered)
+        requires { (k ≤ self.now.order.t)
+            × (gathered.old.n + length (live_slots self.now.rows.now k) ≤ length gathered.old.work.now) }
+        ensures same_area { gathered.new.work.ghost_name ≡ gathered.old.work.ghost_name }
+        ensures n { gathered.new.n ≡ gathered.old.n + length (live_slots self.now.rows.now k) }
+        ensures work { gathered.new.work.now
+            ≡ sets gathered.old.work.now gathered.old.n (live_slots self.now.rows.now k) }
+    {
+        let first = self.order.first_slot(k);
+        let end = first + built_of(self.rows, k) as usize;
+        gather_live(gathered, &self.rows[first..end.min(self.rows.len())])
+    }
+
+    // The same where the built slots are known to lie in the bucket's room: nothing is compared.
+    #[tactic(auto, using(crate::proofs::Places::room_inside))]
+    pub fn gather_fitting(&self, k: u32, gathered: &mut Gathered)
         requires { (k ≤ self.now.order.t) × (built_of self.now.rows.now k ≤ room k)
             × (gathered.old.n + length (live_slots self.now.rows.now k) ≤ length gathered.old.work.now) }
         ensures same_area { gathered.new.work.ghost_name ≡ gathered.old.work.ghost_name }
@@ -109,5 +126,39 @@ impl<'a> Buckets<'a> {
         let first = self.order.first_slot(k);
         let end = first + built_of(self.rows, k) as usize;
         gather_live(gathered, &self.rows[first..end])
+    }
+}
+
+#[cfg(test)]
+mod tests {
+    use super::*;
+
+    // In a table of order 1 bucket 0 says that it was built of two slots, where it has room for one, and bucket 1 of
+    // nine, where the table has two more. The slots are numbered, and all live.
+    #[test]
+    fn gathers_as_far_as_the_table_goes(rt: HostRuntime) {
+        let mut table = [[0u32; ROW_WIDTH]; 6];
+        table[0][0] = 1;
+        table[1][BUILT_AT] = 2;
+        table[2][BUILT_AT] = 9;
+        table[3][0] = 3;
+        table[4][0] = 4;
+        table[5][0] = 5;
+        let mut work = [[0u32; ROW_WIDTH]; 4];
+        let buckets = Buckets {
+            rows: &mut table[..],
+            order: Order { t: 1 },
+        };
+        let mut gathered = Gathered {
+            work: &mut work[..],
+            n: 0,
+        };
+        buckets.gather(0, &mut gathered);
+        buckets.gather(1, &mut gathered);
+        assert_eq!(rt; gathered.n, 4);
+        assert_eq!(rt;
+            [work[0][0], work[1][0], work[2][0], work[3][0]],
+            [3, 4, 4, 5]
+        );
     }
 }

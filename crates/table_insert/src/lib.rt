@@ -44,7 +44,7 @@ fn gather_below(buckets: &Buckets, k: u32, gathered: &mut Gathered)
         ≡ sets gathered.old.work.now gathered.old.n (live_items buckets.now.rows.now (count_from 0 k)) }
 {
     for i in 0..k {
-        buckets.gather(i, gathered);
+        buckets.gather_fitting(i, gathered);
     }
 }
 

@@ -24,16 +24,16 @@ fit c =
       roomy = c.requires.4;
     }
 
-pub gather-requires : goal.gather-requires
-gather-requires c = (
+pub gather_fitting-requires : goal.gather_fitting-requires
+gather_fitting-requires c = (
   c.requires.1,
   c.requires.0.built c.args.k c.requires.1,
-  omega (arith, few (fit (goal.at.gather-requires c).Start), ap length (items_one c.args.buckets.now.rows.now c.args.k), c.requires.4),
+  omega (arith, few (fit (goal.at.gather_fitting-requires c).Start), ap length (items_one c.args.buckets.now.rows.now c.args.k), c.requires.4),
 )
 
 pub build_bucket-requires : goal.build_bucket-requires
 build_bucket-requires c =
-    let g = c.gather in
+    let g = c.gather_fitting in
     let made = one_gathered c.args.buckets.now.rows.now c.args.k c.args.work.now g.new.gathered.n g.new.gathered.work.now g.ensures.n g.ensures.work in
     let room : length g.new.gathered.work.now ≡ length c.args.work.now =
     ap length g.ensures.work ∙ length-sets c.args.work.now 0 (live_slots c.args.buckets.now.rows.now c.args.k) in (
@@ -45,7 +45,7 @@ build_bucket-requires c =
 pub returns : goal.returns
 unfolding moved emptied
 returns c =
-    let g = c.gather in
+    let g = c.gather_fitting in
     let b = c.build_bucket.ensures in
     let f = fit (goal.at.returns c).Start in
     let made = one_gathered c.args.buckets.now.rows.now c.args.k c.args.work.now g.new.gathered.n g.new.gathered.work.now g.ensures.n g.ensures.work in

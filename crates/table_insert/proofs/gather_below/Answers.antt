@@ -17,8 +17,8 @@ pub loop-i-init : goal.loop-i-init
 unfolding live_items flatten count_from
 loop-i-init c = (omega arith, refl, refl)
 
-pub gather-requires : goal.gather-requires
-gather-requires c =
+pub gather_fitting-requires : goal.gather_fitting-requires
+gather_fitting-requires c =
     let l = c.loop-i in
     let before = c.args.gathered.now in
     let t : List Row = c.args.buckets.now.rows.now in
@@ -30,7 +30,7 @@ gather-requires c =
 pub loop-i-preserved : goal.loop-i-preserved
 loop-i-preserved c =
     let l = c.loop-i in
-    let g = c.gather in
+    let g = c.gather_fitting in
     let before = c.args.gathered.now in
     let t : List Row = c.args.buckets.now.rows.now in
     let here : List Row = live_slots t l.i in

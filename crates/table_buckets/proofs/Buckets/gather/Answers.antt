@@ -7,39 +7,37 @@ use lib.ListN.{length, take, drop}
 use lib.Seq.{sets}
 use Rattle.lists.specs.Lists.{select}
 use Rattle.metric_rules.specs.Row.{Row, is_live}
-use Rattle.table_rules.specs.Table.{live_slots}
-use Rattle.table_buckets.proofs.Places.{sizes_inside, room_inside, lent_slots}
+use Rattle.table_rules.specs.Table.{slots_of, live_slots}
+use Rattle.table_buckets.proofs.Places.{sizes_inside, room_inside, lent_within}
 use Rattle.table_buckets.proofs.Buckets.gather.Goals as goal
+use Rattle.table_buckets.proofs.Buckets.gather.Goals.{After-min}
 
 pub built_of-requires : goal.built_of-requires
 built_of-requires c = sizes_inside c.args.self.now.of_order c.args.k c.requires.0
 
-pub overflow_add-end : goal.overflow_add-end
-overflow_add-end c = omega (arith, room_inside c.args.self.now.of_order c.args.k c.requires.0)
-
-pub offset_bounds-self-first : goal.offset_bounds-self-first
-offset_bounds-self-first c = omega (arith, room_inside c.args.self.now.of_order c.args.k c.requires.0)
-
-pub slice_bounds-gather_live-end : goal.slice_bounds-gather_live-end
-slice_bounds-gather_live-end c = omega (arith, room_inside c.args.self.now.of_order c.args.k c.requires.0)
+-- the slots that are lent are the built ones
+lent : (c : After-min) → let t = c.args.self.now.rows.now in
+    let first = c.first_slot-first.result in take (c.min.result - first) (drop first t) ≡ slots_of t c.args.k
+lent c =
+    let first = c.first_slot-first in
+    let built = c.built_of in
+    lent_within c.args.self.now.of_order c.args.k first.result built.result c.min.result first.ensures built.ensures
+    (omega (arith, c.min.ensures, room_inside c.args.self.now.of_order c.args.k c.requires.0))
 
 pub gather_live-requires : goal.gather_live-requires
 unfolding live_slots
 gather_live-requires c =
     let before = c.args.gathered.now in
     subst⁻¹ (λ (rows : List Row). before.n + length (select is_live rows) ≤ length before.work.now)
-    (lent_slots c.args.self.now.of_order c.args.k c.first_slot-first.result c.built_of.result c.first_slot-first.ensures c.built_of.ensures)
-    c.requires.2
+    (lent (goal.at.gather_live-requires c).After-min)
+    c.requires.1
 
 pub returns : goal.returns
 unfolding live_slots
 returns c =
     let before = c.args.gathered.now in
     let g = c.gather_live in
-    let f = c.first_slot-first in
-    let b = c.built_of in
-    let e : select is_live (take (f.result + b.result - f.result) (drop f.result c.args.self.now.rows.now)) ≡ live_slots c.args.self.now.rows.now c.args.k =
-    ap (select is_live) (lent_slots c.args.self.now.of_order c.args.k f.result b.result f.ensures b.ensures) in
+    let e = ap (select is_live) (lent (goal.at.returns c).After-min) in
     record {
       same_area = g.ensures.same_area;
       n = g.ensures.n ∙ ap (λ (l : List Row). before.n + length l) e;
