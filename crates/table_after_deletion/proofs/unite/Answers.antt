@@ -84,7 +84,8 @@ returns c =
     let b = c.build_bucket.ensures in
     let f = fit (goal.at.returns c).Start in
     let m = made (goal.at.returns c).After-gather_fitting-2 in
-    let cleared = b.work ∙ ap (λ (o : ℕ). cleared zero_row (work_rows o) c.gather_fitting-2.new.gathered.work.now) (same (goal.at.returns c).After-empty-2) ∙ work_cleared f m in
+    let work = c.gather_fitting-2.new.gathered.work.now in
+    let cleared = b.work ∙ ap (λ (o : ℕ). cleared zero_row (work_rows o) work) (same (goal.at.returns c).After-empty-2) ∙ work_cleared f m in
     record {
       same_area = b.same_area ∙ c.empty-2.ensures.same_area ∙ c.empty.ensures.same_area;
       rows = table-united f m (c.empty-2.ensures.rows ∙ ap (put_bucket c.args.other [] 0) c.empty.ensures.rows) b.rows;

@@ -1,12 +1,9 @@
 -- `table_buckets::Buckets::gather` meets its contract: the part that it lends to `gather_live` is the bucket's slots.
 use native.Mathlib.Omega.{arith}
-use Prim.Native.Nat.{◌+◌, ◌-◌, ◌≤◌}
-use mathlib.Core.Path.{◌≡◌, ◌∙◌, ap, subst⁻¹}
-use mathlib.Core.List.{List}
-use lib.ListN.{length, take, drop}
-use lib.Seq.{sets}
-use Rattle.lists.specs.Lists.{select}
-use Rattle.metric_rules.specs.Row.{Row, is_live}
+use Rattle.std.proofs.Common.{rules}
+use Prim.Native.Nat.{◌-◌}
+use mathlib.Core.Path.{◌≡◌}
+use lib.ListN.{take, drop}
 use Rattle.table_rules.specs.Table.{slots_of, live_slots}
 use Rattle.table_buckets.proofs.Places.{sizes_inside, room_inside, lent_within}
 use Rattle.table_buckets.proofs.Buckets.gather.Goals as goal
@@ -27,19 +24,11 @@ lent c =
 pub gather_live-requires : goal.gather_live-requires
 unfolding live_slots
 gather_live-requires c =
-    let before = c.args.gathered.now in
-    subst⁻¹ (λ (rows : List Row). before.n + length (select is_live rows) ≤ length before.work.now)
-    (lent (goal.at.gather_live-requires c).After-min)
-    c.requires.1
+    let built = lent (goal.at.gather_live-requires c).After-min in
+    search (rules, built)
 
 pub returns : goal.returns
 unfolding live_slots
 returns c =
-    let before = c.args.gathered.now in
-    let g = c.gather_live in
-    let e = ap (select is_live) (lent (goal.at.returns c).After-min) in
-    record {
-      same_area = g.ensures.same_area;
-      n = g.ensures.n ∙ ap (λ (l : List Row). before.n + length l) e;
-      work = g.ensures.work ∙ ap (sets before.work.now before.n) e;
-    }
+    let built = lent (goal.at.returns c).After-min in
+    search (rules, built)
